@@ -1,0 +1,31 @@
+-- The worked examples hold of the definitions, by computation.
+use mathlib.Core.Path.{refl}
+use Rattle.records.specs.Periods.{tries, bit}
+use Rattle.contract.specs.Expressions.{reading, readingTo, member, begins, splits, joins, holds}
+use Rattle.contract.specs.Clauses.{meaning, repeatMeaning}
+use Rattle.contract.specs.Examples.{WorkedExamples, StudentExamples, WatchExample}
+
+-- all of them
+pub examples : WorkedExamples × StudentExamples × WatchExample
+unfolding meaning repeatMeaning reading readingTo member begins splits joins holds tries bit
+examples = (
+  record {
+    duty-on-none = refl;
+    duty-by-both = refl;
+    duty-by-other = refl;
+    duty-by-nobody = refl;
+    duty-alone = refl;
+    power-alone = refl;
+    power-by-other = refl;
+    ban-by-both = refl;
+    both-blamed = refl;
+    both-once = refl;
+    repaired = refl;
+    repeated = refl;
+    when-rejected = refl;
+    until-accepted = refl;
+    until-violated = refl;
+  },
+  record { no-later-blame = refl; no-living-half = refl; right-starts-after = refl; violation-first = refl },
+  record { line1 = refl; line2 = refl; line3 = refl; line4 = refl; decided = refl },
+)

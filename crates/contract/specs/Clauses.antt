@@ -1,0 +1,145 @@
+-- Clauses, their decisions and blame, and what a clause means on a list of periods.
+-- Document 01, "Meaning of clauses".
+use Prim.Native.Nat.{ℕ, zero, suc, _+_, max}
+use mathlib.Core.Bool.{Bool, true, false, cond}
+use mathlib.Core.List.{List, [], _∷_}
+use lib.Dec.{leb, ltb}
+use lib.ListN.{length, drop}
+use Rattle.records.specs.Periods.{Party, party1, party2, other, Period, tries}
+use Rattle.contract.specs.Expressions.{Expression, Holds, Reading, pending, accepted, rejected, reading}
+
+-- kinds 1 to 3
+pub data Literal : Type 0 where
+  duty ban power : Literal
+
+-- kinds 1 to 9
+pub data Clause : Type 0 where
+  literal : Literal → Party → ℕ → Clause
+  both : Clause → Clause → Clause
+  then : Clause → Clause → Clause
+  repair : Clause → Clause → Clause
+  repeat : Clause → Clause
+  when : Expression → Clause → Clause
+  until : Clause → Expression → Clause
+
+-- the parties that a violation blames
+pub data Blame : Type 0 where
+  only : Party → Blame
+  bothParties : Blame
+
+-- the two blames united
+abbrev pub unite : Blame → Blame → Blame
+unite (only party1) (only party1) = only party1
+unite (only party1) (only party2) = bothParties
+unite (only party2) (only party1) = bothParties
+unite (only party2) (only party2) = only party2
+unite (only p) bothParties = bothParties
+unite bothParties b = bothParties
+
+-- "On a list of periods a clause is undecided, or satisfied or violated at one period k, counted from 1. A violation carries blame."
+pub data Decision : Type 0 where
+  undecided : Decision
+  satisfied : ℕ → Decision
+  violated : ℕ → Blame → Decision
+
+-- "Duty, ban and power decide at period 1." Whether p tries and whether q tries are the two tests.
+-- Duty: satisfied if both try; blame p if p doesn't try, otherwise q.
+-- Ban: violated if both try, blame p.
+-- Power: violated if p tries and q doesn't, blame q.
+abbrev pub literalDecision : Literal → Party → Bool → Bool → Decision
+literalDecision duty p true true = satisfied 1
+literalDecision duty p true false = violated 1 (only (other p))
+literalDecision duty p false q = violated 1 (only p)
+literalDecision ban p true true = violated 1 (only p)
+literalDecision ban p true false = satisfied 1
+literalDecision ban p false q = satisfied 1
+literalDecision power p true true = satisfied 1
+literalDecision power p true false = violated 1 (only (other p))
+literalDecision power p false q = satisfied 1
+
+abbrev pub literalMeaning : Literal → Party → ℕ → List Period → Decision
+literalMeaning l p a [] = undecided
+literalMeaning l p a (x ∷ w) = literalDecision l p (tries x p a) (tries x (other p) a)
+
+-- the earlier of two violations, with that one's blame; the two blames are united if they fall in the same period
+abbrev pub earlier : ℕ → Blame → ℕ → Blame → Decision
+earlier j b k c = cond (ltb j k) (violated j b) (cond (ltb k j) (violated k c) (violated j (unite b c)))
+
+-- Both: violated at the earlier violation; otherwise satisfied when the later half is satisfied.
+abbrev pub bothMeaning : Decision → Decision → Decision
+bothMeaning undecided undecided = undecided
+bothMeaning undecided (satisfied k) = undecided
+bothMeaning undecided (violated k c) = violated k c
+bothMeaning (satisfied j) undecided = undecided
+bothMeaning (satisfied j) (satisfied k) = satisfied (max j k)
+bothMeaning (satisfied j) (violated k c) = violated k c
+bothMeaning (violated j b) undecided = violated j b
+bothMeaning (violated j b) (satisfied k) = violated j b
+bothMeaning (violated j b) (violated k c) = earlier j b k c
+
+-- a decision of what reads from period n + 1, in periods of the whole
+abbrev pub later : ℕ → Decision → Decision
+later n undecided = undecided
+later n (satisfied k) = satisfied (n + k)
+later n (violated k b) = violated (n + k) b
+
+-- what a meaning gives when it reads from period k + 1 of a list
+abbrev pub after : (List Period → Decision) → List Period → ℕ → Decision
+after m w k = later k (m (drop k w))
+
+-- Then: when the left is satisfied at k, the right reads from period k + 1; a left violation is the violation of the whole.
+abbrev pub thenMeaning : Decision → (ℕ → Decision) → Decision
+thenMeaning undecided right = undecided
+thenMeaning (satisfied k) right = right k
+thenMeaning (violated k b) right = violated k b
+
+-- Repair: when the left is violated at k, the right reads from k + 1 and its blame alone counts; a left satisfaction satisfies the whole.
+abbrev pub repairMeaning : Decision → (ℕ → Decision) → Decision
+repairMeaning undecided right = undecided
+repairMeaning (satisfied k) right = satisfied k
+repairMeaning (violated k b) right = right k
+
+-- Repeat: each satisfaction at k begins the clause anew at k + 1; never satisfied; its first violation is the whole's.
+-- At most n times begun anew, which is never too few where n is the number of periods.
+unfoldable pub repeatMeaning : (List Period → Decision) → ℕ → List Period → Decision
+repeatMeaning m zero w = undecided
+repeatMeaning m (suc n) w = thenMeaning (m w) (after (repeatMeaning m n) w)
+
+-- When: expression accepted at k, the clause reads from k + 1; rejected at k, satisfied at k.
+abbrev pub whenMeaning : Reading → (ℕ → Decision) → Decision
+whenMeaning pending clause = undecided
+whenMeaning (accepted k) clause = clause k
+whenMeaning (rejected k) clause = satisfied k
+
+-- the decision if it comes no later than period k, otherwise satisfied at k
+abbrev pub noLater : ℕ → Decision → Decision
+noLater k undecided = satisfied k
+noLater k (satisfied j) = cond (leb j k) (satisfied j) (satisfied k)
+noLater k (violated j b) = cond (leb j k) (violated j b) (satisfied k)
+
+-- Until: the clause's own decision if it comes no later than acceptance; otherwise satisfied at acceptance.
+-- A rejected expression leaves the clause alone to decide.
+abbrev pub untilMeaning : Decision → Reading → Decision
+untilMeaning d pending = d
+untilMeaning d (accepted k) = noLater k d
+untilMeaning d (rejected k) = d
+
+-- what a clause means on a list of periods
+unfoldable pub meaning : Clause → List Period → Decision
+meaning (literal l p a) w = literalMeaning l p a w
+meaning (both l r) w = bothMeaning (meaning l w) (meaning r w)
+meaning (then l r) w = thenMeaning (meaning l w) (after (meaning r) w)
+meaning (repair l r) w = repairMeaning (meaning l w) (after (meaning r) w)
+meaning (repeat c) w = repeatMeaning (meaning c) (length w) w
+meaning (when e c) w = whenMeaning (reading e w) (after (meaning c) w)
+meaning (until c e) w = untilMeaning (meaning c w) (reading e w)
+
+-- "An expression under `when` or `until` must not hold the empty list." (Document 01, "Expressions")
+unfoldable pub Guarded : Clause → Type 0
+Guarded (literal l p a) = Unit {0}
+Guarded (both l r) = Guarded l × Guarded r
+Guarded (then l r) = Guarded l × Guarded r
+Guarded (repair l r) = Guarded l × Guarded r
+Guarded (repeat c) = Guarded c
+Guarded (when e c) = (¬ Holds e []) × Guarded c
+Guarded (until c e) = Guarded c × (¬ Holds e [])

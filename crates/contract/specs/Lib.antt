@@ -1,0 +1,5 @@
+-- Document 01's contracts: "Expressions", "Meaning of clauses", "Contracts and examples".
+pub mod Expressions
+pub mod Clauses
+pub mod Verdicts
+pub mod Examples

@@ -1,0 +1,62 @@
+-- The verdicts after some periods, and what else is reported of a decision. Document 01, "Meaning of clauses", from "Verdicts after n periods".
+use Prim.Native.Nat.{ℕ, _≤_, _<_}
+use mathlib.Core.Bool.{cond}
+use mathlib.Core.List.{List, []}
+use mathlib.Core.Logic.{_⊎_}
+use mathlib.Core.Path.{_≡_}
+use Prim.Native.String.{String}
+use lib.Dec.{ltb}
+use lib.ListN.{length, take}
+use Rattle.records.specs.Periods.{number, Period}
+use Rattle.contract.specs.Clauses.{Clause, Blame, only, bothParties, Decision, undecided, satisfied, violated, meaning}
+
+-- the decision period, 0 while undecided
+abbrev pub period : Decision → ℕ
+period undecided = 0
+period (satisfied k) = k
+period (violated k b) = k
+
+-- "blame: 1, 2, or 3 for both parties"
+abbrev pub blameNumber : Blame → ℕ
+blameNumber (only p) = number p
+blameNumber bothParties = 3
+
+-- blame is 0 unless the clause is violated
+abbrev pub blame : Decision → ℕ
+blame undecided = 0
+blame (satisfied k) = 0
+blame (violated k b) = blameNumber b
+
+-- 002's five values
+pub data Verdict : Type 0 where
+  «open» met broken met-after broken-after : Verdict
+
+-- after n periods: open while undecided; met or broken when n is the decision period; met-after or broken-after later
+abbrev pub verdict : Decision → ℕ → Verdict
+verdict undecided n = «open»
+verdict (satisfied k) n = cond (ltb n k) «open» (cond (ltb k n) met-after met)
+verdict (violated k b) n = cond (ltb n k) «open» (cond (ltb k n) broken-after broken)
+
+abbrev pub verdictNumber : Verdict → ℕ
+verdictNumber «open» = 0
+verdictNumber met = 1
+verdictNumber broken = 2
+verdictNumber met-after = 3
+verdictNumber broken-after = 4
+
+abbrev pub verdictName : Verdict → String
+verdictName «open» = "open"
+verdictName met = "met"
+verdictName broken = "broken"
+verdictName met-after = "met-after"
+verdictName broken-after = "broken-after"
+
+-- A clause decides a list at one period or at none: there is a decision such that each beginning of the list is open if it is
+-- shorter than the deciding period, and otherwise has exactly that decision. So a decision stands on every longer list.
+pub record DecidesOnce (c : Clause) (w : List Period) : Type 0 where
+  pub decision : Decision
+  pub nothing-yet : meaning c [] ≡ undecided
+  pub bounds : (decision ≡ undecided) ⊎ ((1 ≤ period decision) × (period decision ≤ length w))
+  pub open-before : (n : ℕ) → n < period decision → meaning c (take n w) ≡ undecided
+  pub same-from : (n : ℕ) → period decision ≤ n → meaning c (take n w) ≡ decision
+  pub verdicts : (n : ℕ) → verdict (meaning c (take n w)) n ≡ verdict decision n

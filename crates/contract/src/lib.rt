@@ -1,0 +1,1 @@
+// Contracts: expressions, clauses and their meaning. Definitions and laws only.

@@ -1,0 +1,28 @@
+-- Fields of several bytes. Document 01, "Records": "Two- and four-byte fields have the low byte first."
+use Prim.Native.Nat.{ℕ, zero, suc, _+_, _*_, _/_, _%_, _^_, _<_}
+use mathlib.Core.Path.{_≡_}
+use mathlib.Core.List.{List, [], _∷_}
+use lib.ListN.{take, drop, getD}
+
+-- every element is a byte
+pub record AllBytes (l : List ℕ) : Type 0 where
+  pub below : (i : ℕ) → getD l i 0 < 256
+
+-- the number that bytes spell, low byte first
+unfoldable pub value : List ℕ → ℕ
+value [] = 0
+value (b ∷ bs) = b + 256 * value bs
+
+-- the bytes of a field of the given width that holds a number, low byte first
+unfoldable pub bytes : ℕ → ℕ → List ℕ
+bytes zero n = []
+bytes (suc w) n = n % 256 ∷ bytes w (n / 256)
+
+-- the number in the field of w bytes at a place
+unfoldable pub field : List ℕ → ℕ → ℕ → ℕ
+field l at w = value (take w (drop at l))
+
+-- r is the number in the field of w bytes at a place, and has no more bytes
+pub record HoldsField (l : List ℕ) (at w r : ℕ) : Type 0 where
+  pub is : r ≡ field l at w
+  pub small : r < 256 ^ w

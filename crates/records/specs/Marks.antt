@@ -1,0 +1,26 @@
+-- The marks of the records. Document 01, "Records": "Every record starts with a two-byte mark";
+-- the row's and the end record's are those of "Image and row machine".
+use Prim.Native.Nat.{ℕ, _+_}
+use mathlib.Core.Bool.{Bool, _&&_}
+use mathlib.Core.List.{List, [], _∷_}
+use lib.Dec.{eqb}
+use lib.ListN.{getD}
+
+abbrev pub contractMark : List ℕ
+contractMark = 0x54 ∷ 0x43 ∷ []
+
+abbrev pub periodMark : List ℕ
+periodMark = 0x54 ∷ 0x50 ∷ []
+
+abbrev pub rowMark : List ℕ
+rowMark = 0x54 ∷ 0x52 ∷ []
+
+abbrev pub endMark : List ℕ
+endMark = 0x54 ∷ 0x45 ∷ []
+
+abbrev pub marks : List (List ℕ)
+marks = contractMark ∷ periodMark ∷ rowMark ∷ endMark ∷ []
+
+-- the record at a place starts with this mark
+unfoldable pub marked : List ℕ → ℕ → List ℕ → Bool
+marked l at mark = eqb (getD l at 0) (getD mark 0 0) && eqb (getD l (at + 1) 0) (getD mark 1 0)
