@@ -193,11 +193,11 @@ by-violations n j k b c (together l) (inr p) q =
     rw (le-ltb n j p, le-ltb n k (omega arith), le-ltb j k (omega arith), le-ltb k j (omega arith))
 
 by-satisfactions : (n j k : ℕ) → (n < j) ⊎ (j ≤ n) → (n < k) ⊎ (k ≤ n)
-    → bothMeaning (decidedBy n (satisfied j)) (decidedBy n (satisfied k)) ≡ decidedBy n (satisfied (max j k))
-by-satisfactions n j k (inl p) (inl q) = rw (lt-ltb n j p, lt-ltb n k q, lt-ltb n (max j k) (omega arith))
-by-satisfactions n j k (inl p) (inr q) = rw (lt-ltb n j p, le-ltb n k q, lt-ltb n (max j k) (omega arith))
-by-satisfactions n j k (inr p) (inl q) = rw (le-ltb n j p, lt-ltb n k q, lt-ltb n (max j k) (omega arith))
-by-satisfactions n j k (inr p) (inr q) = rw (le-ltb n j p, le-ltb n k q, le-ltb n (max j k) (omega arith))
+    → bothMeaning (decidedBy n (satisfied j)) (decidedBy n (satisfied k)) ≡ decidedBy n (bothMeaning (satisfied j) (satisfied k))
+by-satisfactions n j k (inl p) (inl q) = rw (lt-ltb n j p, lt-ltb n k q) (sym (not-yet n (bothMeaning (satisfied j) (satisfied k)) (omega arith)))
+by-satisfactions n j k (inl p) (inr q) = rw (lt-ltb n j p, le-ltb n k q) (sym (not-yet n (bothMeaning (satisfied j) (satisfied k)) (omega arith)))
+by-satisfactions n j k (inr p) (inl q) = rw (le-ltb n j p, lt-ltb n k q) (sym (not-yet n (bothMeaning (satisfied j) (satisfied k)) (omega arith)))
+by-satisfactions n j k (inr p) (inr q) = rw (le-ltb n j p, le-ltb n k q) (sym (by-now n (bothMeaning (satisfied j) (satisfied k)) (omega arith)))
 
 -- beside a violation a satisfied half says nothing, whether its test has passed or not
 by-left : (t u : Bool) (j k : ℕ) (b : Blame)
