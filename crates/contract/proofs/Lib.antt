@@ -1,5 +1,5 @@
--- The laws of the definitions in specs/, for this crate and the crates above it.
-pub mod Tests
+-- The laws of the definitions in specs/, module by module, for this crate and the crates above it.
+pub mod Expressions
 pub mod Readings
-pub mod Meaning
-pub mod Examples
+pub mod Clauses
+pub mod Verdicts

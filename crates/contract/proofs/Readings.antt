@@ -13,9 +13,9 @@ use lib.ListN.{length, take, drop, take-append-drop}
 use lib.Seq.{take-take, take-all, length-take-le}
 use Rattle.records.specs.Periods.{Period}
 use Rattle.records.proofs.Numbers.{lt-or-le}
-use Rattle.contract.specs.Expressions.{Expression, Holds, Dead, AcceptedAt, RejectedAt, member, begins}
-use Rattle.contract.specs.Expressions.{Reading, pending, accepted, rejected, judged, first, readingTo, reading}
-use Rattle.contract.proofs.Tests.{member-iff, begins-iff}
+use Rattle.contract.specs.Expressions.{Expression, Holds, member, begins}
+use Rattle.contract.specs.Readings.{Dead, AcceptedAt, RejectedAt, Reading, pending, accepted, rejected, judged, first, readingTo, reading}
+use Rattle.contract.proofs.Expressions.{member-iff, begins-iff}
 
 -- the first j periods show nothing by themselves
 record Silent (e : Expression) (w : List Period) (j : ℕ) : Type 0 where

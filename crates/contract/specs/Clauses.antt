@@ -6,7 +6,8 @@ use mathlib.Core.List.{List, [], _∷_}
 use lib.Dec.{leb, ltb}
 use lib.ListN.{length, drop}
 use Rattle.records.specs.Periods.{Party, party1, party2, other, Period, tries}
-use Rattle.contract.specs.Expressions.{Expression, Holds, Reading, pending, accepted, rejected, reading}
+use Rattle.contract.specs.Expressions.{Expression, Holds}
+use Rattle.contract.specs.Readings.{Reading, pending, accepted, rejected, reading}
 
 -- kinds 1 to 3
 pub data Literal : Type 0 where
@@ -57,6 +58,7 @@ literalDecision power p true true = satisfied 1
 literalDecision power p true false = violated 1 (only (other p))
 literalDecision power p false q = satisfied 1
 
+-- a literal looks at the first period
 abbrev pub literalMeaning : Literal → Party → ℕ → List Period → Decision
 literalMeaning l p a [] = undecided
 literalMeaning l p a (x ∷ w) = literalDecision l p (tries x p a) (tries x (other p) a)
@@ -100,7 +102,7 @@ repairMeaning (satisfied k) right = satisfied k
 repairMeaning (violated k b) right = right k
 
 -- Repeat: each satisfaction at k begins the clause anew at k + 1; never satisfied; its first violation is the whole's.
--- At most n times begun anew, which is never too few where n is the number of periods.
+-- Begun at most n times: never too few where n is the number of periods, since a satisfaction takes at least one.
 unfoldable pub repeatMeaning : (List Period → Decision) → ℕ → List Period → Decision
 repeatMeaning m zero w = undecided
 repeatMeaning m (suc n) w = thenMeaning (m w) (after (repeatMeaning m n) w)
@@ -135,11 +137,11 @@ meaning (when e c) w = whenMeaning (reading e w) (after (meaning c) w)
 meaning (until c e) w = untilMeaning (meaning c w) (reading e w)
 
 -- "An expression under `when` or `until` must not hold the empty list." (Document 01, "Expressions")
-unfoldable pub Guarded : Clause → Type 0
-Guarded (literal l p a) = Unit {0}
-Guarded (both l r) = Guarded l × Guarded r
-Guarded (then l r) = Guarded l × Guarded r
-Guarded (repair l r) = Guarded l × Guarded r
-Guarded (repeat c) = Guarded c
-Guarded (when e c) = (¬ Holds e []) × Guarded c
-Guarded (until c e) = Guarded c × (¬ Holds e [])
+unfoldable pub EmptyFree : Clause → Type 0
+EmptyFree (literal l p a) = Unit {0}
+EmptyFree (both l r) = EmptyFree l × EmptyFree r
+EmptyFree (then l r) = EmptyFree l × EmptyFree r
+EmptyFree (repair l r) = EmptyFree l × EmptyFree r
+EmptyFree (repeat c) = EmptyFree c
+EmptyFree (when e c) = (¬ Holds e []) × EmptyFree c
+EmptyFree (until c e) = EmptyFree c × (¬ Holds e [])

@@ -1,14 +1,17 @@
 -- The worked examples. Document 01, "Contracts and examples", "What students hand in" and "Watch".
 use Prim.Native.Nat.{ℕ}
 use Prim.Native.String.{String}
+use mathlib.Core.Bool.{false}
 use mathlib.Core.List.{List, [], _∷_}
-use mathlib.Core.Path.{_≡_}
+use mathlib.Core.Path.{_≡_, refl}
 use lib.ListN.{take}
-use Rattle.records.specs.Periods.{Party, party1, party2, Period}
-use Rattle.contract.specs.Expressions.{Expression, any, tries, atom, seq, star}
+use Rattle.records.specs.Periods
+use Rattle.records.specs.Periods.{Party, party1, party2, Period, bit}
+use Rattle.contract.specs.Expressions.{any, tries, atom, seq, star, holds, splits, joins, member, begins, holdsEmpty}
+use Rattle.contract.specs.Readings.{readingTo, reading}
 use Rattle.contract.specs.Clauses.{Literal, Clause, literal, both, then, repair, repeat, when, until}
-use Rattle.contract.specs.Clauses.{only, bothParties, Decision, undecided, satisfied, violated, meaning}
-use Rattle.contract.specs.Verdicts.{verdict, verdictNumber, verdictName, blame, period}
+use Rattle.contract.specs.Clauses.{only, bothParties, undecided, satisfied, violated, repeatMeaning, meaning}
+use Rattle.contract.specs.Verdicts.{verdict, verdictNumber, verdictName, blame, decisionPeriod}
 
 -- "a, b are actions 0, 1"
 abbrev pub a : ℕ
@@ -17,6 +20,7 @@ a = 0
 abbrev pub b : ℕ
 b = 1
 
+-- kinds 1 to 3 by name
 abbrev pub duty : Party → ℕ → Clause
 duty p n = literal Literal.duty p n
 
@@ -25,9 +29,6 @@ ban p n = literal Literal.ban p n
 
 abbrev pub power : Party → ℕ → Clause
 power p n = literal Literal.power p n
-
-abbrev pub tried : Party → ℕ → Expression
-tried p n = atom (tries p n)
 
 -- what a party tries in one period: nothing, one action, or a and b
 abbrev pub nothing : ℕ
@@ -43,57 +44,81 @@ abbrev pub a-and-b : ℕ
 a-and-b = 3
 
 -- one period, party 1's attempts first
-abbrev pub in-one : ℕ → ℕ → Period
-in-one m n = record { attempts1 = m; attempts2 = n }
+abbrev pub one-period : ℕ → ℕ → Period
+one-period m n = record { attempts1 = m; attempts2 = n }
 
 -- document 01's examples, in its order
 pub record WorkedExamples : Type 0 where
   pub duty-on-none : meaning (duty party1 a) [] ≡ undecided
-  pub duty-by-both : meaning (duty party1 a) (in-one just-a just-a ∷ []) ≡ satisfied 1
-  pub duty-by-other : meaning (duty party1 a) (in-one nothing just-a ∷ []) ≡ violated 1 (only party1)
-  pub duty-by-nobody : meaning (duty party1 a) (in-one nothing nothing ∷ []) ≡ violated 1 (only party1)
-  pub duty-alone : meaning (duty party1 a) (in-one just-a nothing ∷ []) ≡ violated 1 (only party2)
-  pub power-alone : meaning (power party1 a) (in-one just-a nothing ∷ []) ≡ violated 1 (only party2)
-  pub power-by-other : meaning (power party1 a) (in-one nothing just-a ∷ []) ≡ satisfied 1
-  pub ban-by-both : meaning (ban party1 a) (in-one just-a just-a ∷ []) ≡ violated 1 (only party1)
-  pub both-blamed : meaning (both (power party1 a) (duty party1 b)) (in-one just-a nothing ∷ []) ≡ violated 1 bothParties
+  pub duty-by-both : meaning (duty party1 a) (one-period just-a just-a ∷ []) ≡ satisfied 1
+  pub duty-by-other : meaning (duty party1 a) (one-period nothing just-a ∷ []) ≡ violated 1 (only party1)
+  pub duty-by-nobody : meaning (duty party1 a) (one-period nothing nothing ∷ []) ≡ violated 1 (only party1)
+  pub duty-alone : meaning (duty party1 a) (one-period just-a nothing ∷ []) ≡ violated 1 (only party2)
+  pub power-alone : meaning (power party1 a) (one-period just-a nothing ∷ []) ≡ violated 1 (only party2)
+  pub power-by-other : meaning (power party1 a) (one-period nothing just-a ∷ []) ≡ satisfied 1
+  pub ban-by-both : meaning (ban party1 a) (one-period just-a just-a ∷ []) ≡ violated 1 (only party1)
+  pub both-blamed : meaning (both (power party1 a) (duty party1 b)) (one-period just-a nothing ∷ []) ≡ violated 1 bothParties
   pub both-once :
-      meaning (both (duty party1 a) (then (power party1 b) (duty party2 b))) (in-one nothing just-a ∷ in-one nothing nothing ∷ [])
+      meaning (both (duty party1 a) (then (power party1 b) (duty party2 b))) (one-period nothing just-a ∷ one-period nothing nothing ∷ [])
       ≡ violated 1 (only party1)
-  pub repaired : meaning (repair (duty party1 a) (duty party1 b)) (in-one nothing nothing ∷ in-one just-b just-b ∷ []) ≡ satisfied 2
-  pub repeated : meaning (repeat (duty party1 a)) (in-one just-a just-a ∷ []) ≡ undecided
-  pub when-rejected : meaning (when (tried party1 b) (duty party2 a)) (in-one nothing nothing ∷ []) ≡ satisfied 1
+  pub repaired : meaning (repair (duty party1 a) (duty party1 b)) (one-period nothing nothing ∷ one-period just-b just-b ∷ []) ≡ satisfied 2
+  pub repeated : meaning (repeat (duty party1 a)) (one-period just-a just-a ∷ []) ≡ undecided
+  pub when-rejected : meaning (when (atom (tries party1 b)) (duty party2 a)) (one-period nothing nothing ∷ []) ≡ satisfied 1
   pub until-accepted :
-      meaning (until (repeat (duty party1 a)) (seq (star (atom any)) (tried party1 b)))
-      (in-one just-a just-a ∷ in-one a-and-b just-a ∷ [])
+      meaning (until (repeat (duty party1 a)) (seq (star (atom any)) (atom (tries party1 b))))
+      (one-period just-a just-a ∷ one-period a-and-b just-a ∷ [])
       ≡ satisfied 2
   pub until-violated :
-      meaning (until (repeat (duty party1 a)) (seq (star (atom any)) (tried party1 b)))
-      (in-one just-a just-a ∷ in-one just-b just-a ∷ [])
+      meaning (until (repeat (duty party1 a)) (seq (star (atom any)) (atom (tries party1 b))))
+      (one-period just-a just-a ∷ one-period just-b just-a ∷ [])
       ≡ violated 2 (only party1)
 
 -- one for each point of "What students hand in"; each comes out differently under the student's reading
 pub record StudentExamples : Type 0 where
   -- party 2's later breach in the other half adds no blame
   pub no-later-blame :
-      meaning (both (duty party1 a) (then (ban party2 b) (duty party2 b))) (in-one nothing just-a ∷ in-one just-b nothing ∷ [])
+      meaning (both (duty party1 a) (then (ban party2 b) (duty party2 b))) (one-period nothing just-a ∷ one-period just-b nothing ∷ [])
       ≡ violated 1 (only party1)
-  -- the half that waits for period 3 dies with the violated whole, and is not heard after the repeat
+  -- the half that owes b in period 3 dies with the violated whole: the clause that repeat began anew is not violated by it
   pub no-living-half :
-      meaning (repeat (repair (both (duty party1 a) (then (ban party1 b) (then (ban party1 b) (duty party2 b)))) (ban party1 b)))
-      (in-one nothing nothing ∷ in-one nothing nothing ∷ in-one just-a just-a ∷ [])
+      meaning (repeat (repair (both (duty party1 a) (then (ban party1 b) (then (ban party1 b) (duty party2 b)))) (ban party1 a)))
+      (one-period nothing nothing ∷ one-period nothing nothing ∷ one-period just-a just-a ∷ one-period just-a just-a ∷ [])
+      ≡ undecided
+  -- the clause that owes a in period 2 dies with the finished `until`
+  pub no-living-clause :
+      meaning (repeat (until (then (ban party1 a) (duty party2 a)) (atom (tries party1 b))))
+      (one-period just-b nothing ∷ one-period nothing nothing ∷ [])
       ≡ undecided
   -- party 1 owes b only from period 2 on
-  pub right-starts-after : meaning (then (duty party1 a) (duty party1 b)) (in-one just-a just-a ∷ in-one just-b just-b ∷ []) ≡ satisfied 2
+  pub right-starts-after : meaning (then (duty party1 a) (duty party1 b)) (one-period just-a just-a ∷ one-period just-b just-b ∷ []) ≡ satisfied 2
   -- the violation in the accepting period counts
-  pub violation-first : meaning (until (duty party1 a) (tried party1 b)) (in-one just-b just-a ∷ []) ≡ violated 1 (only party1)
+  pub violation-first : meaning (until (duty party1 a) (atom (tries party1 b))) (one-period just-b just-a ∷ []) ≡ violated 1 (only party1)
+
+-- sentences of "Expressions" and "Meaning of clauses" that no example above reaches
+pub record FurtherExamples : Type 0 where
+  pub no-empty-list : holdsEmpty (seq (star (atom any)) (atom any)) ≡ false
+  pub ban-alone : meaning (ban party1 a) (one-period just-a nothing ∷ []) ≡ satisfied 1
+  pub power-by-both : meaning (power party1 a) (one-period just-a just-a ∷ []) ≡ satisfied 1
+  pub both-at-later-half :
+      meaning (both (duty party1 a) (then (duty party1 a) (duty party2 a))) (one-period just-a just-a ∷ one-period just-a just-a ∷ [])
+      ≡ satisfied 2
+  pub when-pending :
+      meaning (when (seq (atom any) (seq (atom any) (atom any))) (duty party1 a))
+      (one-period nothing nothing ∷ one-period nothing nothing ∷ [])
+      ≡ undecided
+  pub when-accepted :
+      meaning (when (atom (tries party1 b)) (duty party2 a)) (one-period just-b nothing ∷ one-period just-a nothing ∷ [])
+      ≡ violated 2 (only party2)
+  pub until-rejected :
+      meaning (until (repeat (duty party1 a)) (atom (tries party1 b))) (one-period just-a just-a ∷ one-period just-b nothing ∷ [])
+      ≡ violated 2 (only party1)
 
 -- the contract and the periods of "Watch"
 abbrev pub watched : Clause
 watched = repeat (repair (duty party1 a) (duty party1 b))
 
 abbrev pub watchedPeriods : List Period
-watchedPeriods = in-one just-a just-a ∷ in-one nothing nothing ∷ in-one just-b nothing ∷ in-one just-a just-a ∷ []
+watchedPeriods = one-period just-a just-a ∷ one-period nothing nothing ∷ one-period just-b nothing ∷ one-period just-a just-a ∷ []
 
 -- a line of "Watch" without its number: the verdict's name and number, and the blame, after n periods
 abbrev pub line : ℕ → String × ℕ × ℕ
@@ -106,4 +131,44 @@ pub record WatchExample : Type 0 where
   pub line2 : line 2 ≡ ("open", 0, 0)
   pub line3 : line 3 ≡ ("broken", 2, 2)
   pub line4 : line 4 ≡ ("broken-after", 4, 2)
-  pub decided : period (meaning watched watchedPeriods) ≡ 3
+  pub decided : decisionPeriod (meaning watched watchedPeriods) ≡ 3
+
+-- all of them, by computation
+pub examples : WorkedExamples × StudentExamples × FurtherExamples × WatchExample
+unfolding meaning repeatMeaning reading readingTo member begins holdsEmpty splits joins holds Periods.tries bit
+examples = (
+  record {
+    duty-on-none = refl;
+    duty-by-both = refl;
+    duty-by-other = refl;
+    duty-by-nobody = refl;
+    duty-alone = refl;
+    power-alone = refl;
+    power-by-other = refl;
+    ban-by-both = refl;
+    both-blamed = refl;
+    both-once = refl;
+    repaired = refl;
+    repeated = refl;
+    when-rejected = refl;
+    until-accepted = refl;
+    until-violated = refl;
+  },
+  record {
+    no-later-blame = refl;
+    no-living-half = refl;
+    no-living-clause = refl;
+    right-starts-after = refl;
+    violation-first = refl;
+  },
+  record {
+    no-empty-list = refl;
+    ban-alone = refl;
+    power-by-both = refl;
+    both-at-later-half = refl;
+    when-pending = refl;
+    when-accepted = refl;
+    until-rejected = refl;
+  },
+  record { line1 = refl; line2 = refl; line3 = refl; line4 = refl; decided = refl },
+)

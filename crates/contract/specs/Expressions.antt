@@ -1,10 +1,9 @@
--- Expressions, the lists of periods that they hold, and what it means that one is accepted or rejected.
--- Document 01, "Expressions".
-use Prim.Native.Nat.{ℕ, zero, suc, _≤_, _<_}
+-- Expressions, the set of lists of periods that each has, and tests that decide these sets. Document 01, "Expressions".
+use Prim.Native.Nat.{ℕ, zero, suc}
 use mathlib.Core.Bool.{Bool, true, false, not, _&&_, _||_}
 use mathlib.Core.List.{List, [], _∷_, _++_}
 use mathlib.Core.Path.{_≡_}
-use lib.ListN.{length, take}
+use lib.ListN.{length}
 use Rattle.records.specs.Periods
 use Rattle.records.specs.Periods.{Party, Period}
 
@@ -40,24 +39,6 @@ pub data Holds : Expression → List Period → Type 0 where
   right : {l r : Expression} {w : List Period} → Holds r w → Holds (or l r) w
   none : {e : Expression} → Holds (star e) []
   more : {e : Expression} {u v : List Period} → Holds e u → Holds (star e) v → Holds (star e) (u ++ v)
-
--- no list at all that begins with w is in the set
-abbrev pub Dead : Expression → List Period → Type 0
-Dead e w = (v : List Period) → ¬ Holds e (w ++ v)
-
--- "It is accepted at the least k such that the first k periods are in the set."
-pub record AcceptedAt (e : Expression) (w : List Period) (k : ℕ) : Type 0 where
-  pub within : k ≤ length w
-  pub held : Holds e (take k w)
-  pub least : (j : ℕ) → j < k → ¬ Holds e (take j w)
-
--- "It is rejected at the least k such that no list at all that begins with those k periods is in the set, provided it wasn't
--- accepted before."
-pub record RejectedAt (e : Expression) (w : List Period) (k : ℕ) : Type 0 where
-  pub within : k ≤ length w
-  pub dead : Dead e (take k w)
-  pub least : (j : ℕ) → j < k → ¬ Dead e (take j w)
-  pub unaccepted : (j : ℕ) → j < k → ¬ AcceptedAt e w j
 
 -- The tests that decide these sets.
 
@@ -97,29 +78,3 @@ holdsEmpty (atom a) = false
 holdsEmpty (seq l r) = holdsEmpty l && holdsEmpty r
 holdsEmpty (or l r) = holdsEmpty l || holdsEmpty r
 holdsEmpty (star e) = true
-
--- what a list of periods shows of an expression
-pub data Reading : Type 0 where
-  pending : Reading
-  accepted : ℕ → Reading
-  rejected : ℕ → Reading
-
--- what the first k periods show by themselves, by the tests "in the set" and "begins a list of the set"
-abbrev pub judged : Bool → Bool → ℕ → Reading
-judged true b k = accepted k
-judged false false k = rejected k
-judged false true k = pending
-
--- what is shown first, stands
-abbrev pub first : Reading → Reading → Reading
-first pending r = r
-first (accepted k) r = accepted k
-first (rejected k) r = rejected k
-
--- what the first n periods of a list show, going from none of them to all n
-unfoldable pub readingTo : Expression → List Period → ℕ → Reading
-readingTo e w zero = judged (member e []) (begins e []) zero
-readingTo e w (suc k) = first (readingTo e w k) (judged (member e (take (suc k) w)) (begins e (take (suc k) w)) (suc k))
-
-unfoldable pub reading : Expression → List Period → Reading
-reading e w = readingTo e w (length w)

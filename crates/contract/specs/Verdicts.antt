@@ -11,10 +11,10 @@ use Rattle.records.specs.Periods.{number, Period}
 use Rattle.contract.specs.Clauses.{Clause, Blame, only, bothParties, Decision, undecided, satisfied, violated, meaning}
 
 -- the decision period, 0 while undecided
-abbrev pub period : Decision → ℕ
-period undecided = 0
-period (satisfied k) = k
-period (violated k b) = k
+abbrev pub decisionPeriod : Decision → ℕ
+decisionPeriod undecided = 0
+decisionPeriod (satisfied k) = k
+decisionPeriod (violated k b) = k
 
 -- "blame: 1, 2, or 3 for both parties"
 abbrev pub blameNumber : Blame → ℕ
@@ -37,6 +37,7 @@ verdict undecided n = «open»
 verdict (satisfied k) n = cond (ltb n k) «open» (cond (ltb k n) met-after met)
 verdict (violated k b) n = cond (ltb n k) «open» (cond (ltb k n) broken-after broken)
 
+-- a verdict's number
 abbrev pub verdictNumber : Verdict → ℕ
 verdictNumber «open» = 0
 verdictNumber met = 1
@@ -44,6 +45,7 @@ verdictNumber broken = 2
 verdictNumber met-after = 3
 verdictNumber broken-after = 4
 
+-- a verdict's name
 abbrev pub verdictName : Verdict → String
 verdictName «open» = "open"
 verdictName met = "met"
@@ -56,7 +58,7 @@ verdictName broken-after = "broken-after"
 pub record DecidesOnce (c : Clause) (w : List Period) : Type 0 where
   pub decision : Decision
   pub nothing-yet : meaning c [] ≡ undecided
-  pub bounds : (decision ≡ undecided) ⊎ ((1 ≤ period decision) × (period decision ≤ length w))
-  pub open-before : (n : ℕ) → n < period decision → meaning c (take n w) ≡ undecided
-  pub same-from : (n : ℕ) → period decision ≤ n → meaning c (take n w) ≡ decision
-  pub verdicts : (n : ℕ) → verdict (meaning c (take n w)) n ≡ verdict decision n
+  pub bounds : (decision ≡ undecided) ⊎ ((1 ≤ decisionPeriod decision) × (decisionPeriod decision ≤ length w))
+  pub open-before : (n : ℕ) → n < decisionPeriod decision → meaning c (take n w) ≡ undecided
+  pub same-from : (n : ℕ) → decisionPeriod decision ≤ n → meaning c (take n w) ≡ decision
+  pub verdicts : (n : ℕ) → n ≤ length w → verdict (meaning c (take n w)) n ≡ verdict decision n

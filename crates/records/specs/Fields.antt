@@ -22,7 +22,7 @@ bytes (suc w) n = n % 256 ∷ bytes w (n / 256)
 unfoldable pub field : List ℕ → ℕ → ℕ → ℕ
 field l at w = value (take w (drop at l))
 
--- r is the number in the field of w bytes at a place, and has no more bytes
+-- r is the number in the field of w bytes at a place, below 256 ^ w
 pub record HoldsField (l : List ℕ) (at w r : ℕ) : Type 0 where
   pub is : r ≡ field l at w
   pub small : r < 256 ^ w

@@ -1,4 +1,4 @@
--- The limits that every record obeys. Document 01, "Records".
+-- How many actions there are, and how long a period record is. Document 01, "Records".
 use Prim.Native.Nat.{ℕ}
 
 -- actions are numbered from 0 up to this number, which is no action

@@ -27,6 +27,7 @@ pub record Period : Type 0 where
   pub attempts1 : ℕ
   pub attempts2 : ℕ
 
+-- a party's mask
 abbrev pub attempts : Period → Party → ℕ
 attempts x party1 = x .attempts1
 attempts x party2 = x .attempts2
@@ -48,11 +49,11 @@ unfoldable pub periodAt : List ℕ → ℕ → Period
 periodAt l at = record { attempts1 = field l (at + 2) 2; attempts2 = field l (at + 4) 2 }
 
 -- a program's two masks, as a period
-abbrev pub period : Attempts → Period
-period a = record { attempts1 = a .one; attempts2 = a .two }
+abbrev pub periodOf : Attempts → Period
+periodOf a = record { attempts1 = a .one; attempts2 = a .two }
 
 -- a is the period that a period record at a place holds, with a bit for each action
 pub record HoldsPeriod (l : List ℕ) (at : ℕ) (a : Attempts) : Type 0 where
-  pub is : period a ≡ periodAt l at
+  pub is : periodOf a ≡ periodAt l at
   pub small1 : a .one < 2 ^ actions
   pub small2 : a .two < 2 ^ actions

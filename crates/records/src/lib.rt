@@ -1,18 +1,21 @@
 // Little-endian fields of byte slices, the marks of the records, and the period record. Document 01, "Records".
 ghost use mathlib.Core.Path.{_≡_};
 ghost use Prim.Native.Nat.{_+_, _<_, _≤_};
+ghost use lib.Dec.{ltb};
 ghost use lib.ListN.{length};
 ghost use lib.Seq.{sets};
 ghost use Rattle.records.specs.Limits.{actions, periodBytes};
 ghost use Rattle.records.specs.Fields.{bytes, HoldsField};
-ghost use Rattle.records.specs.Marks.{marked};
+ghost use Rattle.records.specs.Marks.{contractMark, periodMark, rowMark, endMark, marked};
 ghost use Rattle.records.specs.Periods.{bit, HoldsPeriod};
 
 // Actions are numbered from 0 up to this number, which is no action.
 pub const ACTIONS: u32 = 16;
 
+// The bytes of a period record.
 pub const PERIOD_BYTES: usize = 6;
 
+// The first two bytes of each record.
 pub const CONTRACT_MARK: [u8; 2] = [0x54, 0x43];
 
 pub const PERIOD_MARK: [u8; 2] = [0x54, 0x50];
@@ -27,12 +30,14 @@ pub struct Attempts {
     pub two: u32,
 }
 
+// A byte as a wider number.
 pub fn wide(x: u8) -> u32
     ensures { λ r. ⌜ (r ≡ x) × (r < 256) ⌝ }
 {
     x as u32
 }
 
+// The number in a field of two bytes at a place, low byte first; then of four, and of eight.
 pub fn get2(s: &[u8], at: usize) -> u32
     requires { ⌜ at + 2 ≤ length (now s) ⌝ }
     ensures { λ r. ⌜ HoldsField (now (s .entry)) at 2 r ⌝ }
@@ -60,6 +65,7 @@ pub fn get8(s: &[u8], at: usize) -> u64
     low + 4294967296 * high
 }
 
+// A number put into a field of two bytes at a place, low byte first; then of four, and of eight. Higher bytes are left out.
 pub fn put2(s: &mut [u8], at: usize, x: u32)
     requires { ⌜ at + 2 ≤ length (now s) ⌝ }
     ensures { λ _. ⌜ now (s .exit) ≡ sets (now (s .entry)) at (bytes 2 x) ⌝ }
@@ -84,20 +90,58 @@ pub fn put8(s: &mut [u8], at: usize, x: u64)
     put4(s, at + 4, (x / 4294967296) as u32);
 }
 
-pub fn marked(s: &[u8], at: usize, mark: [u8; 2]) -> bool
+fn marked(s: &[u8], at: usize, mark: [u8; 2]) -> bool
     requires { ⌜ at + 2 ≤ length (now s) ⌝ }
     ensures { λ r. ⌜ r ≡ marked (now (s .entry)) at mark ⌝ }
 {
     s[at] == mark[0] && s[at + 1] == mark[1]
 }
 
-pub fn tries(mask: u32, action: u32) -> bool
+// A record at a place starts with a contract record's mark, and so on for the other records.
+pub fn contract_marked(s: &[u8], at: usize) -> bool
+    requires { ⌜ at + 2 ≤ length (now s) ⌝ }
+    ensures { λ r. ⌜ r ≡ marked (now (s .entry)) at contractMark ⌝ }
+{
+    marked(s, at, CONTRACT_MARK)
+}
+
+pub fn period_marked(s: &[u8], at: usize) -> bool
+    requires { ⌜ at + 2 ≤ length (now s) ⌝ }
+    ensures { λ r. ⌜ r ≡ marked (now (s .entry)) at periodMark ⌝ }
+{
+    marked(s, at, PERIOD_MARK)
+}
+
+pub fn row_marked(s: &[u8], at: usize) -> bool
+    requires { ⌜ at + 2 ≤ length (now s) ⌝ }
+    ensures { λ r. ⌜ r ≡ marked (now (s .entry)) at rowMark ⌝ }
+{
+    marked(s, at, ROW_MARK)
+}
+
+pub fn end_marked(s: &[u8], at: usize) -> bool
+    requires { ⌜ at + 2 ≤ length (now s) ⌝ }
+    ensures { λ r. ⌜ r ≡ marked (now (s .entry)) at endMark ⌝ }
+{
+    marked(s, at, END_MARK)
+}
+
+// An action's number.
+pub fn is_action(a: u32) -> bool
+    ensures { λ r. ⌜ r ≡ ltb a actions ⌝ }
+{
+    a < ACTIONS
+}
+
+// Bit `action` of a mask: the party tries the action.
+pub fn bit(mask: u32, action: u32) -> bool
     requires { ⌜ action < actions ⌝ }
     ensures { λ r. ⌜ r ≡ bit mask action ⌝ }
 {
     (mask >> action) & 1 == 1
 }
 
+// Both parties' attempts in the period record at a place.
 pub fn read_period(s: &[u8], at: usize) -> Attempts
     requires { ⌜ at + periodBytes ≤ length (now s) ⌝ }
     ensures { λ r. ⌜ HoldsPeriod (now (s .entry)) at r ⌝ }

@@ -1,9 +1,9 @@
--- `records::tries` meets its contract.
+-- `records::bit` meets its contract.
 -- Assumes nothing.
 use borrow.Author.Needs.{needs}
 use Rattle.records.proofs.Periods.{bit-shift}
-use Rattle.records.proofs.tries.Statement.{statement}
-use Rattle.records.proofs.tries.Tie as tie
+use Rattle.records.proofs.bit.Statement.{statement}
+use Rattle.records.proofs.bit.Tie as tie
 
 shr-result : tie.Need-shr-result
 shr-result c = search needs
@@ -11,5 +11,5 @@ shr-result c = search needs
 returns : tie.Need-returns
 returns c = bit-shift (c .args .mask) (c .args .action)
 
-pub tries-spec : {M : Type 1} → statement M
-tries-spec = tie.close (tie.spec shr-result returns)
+pub bit-spec : {M : Type 1} → statement M
+bit-spec = tie.close (tie.spec shr-result returns)

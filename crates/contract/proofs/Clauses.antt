@@ -1,25 +1,25 @@
--- A clause decides a list of periods at one period or at none: the deciding period lies between 1 and the length, and each beginning
--- of the list is open if it is shorter, and otherwise has exactly that decision.
-use Prim.Native.Nat.{ℕ, zero, suc, _+_, _-_, _≤_, _<_, max, zero-le, suc-le-suc}
+-- The deciding period of a clause lies between 1 and the length of the list, and what a clause means on the first n periods is what
+-- it has decided by period n.
+use Prim.Native.Nat.{ℕ, zero, suc, _+_, _-_, _≤_, _<_, zero-le, suc-le-suc}
 use native.Mathlib.Nat.{le-refl}
 use native.Mathlib.Omega.{arith}
 use mathlib.Core.Bool.{Bool, true, false, cond}
-use mathlib.Core.List.{List, [], _∷_, _++_}
-use mathlib.Core.Logic.{_↔_, _⊎_, inl, inr, ⊎-elim}
+use mathlib.Core.List.{List, [], _∷_}
+use mathlib.Core.Logic.{_⊎_, inl, inr}
 use mathlib.Core.Path.{_≡_, refl, sym, ap, _∙_, subst}
 use borrow.Author.Tests.{lt-ltb, le-ltb, lt-leb, le-leb}
 use lib.Dec.{ltb, leb}
 use lib.ListN.{length, take, drop, length-take, length-drop}
-use lib.Seq.{take-append-seam}
-use Rattle.records.specs.Periods.{Party, party1, party2, other, Period, tries}
+use Rattle.records.specs.Periods.{Party, other, Period, tries}
 use Rattle.records.proofs.Numbers.{lt-or-le}
 use Rattle.records.proofs.Written.{drop-take}
-use Rattle.contract.specs.Expressions.{Expression, Holds, Reading, pending, accepted, rejected, reading}
+use Rattle.contract.specs.Expressions.{Expression, Holds}
+use Rattle.contract.specs.Readings.{Reading, pending, accepted, rejected, reading}
 use Rattle.contract.specs.Clauses.{Literal, duty, ban, power, Clause, literal, both, then, repair, repeat, when, until}
-use Rattle.contract.specs.Clauses.{Blame, only, bothParties, unite, Decision, undecided, satisfied, violated, literalDecision, literalMeaning, earlier, bothMeaning}
-use Rattle.contract.specs.Clauses.{later, after, thenMeaning, repairMeaning, repeatMeaning, whenMeaning, noLater, untilMeaning, meaning, Guarded}
-use Rattle.contract.specs.Verdicts.{period, blame, verdict, «open», met, met-after, broken, broken-after, DecidesOnce}
-use Rattle.contract.proofs.Tests.{some-list}
+use Rattle.contract.specs.Clauses.{Blame, unite, Decision, undecided, satisfied, violated, literalDecision, literalMeaning, earlier, bothMeaning}
+use Rattle.contract.specs.Clauses.{later, after, thenMeaning, repairMeaning, repeatMeaning, whenMeaning, noLater, untilMeaning, meaning, EmptyFree}
+use Rattle.contract.specs.Verdicts.{decisionPeriod}
+use Rattle.contract.proofs.Expressions.{some-list}
 use Rattle.contract.proofs.Readings.{accepted-iff, rejected-iff, readingBy, reading-take}
 
 -- what has been decided by period n
@@ -83,7 +83,7 @@ within-repair n (satisfied k) f p q = p
 within-repair n (violated k b) f p q = q k (p .1)
 
 -- no decision lies within no periods
-within-none : (d : Decision) → Within 0 d → d ≡ undecided
+pub within-none : (d : Decision) → Within 0 d → d ≡ undecided
 within-none undecided p = refl
 within-none (satisfied k) p = absurd (omega arith)
 within-none (violated k b) p = absurd (omega arith)
@@ -125,8 +125,8 @@ within-repeat m bounded (suc f) w =
     (λ k p h. within-after (repeatMeaning m f) (λ v. within-repeat m bounded f v) w k h)
 
 -- the deciding period lies between 1 and the length
-pub within : (c : Clause) → Guarded c → (w : List Period) → Within (length w) (meaning c w)
-unfolding meaning Guarded
+pub within : (c : Clause) → EmptyFree c → (w : List Period) → Within (length w) (meaning c w)
+unfolding meaning EmptyFree
 within (literal l p a) g [] = tt
 within (literal l p a) g (x ∷ w) = within-literal l p (tries x p a) (tries x (other p) a) (length w)
 within (both l r) g w = within-both (length w) (meaning l w) (meaning r w) (within l (g .0) w) (within r (g .1) w)
@@ -146,12 +146,12 @@ within (until c e) g w =
 -- Beginnings: what a clause means on the first n periods is what it has decided by period n.
 
 -- nothing is decided before the deciding period, all from there on
-not-yet : (n : ℕ) (d : Decision) → n < period d → decidedBy n d ≡ undecided
+pub not-yet : (n : ℕ) (d : Decision) → n < decisionPeriod d → decidedBy n d ≡ undecided
 not-yet n undecided h = refl
 not-yet n (satisfied k) h = rw (lt-ltb n k h)
 not-yet n (violated k b) h = rw (lt-ltb n k h)
 
-by-now : (n : ℕ) (d : Decision) → period d ≤ n → decidedBy n d ≡ d
+pub by-now : (n : ℕ) (d : Decision) → decisionPeriod d ≤ n → decidedBy n d ≡ d
 by-now n undecided h = refl
 by-now n (satisfied k) h = rw (le-ltb n k h)
 by-now n (violated k b) h = rw (le-ltb n k h)
@@ -161,7 +161,7 @@ not-at-start n undecided p = refl
 not-at-start n (satisfied k) p = not-yet 0 (satisfied k) (p .0)
 not-at-start n (violated k b) p = not-yet 0 (violated k b) (p .0)
 
-within-period : (n : ℕ) (d : Decision) → Within n d → period d ≤ n
+within-period : (n : ℕ) (d : Decision) → Within n d → decisionPeriod d ≤ n
 within-period n undecided p = zero-le
 within-period n (satisfied k) p = p .1
 within-period n (violated k b) p = p .1
@@ -254,52 +254,52 @@ by-later n k (satisfied j) h = rw (← shifted n k j h) (through (later k) undec
 by-later n k (violated j b) h = rw (← shifted n k j h) (through (later k) undecided refl (ltb (n - k) j) (violated j b))
 
 -- a meaning that says of the first n periods what it has decided by period n
-abbrev pub Steady : (List Period → Decision) → Type 0
-Steady m = (n : ℕ) (w : List Period) → m (take n w) ≡ decidedBy n (m w)
+abbrev pub Stable : (List Period → Decision) → Type 0
+Stable m = (n : ℕ) (w : List Period) → m (take n w) ≡ decidedBy n (m w)
 
 -- Handing over: a part that reads from period k + 1 of a list, and of its first n periods.
 module _ (m₁ m₂ : List Period → Decision) (n : ℕ) (w : List Period) where
-  abbrev Carries : ℕ → Type 0
-  Carries k = k ≤ n → m₁ (take (n - k) (drop k w)) ≡ decidedBy (n - k) (m₂ (drop k w))
+  abbrev RightStable : ℕ → Type 0
+  RightStable k = k ≤ n → m₁ (take (n - k) (drop k w)) ≡ decidedBy (n - k) (m₂ (drop k w))
 
-  handed : (k : ℕ) → Carries k → cond (ltb n k) undecided (after m₁ (take n w) k) ≡ decidedBy n (after m₂ w k)
-  handed k carries = go (lt-or-le n k)
+  handed-over : (k : ℕ) → RightStable k → cond (ltb n k) undecided (after m₁ (take n w) k) ≡ decidedBy n (after m₂ w k)
+  handed-over k right = go (lt-or-le n k)
     where
       go : (n < k) ⊎ (k ≤ n) → cond (ltb n k) undecided (after m₁ (take n w) k) ≡ decidedBy n (after m₂ w k)
       go (inl l) = rw (lt-ltb n k l) (sym (by-early n k (m₂ (drop k w)) l))
-      go (inr l) = rw (le-ltb n k l, drop-take k n w, carries l) (by-later n k (m₂ (drop k w)) l)
+      go (inr l) = rw (le-ltb n k l, drop-take k n w, right l) (by-later n k (m₂ (drop k w)) l)
 
-  by-then : (d : Decision) → ((k : ℕ) → d ≡ satisfied k → Carries k)
+  by-then : (d : Decision) → ((k : ℕ) → d ≡ satisfied k → RightStable k)
       → thenMeaning (decidedBy n d) (after m₁ (take n w)) ≡ decidedBy n (thenMeaning d (after m₂ w))
-  by-then undecided carries = refl
-  by-then (satisfied k) carries =
-      through (λ d. thenMeaning d (after m₁ (take n w))) undecided refl (ltb n k) (satisfied k) ∙ handed k (carries k refl)
-  by-then (violated k b) carries = through (λ d. thenMeaning d (after m₁ (take n w))) undecided refl (ltb n k) (violated k b)
+  by-then undecided right = refl
+  by-then (satisfied k) right =
+      through (λ d. thenMeaning d (after m₁ (take n w))) undecided refl (ltb n k) (satisfied k) ∙ handed-over k (right k refl)
+  by-then (violated k b) right = through (λ d. thenMeaning d (after m₁ (take n w))) undecided refl (ltb n k) (violated k b)
 
-  by-repair : (d : Decision) → ((k : ℕ) → Carries k)
+  by-repair : (d : Decision) → ((k : ℕ) → RightStable k)
       → repairMeaning (decidedBy n d) (after m₁ (take n w)) ≡ decidedBy n (repairMeaning d (after m₂ w))
-  by-repair undecided carries = refl
-  by-repair (satisfied k) carries = through (λ d. repairMeaning d (after m₁ (take n w))) undecided refl (ltb n k) (satisfied k)
-  by-repair (violated k b) carries =
-      through (λ d. repairMeaning d (after m₁ (take n w))) undecided refl (ltb n k) (violated k b) ∙ handed k (carries k)
+  by-repair undecided right = refl
+  by-repair (satisfied k) right = through (λ d. repairMeaning d (after m₁ (take n w))) undecided refl (ltb n k) (satisfied k)
+  by-repair (violated k b) right =
+      through (λ d. repairMeaning d (after m₁ (take n w))) undecided refl (ltb n k) (violated k b) ∙ handed-over k (right k)
 
-  by-when : (r : Reading) → ((k : ℕ) → Carries k)
+  by-when : (r : Reading) → ((k : ℕ) → RightStable k)
       → whenMeaning (readingBy n r) (after m₁ (take n w)) ≡ decidedBy n (whenMeaning r (after m₂ w))
-  by-when pending carries = refl
-  by-when (accepted k) carries =
-      through (λ r. whenMeaning r (after m₁ (take n w))) pending refl (ltb n k) (accepted k) ∙ handed k (carries k)
-  by-when (rejected k) carries = through (λ r. whenMeaning r (after m₁ (take n w))) pending refl (ltb n k) (rejected k)
+  by-when pending right = refl
+  by-when (accepted k) right =
+      through (λ r. whenMeaning r (after m₁ (take n w))) pending refl (ltb n k) (accepted k) ∙ handed-over k (right k)
+  by-when (rejected k) right = through (λ r. whenMeaning r (after m₁ (take n w))) pending refl (ltb n k) (rejected k)
 
 -- Until: the clause's decision counts up to acceptance.
-module _ (n k : ℕ) (d : Decision) (counts : noLater k d ≡ cond (leb (period d) k) d (satisfied k)) where
-  by-decided : (n < k) ⊎ (k ≤ n) → (k < period d) ⊎ (period d ≤ k) → (n < period d) ⊎ (period d ≤ n)
+module _ (n k : ℕ) (d : Decision) (counts : noLater k d ≡ cond (leb (decisionPeriod d) k) d (satisfied k)) where
+  by-decided : (n < k) ⊎ (k ≤ n) → (k < decisionPeriod d) ⊎ (decisionPeriod d ≤ k) → (n < decisionPeriod d) ⊎ (decisionPeriod d ≤ n)
       → untilMeaning (decidedBy n d) (readingBy n (accepted k)) ≡ decidedBy n (noLater k d)
   by-decided (inl l) (inl p) q =
-      rw (lt-ltb n k l, counts, lt-leb (period d) k p, lt-ltb n k l) (not-yet n d (omega arith))
-  by-decided (inl l) (inr p) q = rw (lt-ltb n k l, counts, le-leb (period d) k p)
-  by-decided (inr l) (inl p) (inl q) = rw (le-ltb n k l, counts, lt-leb (period d) k p, le-ltb n k l, not-yet n d q)
-  by-decided (inr l) (inl p) (inr q) = rw (le-ltb n k l, by-now n d q, counts, lt-leb (period d) k p, le-ltb n k l)
-  by-decided (inr l) (inr p) q = rw (le-ltb n k l, by-now n d (omega arith), counts, le-leb (period d) k p, by-now n d (omega arith))
+      rw (lt-ltb n k l, counts, lt-leb (decisionPeriod d) k p, lt-ltb n k l) (not-yet n d (omega arith))
+  by-decided (inl l) (inr p) q = rw (lt-ltb n k l, counts, le-leb (decisionPeriod d) k p)
+  by-decided (inr l) (inl p) (inl q) = rw (le-ltb n k l, counts, lt-leb (decisionPeriod d) k p, le-ltb n k l, not-yet n d q)
+  by-decided (inr l) (inl p) (inr q) = rw (le-ltb n k l, by-now n d q, counts, lt-leb (decisionPeriod d) k p, le-ltb n k l)
+  by-decided (inr l) (inr p) q = rw (le-ltb n k l, by-now n d (omega arith), counts, le-leb (decisionPeriod d) k p, by-now n d (omega arith))
 
 by-accepted : (n k : ℕ) (d : Decision) → untilMeaning (decidedBy n d) (readingBy n (accepted k)) ≡ decidedBy n (noLater k d)
 by-accepted n k undecided = elim (ltb n k) as (λ t. untilMeaning undecided (cond t pending (accepted k)) ≡ cond t undecided (satisfied k)) [ true ↦ refl | false ↦ refl ]
@@ -312,7 +312,7 @@ by-until n d (accepted k) = by-accepted n k d
 by-until n d (rejected k) = elim (ltb n k) as (λ t. untilMeaning (decidedBy n d) (cond t pending (rejected k)) ≡ decidedBy n d) [ true ↦ refl | false ↦ refl ]
 
 -- Repeat: every allowance that covers the periods gives the same.
-module _ (m : List Period → Decision) (bounded : (w : List Period) → Within (length w) (m w)) (steady : Steady m) where
+module _ (m : List Period → Decision) (bounded : (w : List Period) → Within (length w) (m w)) (stable : Stable m) where
   repeat-none : (f : ℕ) (w : List Period) → length w ≤ 0 → repeatMeaning m f w ≡ undecided
   unfolding repeatMeaning
   repeat-none zero w h = refl
@@ -320,10 +320,10 @@ module _ (m : List Period → Decision) (bounded : (w : List Period) → Within 
       let e : length w ≡ 0 = omega arith in
       rw (within-none (m w) (subst (λ (n : ℕ). Within n (m w)) e (bounded w)))
 
-  by-turn : (f g n : ℕ) (w : List Period) → ((k : ℕ) → m w ≡ satisfied k → Carries (repeatMeaning m g) (repeatMeaning m f) n w k)
+  by-turn : (f g n : ℕ) (w : List Period) → ((k : ℕ) → m w ≡ satisfied k → RightStable (repeatMeaning m g) (repeatMeaning m f) n w k)
       → repeatMeaning m (suc g) (take n w) ≡ decidedBy n (repeatMeaning m (suc f) w)
   unfolding repeatMeaning
-  by-turn f g n w carries = rw (steady n w) (by-then (repeatMeaning m g) (repeatMeaning m f) n w (m w) carries)
+  by-turn f g n w right = rw (stable n w) (by-then (repeatMeaning m g) (repeatMeaning m f) n w (m w) right)
 
   -- a satisfaction uses up a period of the whole list and of its beginning
   used : (f g n k : ℕ) (w : List Period) → m w ≡ satisfied k → k ≤ n → length w ≤ suc f → length (take n w) ≤ suc g
@@ -348,62 +348,19 @@ literal-by-now : (l : Literal) (p : Party) (s t : Bool) (n : ℕ) → literalDec
 literal-by-now l p s t n = sym (by-now (suc n) (literalDecision l p s t) (within-period (suc n) (literalDecision l p s t) (within-literal l p s t n)))
 
 -- what a clause means on the first n periods is what it has decided by period n
-pub steady : (c : Clause) → Guarded c → Steady (meaning c)
-unfolding meaning Guarded
-steady (literal l p a) g zero [] = refl
-steady (literal l p a) g zero (x ∷ w) = sym (not-at-start 1 (literalMeaning l p a (x ∷ w)) (within-literal l p (tries x p a) (tries x (other p) a) 0))
-steady (literal l p a) g (suc n) [] = refl
-steady (literal l p a) g (suc n) (x ∷ w) = literal-by-now l p (tries x p a) (tries x (other p) a) n
-steady (both l r) g n w = rw (steady l (g .0) n w, steady r (g .1) n w) (by-both n (meaning l w) (meaning r w))
-steady (then l r) g n w =
-    rw (steady l (g .0) n w) (by-then (meaning r) (meaning r) n w (meaning l w) (λ k e h. steady r (g .1) (n - k) (drop k w)))
-steady (repair l r) g n w =
-    rw (steady l (g .0) n w) (by-repair (meaning r) (meaning r) n w (meaning l w) (λ k h. steady r (g .1) (n - k) (drop k w)))
-steady (repeat c) g n w =
-    by-repeat (meaning c) (within c g) (λ i v. steady c g i v) (length w) (length (take n w)) n w (le-refl (length w)) (le-refl (length (take n w)))
-steady (when e c) g n w =
-    rw (reading-take e w n) (by-when (meaning c) (meaning c) n w (reading e w) (λ k h. steady c (g .1) (n - k) (drop k w)))
-steady (until c e) g n w = rw (steady c (g .0) n w, reading-take e w n) (by-until n (meaning c w) (reading e w))
-
-within-cases : (n : ℕ) (d : Decision) → Within n d → (d ≡ undecided) ⊎ ((1 ≤ period d) × (period d ≤ n))
-within-cases n undecided p = inl refl
-within-cases n (satisfied k) p = inr p
-within-cases n (violated k b) p = inr p
-
-verdict-by : (d : Decision) (n : ℕ) → verdict (decidedBy n d) n ≡ verdict d n
-verdict-by undecided n = refl
-verdict-by (satisfied k) n = ⊎-elim (λ l. rw (lt-ltb n k l)) (λ l. rw (le-ltb n k l, le-ltb n k l)) (lt-or-le n k)
-verdict-by (violated k b) n = ⊎-elim (λ l. rw (lt-ltb n k l)) (λ l. rw (le-ltb n k l, le-ltb n k l)) (lt-or-le n k)
-
--- a clause decides a list at one period or at none
-pub decides-once : (c : Clause) → Guarded c → (w : List Period) → DecidesOnce c w
-decides-once c g w =
-    record {
-      decision = meaning c w;
-      nothing-yet = within-none (meaning c []) (within c g []);
-      bounds = within-cases (length w) (meaning c w) (within c g w);
-      open-before = λ n h. steady c g n w ∙ not-yet n (meaning c w) h;
-      same-from = λ n h. steady c g n w ∙ by-now n (meaning c w) h;
-      verdicts = λ n. ap (λ (d : Decision). verdict d n) (steady c g n w) ∙ verdict-by (meaning c w) n;
-    }
-
--- a decision stands, with outcome and blame, on every longer list
-pub stands : (c : Clause) → Guarded c → (u v : List Period) → ¬ (meaning c u ≡ undecided) → meaning c (u ++ v) ≡ meaning c u
-stands c g u v decided =
-    ⊎-elim (λ l. absurd (decided (here ∙ not-yet (length u) (meaning c (u ++ v)) l)))
-    (λ l. sym (here ∙ by-now (length u) (meaning c (u ++ v)) l))
-    (lt-or-le (length u) (period (meaning c (u ++ v))))
-  where
-    here : meaning c u ≡ decidedBy (length u) (meaning c (u ++ v))
-    here = rw (take-append-seam u v) at (steady c g (length u) (u ++ v))
-
--- blame is 1, 2 or 3 for a violation, and 0 otherwise
-pub blame-violated : (k : ℕ) (b : Blame) → (1 ≤ blame (violated k b)) × (blame (violated k b) ≤ 3)
-blame-violated k (only party1) = (omega arith, omega arith)
-blame-violated k (only party2) = (omega arith, omega arith)
-blame-violated k bothParties = (omega arith, omega arith)
-
-pub blame-else : (d : Decision) → ((k : ℕ) (b : Blame) → ¬ (d ≡ violated k b)) → blame d ≡ 0
-blame-else undecided h = refl
-blame-else (satisfied k) h = refl
-blame-else (violated k b) h = absurd (h k b refl)
+pub stable : (c : Clause) → EmptyFree c → Stable (meaning c)
+unfolding meaning EmptyFree
+stable (literal l p a) g zero [] = refl
+stable (literal l p a) g zero (x ∷ w) = sym (not-at-start 1 (literalMeaning l p a (x ∷ w)) (within-literal l p (tries x p a) (tries x (other p) a) 0))
+stable (literal l p a) g (suc n) [] = refl
+stable (literal l p a) g (suc n) (x ∷ w) = literal-by-now l p (tries x p a) (tries x (other p) a) n
+stable (both l r) g n w = rw (stable l (g .0) n w, stable r (g .1) n w) (by-both n (meaning l w) (meaning r w))
+stable (then l r) g n w =
+    rw (stable l (g .0) n w) (by-then (meaning r) (meaning r) n w (meaning l w) (λ k e h. stable r (g .1) (n - k) (drop k w)))
+stable (repair l r) g n w =
+    rw (stable l (g .0) n w) (by-repair (meaning r) (meaning r) n w (meaning l w) (λ k h. stable r (g .1) (n - k) (drop k w)))
+stable (repeat c) g n w =
+    by-repeat (meaning c) (within c g) (λ i v. stable c g i v) (length w) (length (take n w)) n w (le-refl (length w)) (le-refl (length (take n w)))
+stable (when e c) g n w =
+    rw (reading-take e w n) (by-when (meaning c) (meaning c) n w (reading e w) (λ k h. stable c (g .1) (n - k) (drop k w)))
+stable (until c e) g n w = rw (stable c (g .0) n w, reading-take e w n) (by-until n (meaning c w) (reading e w))
