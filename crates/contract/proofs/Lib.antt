@@ -1,5 +1,6 @@
 -- The laws of the definitions in specs/, module by module, for this crate and the crates above it.
 pub mod Expressions
 pub mod Readings
-pub mod Clauses
+pub mod Meaning
 pub mod Verdicts
+pub mod Examples

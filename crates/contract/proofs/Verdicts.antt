@@ -9,9 +9,9 @@ use lib.ListN.{length}
 use lib.Seq.{take-append-seam}
 use Rattle.records.specs.Periods.{party1, party2, Period}
 use Rattle.records.proofs.Numbers.{lt-or-le}
-use Rattle.contract.specs.Clauses.{Clause, Blame, only, bothParties, Decision, undecided, satisfied, violated, meaning, EmptyFree}
+use Rattle.contract.specs.Meaning.{Clause, Blame, only, bothParties, Decision, undecided, satisfied, violated, meaning, EmptyFree}
 use Rattle.contract.specs.Verdicts.{decisionPeriod, blame, verdict, DecidesOnce}
-use Rattle.contract.proofs.Clauses.{decidedBy, Within, within, within-none, not-yet, by-now, stable}
+use Rattle.contract.proofs.Meaning.{decidedBy, Within, within, within-none, not-yet, by-now, stable}
 
 within-cases : (n : ℕ) (d : Decision) → Within n d → (d ≡ undecided) ⊎ ((1 ≤ decisionPeriod d) × (decisionPeriod d ≤ n))
 within-cases n undecided p = inl refl

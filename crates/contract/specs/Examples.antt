@@ -3,14 +3,12 @@ use Prim.Native.Nat.{ℕ}
 use Prim.Native.String.{String}
 use mathlib.Core.Bool.{false}
 use mathlib.Core.List.{List, [], _∷_}
-use mathlib.Core.Path.{_≡_, refl}
+use mathlib.Core.Path.{_≡_}
 use lib.ListN.{take}
-use Rattle.records.specs.Periods
-use Rattle.records.specs.Periods.{Party, party1, party2, Period, bit}
-use Rattle.contract.specs.Expressions.{any, tries, atom, seq, star, holds, splits, joins, member, begins, holdsEmpty}
-use Rattle.contract.specs.Readings.{readingTo, reading}
-use Rattle.contract.specs.Clauses.{Literal, Clause, literal, both, then, repair, repeat, when, until}
-use Rattle.contract.specs.Clauses.{only, bothParties, undecided, satisfied, violated, repeatMeaning, meaning}
+use Rattle.records.specs.Periods.{Party, party1, party2, Period}
+use Rattle.contract.specs.Expressions.{any, tries, atom, seq, star, holdsEmpty}
+use Rattle.contract.specs.Meaning.{Literal, Clause, literal, both, then, repair, repeat, when, until}
+use Rattle.contract.specs.Meaning.{only, bothParties, undecided, satisfied, violated, meaning}
 use Rattle.contract.specs.Verdicts.{verdict, verdictNumber, verdictName, blame, decisionPeriod}
 
 -- "a, b are actions 0, 1"
@@ -132,43 +130,3 @@ pub record WatchExample : Type 0 where
   pub line3 : line 3 ≡ ("broken", 2, 2)
   pub line4 : line 4 ≡ ("broken-after", 4, 2)
   pub decided : decisionPeriod (meaning watched watchedPeriods) ≡ 3
-
--- all of them, by computation
-pub examples : WorkedExamples × StudentExamples × FurtherExamples × WatchExample
-unfolding meaning repeatMeaning reading readingTo member begins holdsEmpty splits joins holds Periods.tries bit
-examples = (
-  record {
-    duty-on-none = refl;
-    duty-by-both = refl;
-    duty-by-other = refl;
-    duty-by-nobody = refl;
-    duty-alone = refl;
-    power-alone = refl;
-    power-by-other = refl;
-    ban-by-both = refl;
-    both-blamed = refl;
-    both-once = refl;
-    repaired = refl;
-    repeated = refl;
-    when-rejected = refl;
-    until-accepted = refl;
-    until-violated = refl;
-  },
-  record {
-    no-later-blame = refl;
-    no-living-half = refl;
-    no-living-clause = refl;
-    right-starts-after = refl;
-    violation-first = refl;
-  },
-  record {
-    no-empty-list = refl;
-    ban-alone = refl;
-    power-by-both = refl;
-    both-at-later-half = refl;
-    when-pending = refl;
-    when-accepted = refl;
-    until-rejected = refl;
-  },
-  record { line1 = refl; line2 = refl; line3 = refl; line4 = refl; decided = refl },
-)

@@ -8,7 +8,7 @@ use Prim.Native.String.{String}
 use lib.Dec.{ltb}
 use lib.ListN.{length, take}
 use Rattle.records.specs.Periods.{number, Period}
-use Rattle.contract.specs.Clauses.{Clause, Blame, only, bothParties, Decision, undecided, satisfied, violated, meaning}
+use Rattle.contract.specs.Meaning.{Clause, Blame, only, bothParties, Decision, undecided, satisfied, violated, meaning}
 
 -- the decision period, 0 while undecided
 abbrev pub decisionPeriod : Decision → ℕ
