@@ -6,7 +6,7 @@ use native.Mathlib.Omega.{arith}
 use mathlib.Core.Bool.{Bool, true, false, cond}
 use mathlib.Core.List.{List, [], _∷_}
 use mathlib.Core.Logic.{_⊎_, inl, inr}
-use mathlib.Core.Path.{_≡_, refl, sym, ap, _∙_, subst}
+use mathlib.Core.Path.{_≡_, refl, sym, _∙_, subst}
 use borrow.Author.Tests.{lt-ltb, le-ltb, lt-leb, le-leb}
 use lib.Dec.{ltb, leb}
 use lib.ListN.{length, take, drop, length-take, length-drop}
@@ -243,7 +243,7 @@ shifted n k j h = go (lt-or-le n (k + j))
     go (inl l) = rw (lt-ltb n (k + j) l) (lt-ltb (n - k) j (omega arith))
     go (inr l) = rw (le-ltb n (k + j) l) (le-ltb (n - k) j (omega arith))
 
--- what makes nothing of nothing can wait for a test
+-- a function with nothing decided at z, applied to z or x by a test
 through : {A : Type 0} (f : A → Decision) (z : A) → f z ≡ undecided → (t : Bool) (x : A) → f (cond t z x) ≡ cond t undecided (f x)
 through f z e true x = e
 through f z e false x = refl

@@ -71,25 +71,25 @@ pub record WorkedExamples : Type 0 where
       (one-period just-a just-a ∷ one-period just-b just-a ∷ [])
       ≡ violated 2 (only party1)
 
--- one for each point of "What students hand in"; each comes out differently under the student's reading
+-- one for each point of "What students hand in", two where it names two; the student's answer stands in brackets
 pub record StudentExamples : Type 0 where
-  -- party 2's later breach in the other half adds no blame
+  -- party 2's later breach in the other half adds no blame (violated at 1, blame 3)
   pub no-later-blame :
       meaning (both (duty party1 a) (then (ban party2 b) (duty party2 b))) (one-period nothing just-a ∷ one-period just-b nothing ∷ [])
       ≡ violated 1 (only party1)
-  -- the half that owes b in period 3 dies with the violated whole: the clause that repeat began anew is not violated by it
+  -- the half that owes b in period 3 dies with the whole in period 1, so nothing is to be repaired in period 4 (violated at 4, blame 1)
   pub no-living-half :
       meaning (repeat (repair (both (duty party1 a) (then (ban party1 b) (then (ban party1 b) (duty party2 b)))) (ban party1 a)))
       (one-period nothing nothing ∷ one-period nothing nothing ∷ one-period just-a just-a ∷ one-period just-a just-a ∷ [])
       ≡ undecided
-  -- the clause that owes a in period 2 dies with the finished `until`
+  -- the clause that owes a in period 2 dies with the `until` that finished in period 1 (violated at 2, blame 2)
   pub no-living-clause :
       meaning (repeat (until (then (ban party1 a) (duty party2 a)) (atom (tries party1 b))))
       (one-period just-b nothing ∷ one-period nothing nothing ∷ [])
       ≡ undecided
-  -- party 1 owes b only from period 2 on
+  -- party 1 owes b only from period 2 on (violated at 1, blame 1)
   pub right-starts-after : meaning (then (duty party1 a) (duty party1 b)) (one-period just-a just-a ∷ one-period just-b just-b ∷ []) ≡ satisfied 2
-  -- the violation in the accepting period counts
+  -- the violation in the accepting period counts (satisfied at 1)
   pub violation-first : meaning (until (duty party1 a) (atom (tries party1 b))) (one-period just-b just-a ∷ []) ≡ violated 1 (only party1)
 
 -- sentences of "Expressions" and "Meaning of clauses" that no example above reaches

@@ -1,7 +1,7 @@
 -- How many actions there are, and how long a period record is. Document 01, "Records".
 use Prim.Native.Nat.{ℕ}
 
--- actions are numbered from 0 up to this number, which is no action
+-- how many actions there are, numbered from 0
 abbrev pub actions : ℕ
 actions = 16
 

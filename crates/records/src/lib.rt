@@ -9,7 +9,7 @@ ghost use Rattle.records.specs.Fields.{bytes, HoldsField};
 ghost use Rattle.records.specs.Marks.{contractMark, periodMark, rowMark, endMark, marked};
 ghost use Rattle.records.specs.Periods.{bit, HoldsPeriod};
 
-// Actions are numbered from 0 up to this number, which is no action.
+// How many actions there are, numbered from 0.
 pub const ACTIONS: u32 = 16;
 
 // The bytes of a period record.
@@ -90,6 +90,7 @@ pub fn put8(s: &mut [u8], at: usize, x: u64)
     put4(s, at + 4, (x / 4294967296) as u32);
 }
 
+// Whether the record at a place starts with this mark.
 fn marked(s: &[u8], at: usize, mark: [u8; 2]) -> bool
     requires { ⌜ at + 2 ≤ length (now s) ⌝ }
     ensures { λ r. ⌜ r ≡ marked (now (s .entry)) at mark ⌝ }
@@ -97,7 +98,7 @@ fn marked(s: &[u8], at: usize, mark: [u8; 2]) -> bool
     s[at] == mark[0] && s[at + 1] == mark[1]
 }
 
-// A record at a place starts with a contract record's mark, and so on for the other records.
+// Whether a contract record's mark stands at a place; then a period record's, a row's and an end record's.
 pub fn contract_marked(s: &[u8], at: usize) -> bool
     requires { ⌜ at + 2 ≤ length (now s) ⌝ }
     ensures { λ r. ⌜ r ≡ marked (now (s .entry)) at contractMark ⌝ }
@@ -126,7 +127,7 @@ pub fn end_marked(s: &[u8], at: usize) -> bool
     marked(s, at, END_MARK)
 }
 
-// An action's number.
+// Whether a number is an action's.
 pub fn is_action(a: u32) -> bool
     ensures { λ r. ⌜ r ≡ ltb a actions ⌝ }
 {
