@@ -9,7 +9,8 @@ use Rattle.records.specs.Periods.{Party, party1, party2, Period}
 use Rattle.contract.specs.Expressions.{any, tries, atom, seq, star, holdsEmpty}
 use Rattle.contract.specs.Meaning.{Literal, Clause, literal, both, then, repair, repeat, when, until}
 use Rattle.contract.specs.Meaning.{only, bothParties, undecided, satisfied, violated, meaning}
-use Rattle.contract.specs.Verdicts.{verdict, verdictNumber, verdictName, blame, decisionPeriod}
+use Rattle.records.specs.Verdicts.{verdictNumber, verdictName}
+use Rattle.contract.specs.Verdicts.{verdict, blame, decisionPeriod}
 
 -- "a, b are actions 0, 1"
 abbrev pub a : ℕ

@@ -4,10 +4,10 @@ use mathlib.Core.Bool.{cond}
 use mathlib.Core.List.{List, []}
 use mathlib.Core.Logic.{_⊎_}
 use mathlib.Core.Path.{_≡_}
-use Prim.Native.String.{String}
 use lib.Dec.{ltb}
 use lib.ListN.{length, take}
 use Rattle.records.specs.Periods.{number, Period}
+use Rattle.records.specs.Verdicts.{Verdict, «open», met, broken, met-after, broken-after}
 use Rattle.contract.specs.Meaning.{Clause, Blame, only, bothParties, Decision, undecided, satisfied, violated, meaning}
 
 -- the decision period, 0 while undecided
@@ -27,31 +27,11 @@ blame undecided = 0
 blame (satisfied k) = 0
 blame (violated k b) = blameNumber b
 
--- 002's five values
-pub data Verdict : Type 0 where
-  «open» met broken met-after broken-after : Verdict
-
 -- after n periods: open while undecided; met or broken when n is the decision period; met-after or broken-after later
 abbrev pub verdict : Decision → ℕ → Verdict
 verdict undecided n = «open»
 verdict (satisfied k) n = cond (ltb n k) «open» (cond (ltb k n) met-after met)
 verdict (violated k b) n = cond (ltb n k) «open» (cond (ltb k n) broken-after broken)
-
--- a verdict's number
-abbrev pub verdictNumber : Verdict → ℕ
-verdictNumber «open» = 0
-verdictNumber met = 1
-verdictNumber broken = 2
-verdictNumber met-after = 3
-verdictNumber broken-after = 4
-
--- a verdict's name
-abbrev pub verdictName : Verdict → String
-verdictName «open» = "open"
-verdictName met = "met"
-verdictName broken = "broken"
-verdictName met-after = "met-after"
-verdictName broken-after = "broken-after"
 
 -- A clause decides a list at one period or at none: there is a decision such that each beginning of the list is open if it is
 -- shorter than the deciding period, and otherwise has exactly that decision. So a decision stands on every longer list.

@@ -1,8 +1,9 @@
 -- Parties, periods and what is tried in them. Document 01, "Records", the period record.
 use Prim.Native.Nat.{ℕ, _+_, _/_, _%_, _^_, _<_}
 use mathlib.Core.Path.{_≡_}
-use mathlib.Core.Bool.{Bool, _&&_}
+use mathlib.Core.Bool.{Bool, _&&_, cond}
 use mathlib.Core.List.{List}
+use mathlib.Core.Option.{Option, none, some}
 use lib.Dec.{eqb}
 use Rattle.records.specs.declared.Attempts.{Attempts}
 use Rattle.records.specs.Limits.{actions}
@@ -16,6 +17,10 @@ pub data Party : Type 0 where
 abbrev pub number : Party → ℕ
 number party1 = 1
 number party2 = 2
+
+-- the party of a number in records, if it is one
+abbrev pub partyOf : ℕ → Option Party
+partyOf n = cond (eqb n 1) (some party1) (cond (eqb n 2) (some party2) none)
 
 -- p is the record's party, q the other
 abbrev pub other : Party → Party

@@ -1,0 +1,10 @@
+-- The laws of rows, images, states, the row machine, the tests and the calls.
+pub mod Refusals
+pub mod Rows
+pub mod Images
+pub mod States
+pub mod RowKinds
+pub mod Computing
+pub mod Machine
+pub mod Calls
+pub mod Steps

@@ -1,0 +1,32 @@
+-- `runner::blame` meets its contract.
+-- Assumes nothing.
+use native.Mathlib.Omega.{arith}
+use borrow.Author.Needs.{needs}
+use Rattle.runner.proofs.Computing.{blame-of, blame-small}
+use Rattle.runner.proofs.blame.Statement.{statement}
+use Rattle.runner.proofs.blame.Tie as tie
+use Rattle.runner.proofs.blame.Reads as reads
+use Rattle.runner.proofs.blame.Lts as lts
+
+-- src/lib.rt:136:5
+cast-result : tie.Need-cast-result
+cast-result c = search needs
+
+-- src/lib.rt:136:21
+cast-result-2 : tie.Need-cast-result-2
+cast-result-2 c = search needs
+
+-- src/lib.rt:136:16
+mul-result : tie.Need-mul-result
+mul-result c = omega (arith, blame-small (c .args .v1) (c .args .v2))
+
+-- src/lib.rt:136:5
+add-result : tie.Need-add-result
+add-result c = omega (arith, blame-small (c .args .v1) (c .args .v2))
+
+-- src/lib.rt:133:1
+returns : tie.Need-returns
+returns c = blame-of (c .args .v1) (c .args .v2)
+
+pub blame-spec : {M : Type 1} → statement M
+blame-spec = tie.close (tie.spec cast-result cast-result-2 mul-result add-result returns)

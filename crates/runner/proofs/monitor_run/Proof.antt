@@ -1,0 +1,106 @@
+-- `runner::monitor_run` meets its contract: no room for the reply, refused, or every period of the trace taken.
+-- Assumes nothing.
+use native.Mathlib.Omega.{arith}
+use mathlib.Core.Path.{_≡_, sym, _∙_}
+use lib.ListN.{length}
+use Rattle.runner.specs.declared.Test.the-variants.{Passed}
+use Rattle.runner.specs.Refusals.{recordCount, runTest}
+use Rattle.runner.specs.Calls.{longBytes, refusal, periodsOf, run}
+use Rattle.runner.proofs.Calls.{number-passed, gives-no-room, gives-refused, gives-passed}
+use Rattle.runner.proofs.Steps.{ready-long, length-periodsOf, later-read, run-ready}
+use borrow.Author.Needs.{needs}
+use Rattle.runner.proofs.monitor_run.Statement.{statement}
+use Rattle.runner.proofs.monitor_run.Tie as tie
+use Rattle.runner.proofs.monitor_run.Reads as reads
+use Rattle.runner.proofs.monitor_run.Lts as lts
+use Rattle.runner.proofs.number.Reads as number-reads
+use Rattle.runner.proofs.put_answer.Reads as put-answer-reads
+use Rattle.runner.proofs.put_long.Reads as put-long-reads
+use Rattle.runner.proofs.run_test.Reads as run-test-reads
+use Rattle.runner.proofs.take_periods.Reads as take-periods-reads
+
+returns : tie.Need-returns
+unfolding run
+returns c = gives-no-room longBytes _ _ _ _ _ _ (c .if1 .taken)
+
+run-test-requires : tie.Need-run-test-requires
+run-test-requires c κs = search needs
+
+number-requires : tie.Need-number-requires
+number-requires c κs = search needs
+
+put-long-requires : tie.Need-put-long-requires
+put-long-requires c κs = search needs
+
+same-length : tie.Need-same-length
+same-length c = search needs
+
+same-length-2 : tie.Need-same-length-2
+same-length-2 c = search needs
+
+returns-2 : tie.Need-returns-2
+unfolding run refusal
+returns-2 c =
+    let p = c .before .before in
+    let n = p .before .before .before in
+    let b = n .before in
+    rw (← b .run-test .ensures)
+    (gives-refused longBytes (b .run-test .result) _ _ _ _ _ (b .before .before .if1 .left) (λ e. p .before .before .if2 .taken (n .number .ensures ∙ e)) _ (p .put-long .ensures))
+
+-- the tests are passed
+passed : (c : lts.Else2 (run-test-reads.Asked, run-test-reads.Learnt, number-reads.Asked, number-reads.Learnt, put-long-reads.Asked, put-long-reads.Learnt, take-periods-reads.Asked, take-periods-reads.Learnt, put-answer-reads.Asked, put-answer-reads.Learnt) reads.Pre reads.Post)
+    → runTest (c .before .before .before .before .before .before .before .before .before .args .image .now) (c .before .before .before .before .before .before .before .before .before .args .state .now) (c .before .before .before .before .before .before .before .before .before .args .trace .now) ≡ Passed
+passed c =
+    let n = c .before in
+    let b = n .before in
+    sym (b .run-test .ensures) ∙ number-passed (b .run-test .result) (sym (n .number .ensures) ∙ c .if2 .left)
+
+take-periods-requires : tie.Need-take-periods-requires
+unfolding recordCount
+take-periods-requires c κs =
+    let a = c .before .before .before .before .before .before .before .before .before .before .args in
+    (run-ready (a .image .now) (a .state .now) (a .trace .now) (passed (c .before)), omega arith)
+
+put-answer-requires : tie.Need-put-answer-requires
+put-answer-requires c κs =
+    let a = c .before .before .before .before .before .before .before .before .before .before .before .before .before .before .before .args in
+    let h = run-ready (a .image .now) (a .state .now) (a .trace .now) (passed (c .before .before .before .before .before .before)) in
+    (c .before .before .before .before .before .before .before .before .before .before .if1 .left, omega (arith, c .before .before .before .state .given, ready-long (a .image .now) (a .state .now) (recordCount (a .trace .now)) h))
+
+same-length-3 : tie.Need-same-length-3
+same-length-3 c = search needs
+
+same-length-4 : tie.Need-same-length-4
+same-length-4 c = search needs
+
+returns-3 : tie.Need-returns-3
+unfolding run recordCount
+returns-3 c =
+    let a = c .before .before .before .before .before .before .before .before .before .before .before .before .before .before .before .before .before .before .args in
+    let t = a .trace .now in
+    let h = run-ready (a .image .now) (a .state .now) t (passed (c .before .before .before .before .before .before .before .before .before)) in
+    let took = c .before .before .before .before .before .before .before .take-periods .ensures in
+    let n = c .before .before .before .before .before .before .before .before .before .before in
+    let b = n .before in
+    let w = periodsOf t (recordCount t) in
+    let e : length w ≡ recordCount t = length-periodsOf t (recordCount t) in
+    rw (← b .run-test .ensures)
+    (gives-passed longBytes (b .run-test .result) _ _ _ _ _ (b .before .before .if1 .left) (sym (n .number .ensures) ∙ c .before .before .before .before .before .before .before .before .before .if2 .left) _ _ took
+    (rw (took, later-read (a .image .now) (a .state .now) (recordCount t) h w (omega arith)) at (c .before .before .put-answer .ensures)))
+
+pub monitor-run-spec : {M : Type 1} → statement M
+monitor-run-spec =
+    tie.close
+    (tie.spec
+    returns
+    run-test-requires
+    number-requires
+    put-long-requires
+    same-length
+    same-length-2
+    returns-2
+    take-periods-requires
+    put-answer-requires
+    same-length-3
+    same-length-4
+    returns-3)

@@ -1,0 +1,41 @@
+-- `runner::put_answer` meets its contract: verdict, blame and decision period are those that are read of the state.
+-- Assumes nothing.
+use borrow.Author.Needs.{needs}
+use Rattle.runner.specs.States.{stateOf}
+use Rattle.runner.specs.Calls.{answer}
+use Rattle.runner.proofs.put_answer.Statement.{statement}
+use Rattle.runner.proofs.put_answer.Tie as tie
+
+verdict-requires : tie.Need-verdict-requires
+verdict-requires c κs = search needs
+
+shared-slice-read-wide : tie.Need-shared-slice-read-wide
+shared-slice-read-wide c = search needs
+
+wide-requires : tie.Need-wide-requires
+wide-requires c κs = search needs
+
+get4-requires : tie.Need-get4-requires
+get4-requires c κs = search needs
+
+put-long-requires : tie.Need-put-long-requires
+put-long-requires c κs = search needs
+
+same-length : tie.Need-same-length
+same-length c = search needs
+
+returns : tie.Need-returns
+unfolding answer stateOf
+returns c = cc
+
+pub put-answer-spec : {M : Type 1} → statement M
+put-answer-spec =
+    tie.close
+    (tie.spec
+    verdict-requires
+    shared-slice-read-wide
+    wide-requires
+    get4-requires
+    put-long-requires
+    same-length
+    returns)

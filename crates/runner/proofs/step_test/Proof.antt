@@ -1,0 +1,65 @@
+-- `runner::step_test` meets its contract: the image and the state, then the record, then the count.
+-- Assumes nothing.
+use borrow.Author.Needs.{needs}
+use mathlib.Core.Path.{_≡_, sym, _∙_}
+use Rattle.runner.specs.declared.Test.the-variants.{Passed}
+use Rattle.runner.specs.Refusals.{readyTest, stepTest}
+use Rattle.runner.proofs.Refusals.{refused-first, ready-head}
+use Rattle.runner.proofs.step_test.Statement.{statement}
+use Rattle.runner.proofs.step_test.Tie as tie
+use Rattle.runner.proofs.step_test.Reads as reads
+use Rattle.runner.proofs.step_test.Lts as lts
+use Rattle.runner.proofs.ready_test.Reads as ready-test-reads
+use Rattle.runner.proofs.record_test.Reads as record-test-reads
+use Rattle.runner.proofs.count_test.Reads as count-test-reads
+
+ready-test-requires : tie.Need-ready-test-requires
+ready-test-requires c κs = search needs
+
+enum-told : tie.Need-enum-told
+enum-told c = search needs
+
+returns : tie.Need-returns
+unfolding stepTest
+returns c =
+    let t = c .before .ready-test in
+    refused-first (t .result) _ _ (t .ensures) (c .match .keys2)
+
+-- past the tests of the image and the state
+ready : (c : lts.After-enum-told (ready-test-reads.Asked, ready-test-reads.Learnt, record-test-reads.Asked, record-test-reads.Learnt, count-test-reads.Asked, count-test-reads.Learnt) reads.Pre reads.Post)
+    → let a = c .before .before .before .before .before .before .args in readyTest (a .image .now) (a .state .now) ≡ Passed
+ready c = sym (c .before .before .ready-test .ensures) ∙ c .enum-told .given .1
+
+record-test-requires : tie.Need-record-test-requires
+record-test-requires c κs = search needs
+
+enum-told-2 : tie.Need-enum-told-2
+enum-told-2 c = search needs
+
+returns-2 : tie.Need-returns-2
+unfolding stepTest
+returns-2 c =
+    let t = c .before .record-test in
+    rw (ready (c .before .before)) (refused-first (t .result) _ _ (t .ensures) (c .match2 .keys2))
+
+count-test-requires : tie.Need-count-test-requires
+count-test-requires c κs = ready-head _ _ (ready (c .before .before .before))
+
+returns-3 : tie.Need-returns-3
+unfolding stepTest
+returns-3 c =
+    let t = c .before .before .before .record-test in
+    rw (ready (c .before .before .before .before), ← t .ensures, c .before .enum-told2 .given .1) (c .count-test .ensures)
+
+pub step-test-spec : {M : Type 1} → statement M
+step-test-spec =
+    tie.close
+    (tie.spec
+    ready-test-requires
+    enum-told
+    returns
+    record-test-requires
+    enum-told-2
+    returns-2
+    count-test-requires
+    returns-3)

@@ -1,0 +1,95 @@
+-- What begin, step and run leave in every byte that they were lent. Document 01, "Calls" and "Replies that refuse".
+use Prim.Native.Nat.{ℕ, zero, suc, _+_, _*_}
+use mathlib.Core.Bool.{Bool, cond}
+use mathlib.Core.List.{List, [], _∷_, _++_}
+use mathlib.Core.Path.{_≡_}
+use lib.Dec.{eqb, ltb}
+use lib.ListN.{length, replicate}
+use lib.Seq.{sets}
+use Rattle.records.specs.Limits.{periodBytes}
+use Rattle.records.specs.Fields.{bytes}
+use Rattle.records.specs.Periods.{Period, periodAt}
+use Rattle.records.specs.Verdicts.{verdictNumber}
+use Rattle.runner.specs.declared.Test.{Test}
+use Rattle.runner.specs.declared.Test.the-variants.{Passed}
+use Rattle.runner.specs.Images.{imageOf}
+use Rattle.runner.specs.States.{State, stateOf, stateBytes}
+use Rattle.runner.specs.Machine.{afterPeriod, afterPeriods, verdict}
+use Rattle.runner.specs.Refusals.{numberOf, placeOf, recordCount, beginTest, stepTest, runTest}
+
+-- ---- replies
+
+-- begin: number, a zero, place
+unfoldable pub shortReply : Test → List ℕ
+shortReply t = bytes 4 (numberOf t) ++ (bytes 4 0 ++ bytes 8 (placeOf t))
+
+-- step and run: number, verdict, place, blame, decision period
+unfoldable pub longReply : Test → ℕ → ℕ → ℕ → List ℕ
+longReply t v b d = bytes 4 (numberOf t) ++ (bytes 4 v ++ (bytes 8 (placeOf t) ++ (bytes 4 b ++ bytes 4 d)))
+
+abbrev pub shortBytes : ℕ
+shortBytes = 16
+
+abbrev pub longBytes : ℕ
+longBytes = 24
+
+-- "Step and run give verdict, blame and decision period of the state they leave"
+unfoldable pub answer : State → List ℕ
+answer s = longReply Passed (verdictNumber (verdict s)) (s .blame) (s .decision)
+
+-- "A refusal gives its number and a place; every other field is 0"
+unfoldable pub refusal : Test → List ℕ
+refusal t = longReply t 0 0 0
+
+-- ---- what a call leaves
+
+-- its result, the state's bytes and the reply area's
+pub record Left : Type 0 where
+  pub result : ℕ
+  pub state : List ℕ
+  pub reply : List ℕ
+
+-- a call's result and the later bytes are those
+pub record Gives (left : Left) (result : ℕ) (state reply : List ℕ) : Type 0 where
+  pub result-is : result ≡ left .result
+  pub state-is : state ≡ left .state
+  pub reply-is : reply ≡ left .reply
+
+-- "If that area is too short for the reply, the call writes nothing anywhere"
+abbrev pub unwritten : List ℕ → List ℕ → Left
+unwritten state reply = record { result = 0; state = state; reply = reply }
+
+-- the reply in the area's first bytes, and the state that comes with it
+abbrev pub written : List ℕ → List ℕ → List ℕ → Left
+written state reply vs = record { result = 1; state = state; reply = sets reply 0 vs }
+
+-- a call whose reply has this many bytes, which leaves this state and reply where it is accepted and that reply where it is refused
+unfoldable pub call : ℕ → Test → (accepted refused : List ℕ) → (later : List ℕ) → (state reply : List ℕ) → Left
+call room t accepted refused later state reply =
+    cond (ltb (length reply) room) (unwritten state reply)
+    (cond (eqb (numberOf t) 0) (written later reply accepted) (written state reply refused))
+
+-- "Begin sets a state to zeros."
+unfoldable pub begin : (image state reply : List ℕ) → Left
+begin image state reply =
+    let t = beginTest image state in
+    call shortBytes t (shortReply t) (shortReply t) (replicate (length state) 0) state reply
+
+-- the periods of a trace's first n records
+unfoldable pub periodsOf : List ℕ → ℕ → List Period
+periodsOf trace zero = []
+periodsOf trace (suc n) = periodsOf trace n ++ (periodAt trace (periodBytes * n) ∷ [])
+
+-- "Step takes one period record."
+unfoldable pub step : (image state period reply : List ℕ) → Left
+step image state period reply =
+    let t = stepTest image state period in
+    let later = afterPeriod (imageOf image) (periodAt period 0) (stateOf state) in
+    call longBytes t (answer later) (refusal t) (stateBytes later) state reply
+
+-- "Run takes a state and a trace of zero or more period records and ends as that many steps would."
+unfoldable pub run : (image state trace reply : List ℕ) → Left
+run image state trace reply =
+    let t = runTest image state trace in
+    let later = afterPeriods (imageOf image) (stateOf state) (periodsOf trace (recordCount trace)) in
+    call longBytes t (answer later) (refusal t) (stateBytes later) state reply
