@@ -8,3 +8,5 @@ pub mod Computing
 pub mod Machine
 pub mod Calls
 pub mod Steps
+pub mod StepCalls
+pub mod Runs

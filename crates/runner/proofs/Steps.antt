@@ -1,6 +1,6 @@
 -- What the code of a period leaves in a sound state's bytes is what the row machine says.
 -- Assumes nothing.
-use Prim.Native.Nat.{ℕ, zero, suc, _+_, _*_, _-_, _/_, _≤_, _<_, _^_}
+use Prim.Native.Nat.{ℕ, zero, suc, _+_, _*_, _-_, _/_, _%_, _≤_, _<_, _^_}
 use native.Mathlib.Nat.{le-refl}
 use native.Mathlib.Numerals.{add-one}
 use native.Mathlib.Omega.{arith}
@@ -23,10 +23,10 @@ use Rattle.runner.specs.Limits.{headBytes, maxPeriods}
 use Rattle.runner.specs.Images.{Image, rowCount, imageOf}
 use Rattle.runner.specs.States.{State, stateOf, stateBytes, allAtMost, sound}
 use Rattle.runner.specs.Machine.{byteOf, isTrue, newValues, valuesAfter, outcomeOf, blameOf, decided, counted, afterPeriod, afterPeriods}
-use Rattle.runner.specs.Refusals.{require, firstOf, imageTest, stateTest, recordCount, marksTest, recordTest, traceTest, countTest, readyTest, stepTest, runTest}
+use Rattle.runner.specs.Refusals.{require, firstOf, imageTest, stateTest, firstFailing, recordCount, markedAt, marksTest, recordTest, traceTest, countTest, readyTest, stepTest, runTest}
 use Rattle.runner.specs.Calls.{periodsOf}
 use Rattle.runner.specs.Computing.{soundHead, newBits, RowValues, Computed, withDecision, decidedBytes, Ready}
-use Rattle.runner.proofs.Refusals.{first-passed, require-passed, period-refused, count-refused, state-passed, ready-passed}
+use Rattle.runner.proofs.Refusals.{all-passed, first-passed, require-passed, period-refused, count-refused, state-passed, ready-passed}
 use Rattle.runner.proofs.Images.{length-rowsOf}
 use Rattle.runner.proofs.States.{Sound, sound-facts, facts-sound, sound-split, stateBytes-stateOf, stateOf-stateBytes, part-rest, length-stateBytes}
 use Rattle.runner.proofs.Computing.{isTrue-byteOf}
@@ -231,6 +231,14 @@ step-length image state period e =
 pub run-ready : (image state trace : List ℕ) → runTest image state trace ≡ Passed → Ready image state (recordCount trace)
 unfolding runTest
 run-ready image state trace e = tests-ready image state (traceTest trace) (recordCount trace) e .0
+
+pub run-marks : (image state trace : List ℕ) → runTest image state trace ≡ Passed → (i : ℕ) → i < recordCount trace → markedAt trace i ≡ true
+unfolding runTest traceTest marksTest
+run-marks image state trace e =
+    let n = recordCount trace in
+    let bad = firstFailing (markedAt trace) 0 n in
+    let t = first-passed (require (eqb (length trace % periodBytes) 0) (BadPeriod 0)) (marksTest trace) (tests-ready image state (traceTest trace) n e .1) in
+    all-passed (markedAt trace) n (eqb-true bad n (require-passed (eqb bad n) (BadPeriod bad) (period-refused bad) (t .1)))
 
 -- the state after one period is read back
 pub step-read : (image l : List ℕ) → Ready image l 1 → (p : Period)

@@ -6,4 +6,5 @@ pub mod States
 pub mod Machine
 pub mod Refusals
 pub mod Calls
+pub mod StepCalls
 pub mod Computing

@@ -1,0 +1,258 @@
+-- A run ends as the steps of its records do, and is refused at the first step that would be.
+-- Assumes nothing.
+use Prim.Native.Nat.{ℕ, zero, suc, _+_, _*_, _-_, _%_, _≤_, _<_}
+use native.Mathlib.Nat.{add-zero}
+use native.Mathlib.Numerals.{add-one}
+use native.Mathlib.Omega.{arith}
+use mathlib.Core.Bool.{Bool, true, false, cond, false≢true}
+use mathlib.Core.List.{List, [], _∷_, _++_}
+use mathlib.Core.Logic.{_⊎_, ⊎-elim}
+use mathlib.Core.Path.{_≡_, refl, sym, ap, _∙_}
+use borrow.Author.Tests.{le-leb, le-ltb, lt-ltb, eq-eqb, ne-eqb}
+use lib.Dec.{eqb, ltb, leb}
+use lib.ListN.{length, getD, take, drop, length-drop}
+use lib.Seq.{sets, length-take-le, getD-take, getD-drop, drop-drop, take-take}
+use Rattle.records.specs.Limits.{periodBytes}
+use Rattle.records.specs.Fields.{AllBytes, field, value}
+use Rattle.records.specs.Marks.{marked}
+use Rattle.records.specs.Periods.{Period, periodAt}
+use Rattle.records.proofs.Numbers.{lt-or-le}
+use Rattle.records.proofs.Written.{drop-take}
+use Rattle.runner.specs.declared.Test.{Test}
+use Rattle.runner.specs.declared.Test.the-variants.{Passed, BadPeriod, FullCount}
+use Rattle.runner.specs.Limits.{headBytes, maxPeriods}
+use Rattle.runner.specs.Images.{rowCount, imageOf}
+use Rattle.runner.specs.States.{State, stateOf, stateBytes}
+use Rattle.runner.specs.Machine.{afterPeriod, afterPeriods}
+use Rattle.runner.specs.Refusals.{numberOf, firstOf, require, firstFailing, imageTest, stateTest, recordCount, markedAt, marksTest, recordTest, traceTest, countTest, readyTest, stepTest, runTest}
+use Rattle.runner.specs.Calls.{longBytes, answer, Left, periodsOf, step, run}
+use Rattle.runner.specs.StepCalls.{StepCall, accepted, stateAfterCall, stateAfter, acceptedCount, recordAt, callsOf, EndsAsSteps, RefusedAt}
+use Rattle.runner.specs.Computing.{Ready}
+use Rattle.runner.proofs.Refusals.{failing-below, failing-fails, all-pass, first-refused, ready-passed}
+use Rattle.runner.proofs.States.{stateBytes-stateOf}
+use Rattle.runner.proofs.Machine.{after-snoc, periods-afterPeriods}
+use Rattle.runner.proofs.Calls.{number-passed, call-no-room, call-passed, call-refused}
+use Rattle.runner.proofs.Steps.{ready-long, length-periodsOf, later-read, later-ready, run-ready, run-marks}
+use Rattle.runner.proofs.StepCalls.{accepted-step, taken-step}
+
+-- ---- the records of a trace
+
+module _ (trace : List ℕ) (k : ℕ) (h : periodBytes * k + periodBytes ≤ length trace) where
+  length-recordAt : length (recordAt trace k) ≡ periodBytes
+  unfolding recordAt
+  length-recordAt = length-take-le periodBytes (drop (periodBytes * k) trace) (simp length-drop (omega arith))
+
+  byte-at : (j : ℕ) → j < periodBytes → getD (recordAt trace k) j 0 ≡ getD trace (periodBytes * k + j) 0
+  unfolding recordAt
+  byte-at j i = getD-take periodBytes (drop (periodBytes * k) trace) j 0 i ∙ getD-drop (periodBytes * k) trace j 0
+
+  field-at : (j w : ℕ) → j + w ≤ periodBytes → field (recordAt trace k) j w ≡ field trace (periodBytes * k + j) w
+  unfolding recordAt field
+  field-at j w i =
+      ap value (rw (drop-take j periodBytes (drop (periodBytes * k) trace), drop-drop j (periodBytes * k) trace) (take-take w (periodBytes - j) (drop (periodBytes * k + j) trace) (omega arith)))
+
+  record-period : periodAt (recordAt trace k) 0 ≡ periodAt trace (periodBytes * k)
+  unfolding periodAt
+  record-period = rw (field-at 2 2 (omega arith), field-at 4 2 (omega arith))
+
+  record-marked : markedAt (recordAt trace k) 0 ≡ markedAt trace k
+  unfolding marked
+  record-marked =
+      let first : getD (recordAt trace k) 0 0 ≡ getD trace (periodBytes * k) 0 = byte-at 0 (omega arith) ∙ rw add-zero in
+      rw (first, byte-at 1 (omega arith))
+
+  record-test : markedAt trace k ≡ true → recordTest (recordAt trace k) ≡ Passed
+  unfolding recordTest marksTest recordCount firstFailing
+  record-test m = rw (length-recordAt, record-marked ∙ m)
+
+  record-refused : markedAt trace k ≡ false → recordTest (recordAt trace k) ≡ BadPeriod 0
+  unfolding recordTest marksTest recordCount firstFailing
+  record-refused m = rw (length-recordAt, record-marked ∙ m)
+
+-- ---- steps that are accepted, and steps that are refused
+
+passes-count : (s : State) (n : ℕ) → s .periods + n < maxPeriods + 1 → countTest s n ≡ Passed
+unfolding countTest
+passes-count s n h = rw (le-ltb maxPeriods (s .periods + n) (omega arith))
+
+module _ (image l : List ℕ) where
+  step-passes : Ready image l 1 → (r : List ℕ) → recordTest r ≡ Passed → stepTest image l r ≡ Passed
+  unfolding stepTest readyTest
+  step-passes h r t = rw (h .good, h .sound, t) (passes-count (stateOf l) 1 (h .left))
+
+  step-refuses : {n : ℕ} → Ready image l n → (r : List ℕ) → recordTest r ≡ BadPeriod 0 → stepTest image l r ≡ BadPeriod 0
+  unfolding stepTest readyTest
+  step-refuses h r t = rw (h .good, h .sound, t)
+
+  step-full : Ready image l 0 → stateOf l .periods ≡ maxPeriods → (r : List ℕ) → recordTest r ≡ Passed → stepTest image l r ≡ FullCount 0
+  unfolding stepTest readyTest countTest
+  step-full h e r t = rw (h .good, h .sound, t, e)
+
+  step-accepts : Ready image l 1 → (c : StepCall) → longBytes ≤ length (c .reply) → recordTest (c .period) ≡ Passed → accepted image l c ≡ true
+  unfolding accepted
+  step-accepts h c r t = rw (le-leb longBytes (length (c .reply)) r) (eq-eqb (numberOf (stepTest image l (c .period))) 0 (ap numberOf (step-passes h (c .period) t)))
+
+ready-less : (image l : List ℕ) (j n : ℕ) → j ≤ n → Ready image l n → Ready image l j
+ready-less image l j n i h = record { good = h .good; sound = h .sound; left = omega (arith, h .left) }
+
+-- ---- the last call of a list
+
+module _ (image : List ℕ) where
+  after-last : (state : List ℕ) (cs : List StepCall) (c : StepCall)
+      → stateAfter image state (cs ++ (c ∷ [])) ≡ stateAfterCall image (stateAfter image state cs) c
+  unfolding stateAfter
+  after-last state [] c = refl
+  after-last state (d ∷ cs) c = after-last (stateAfterCall image state d) cs c
+
+  count-last : (state : List ℕ) (cs : List StepCall) (c : StepCall)
+      → acceptedCount image state (cs ++ (c ∷ [])) ≡ acceptedCount image state cs + cond (accepted image (stateAfter image state cs) c) 1 0
+  unfolding stateAfter acceptedCount
+  count-last state [] c = omega arith
+  count-last state (d ∷ cs) c = rw (count-last (stateAfterCall image state d) cs c) (omega arith)
+
+-- ---- the first k records of a trace, each marked as a period record
+
+-- the first k steps are accepted, and leave what the first k periods leave
+pub record Accepts (image state trace reply : List ℕ) (k : ℕ) : Type 0 where
+  pub all : acceptedCount image state (callsOf trace reply k) ≡ k
+  pub leaves : stateAfter image state (callsOf trace reply k) ≡ stateBytes (afterPeriods (imageOf image) (stateOf state) (periodsOf trace k))
+
+module _ (image state trace reply : List ℕ) (n : ℕ) (h : Ready image state n) (b : AllBytes state) (r : longBytes ≤ length reply) where
+  -- the step after k periods is accepted with a marked record
+  next-accepted : (k : ℕ) → suc k ≤ n → periodBytes * k + periodBytes ≤ length trace → markedAt trace k ≡ true
+      → accepted image (stateBytes (afterPeriods (imageOf image) (stateOf state) (periodsOf trace k))) (record { period = recordAt trace k; reply = reply }) ≡ true
+  next-accepted k i f m =
+      let w = periodsOf trace k in
+      let e : length w ≡ k = length-periodsOf trace k in
+      let l = stateBytes (afterPeriods (imageOf image) (stateOf state) w) in
+      step-accepts image l (ready-less image l 1 (n - length w) (omega arith) (later-ready image state n h w (omega arith)))
+      (record { period = recordAt trace k; reply = reply }) r (record-test trace k f m)
+
+  pub accepts : (k : ℕ) → k ≤ n → periodBytes * k ≤ length trace → ((i : ℕ) → i < k → markedAt trace i ≡ true) → Accepts image state trace reply k
+  unfolding callsOf periodsOf afterPeriods acceptedCount stateAfter
+  accepts zero i j m = record { all = refl; leaves = sym (stateBytes-stateOf state b (omega (arith, ready-long image state n h))) }
+  accepts (suc k) i j m =
+      let w = periodsOf trace k in
+      let e : length w ≡ k = length-periodsOf trace k in
+      let l = stateBytes (afterPeriods (imageOf image) (stateOf state) w) in
+      let c : StepCall = record { period = recordAt trace k; reply = reply } in
+      let before = accepts k (omega arith) (omega arith) (λ x y. m x (omega arith)) in
+      let f : periodBytes * k + periodBytes ≤ length trace = omega arith in
+      let next = next-accepted k i f (m k (omega arith)) in
+      record {
+        all = count-last image state (callsOf trace reply k) c ∙ rw (before .all, before .leaves, next) (add-one k);
+        leaves = after-last image state (callsOf trace reply k) c
+            ∙ rw (before .leaves, taken-step image l c next, later-read image state n h w (omega arith), record-period trace k f)
+            (ap stateBytes (sym (after-snoc (imageOf image) (stateOf state) w (periodAt trace (periodBytes * k)))));
+      }
+
+  -- the next step's reply
+  pub next-reply : (k : ℕ) → suc k ≤ n → periodBytes * suc k ≤ length trace → ((i : ℕ) → i < suc k → markedAt trace i ≡ true)
+      → step image (stateAfter image state (callsOf trace reply k)) (recordAt trace k) reply .reply
+      ≡ sets reply 0 (answer (afterPeriods (imageOf image) (stateOf state) (periodsOf trace (suc k))))
+  unfolding periodsOf
+  next-reply k i j m =
+      let w = periodsOf trace k in
+      let e : length w ≡ k = length-periodsOf trace k in
+      let l = stateBytes (afterPeriods (imageOf image) (stateOf state) w) in
+      let c : StepCall = record { period = recordAt trace k; reply = reply } in
+      let before = accepts k (omega arith) (omega arith) (λ x y. m x (omega arith)) in
+      let f : periodBytes * k + periodBytes ≤ length trace = omega arith in
+      rw (before .leaves, after-snoc (imageOf image) (stateOf state) w (periodAt trace (periodBytes * k)), ← record-period trace k f)
+      (rw (later-read image state n h w (omega arith)) at
+      (ap (λ (x : Left). x .reply) (accepted-step image l c (next-accepted k i f (m k (omega arith))))))
+
+-- ---- a run
+
+module _ (image state trace reply : List ℕ) (b : AllBytes state) (r : longBytes ≤ length reply) where
+  -- an accepted run ends as the steps of its records do
+  pub run-ends : runTest image state trace ≡ Passed → EndsAsSteps image state trace reply
+  unfolding run recordCount periodsOf afterPeriods
+  run-ends t =
+      let n = recordCount trace in
+      let h = run-ready image state trace t in
+      let left = call-passed longBytes (runTest image state trace) _ _ _ state reply r (ap numberOf t) in
+      let each = accepts image state trace reply n h b r n (omega arith) (omega arith) (run-marks image state trace t) in
+      record {
+        all = each .all;
+        same-state = ap (λ (x : Left). x .state) left ∙ sym (each .leaves);
+        own-answer = λ e. ap (λ (x : Left). x .reply) left ∙ rw e;
+        last-reply = λ k e. ap (λ (x : Left). x .reply) left ∙ rw e (sym (next-reply image state trace reply n h b r k (omega arith) (omega arith) (λ i j. run-marks image state trace t i (omega arith))));
+      }
+
+-- ---- a refused run
+
+-- it leaves the state as it was
+pub run-keeps : (image state trace reply : List ℕ) → ¬ (runTest image state trace ≡ Passed) → run image state trace reply .state ≡ state
+unfolding run
+run-keeps image state trace reply h =
+    let t = runTest image state trace in
+    ⊎-elim (λ n. ap (λ (x : Left). x .state) (call-no-room longBytes t _ _ _ state reply n))
+    (λ n. ap (λ (x : Left). x .state) (call-refused longBytes t _ _ _ state reply n (λ e. h (number-passed t e))))
+    (lt-or-le (length reply) longBytes)
+
+-- by the image or the state: as every step is
+pub refused-ready : (image state trace period : List ℕ) → ¬ (readyTest image state ≡ Passed)
+    → runTest image state trace ≡ stepTest image state period
+unfolding runTest stepTest
+refused-ready image state trace period h =
+    first-refused (readyTest image state) _ h ∙ sym (first-refused (readyTest image state) _ h)
+
+failing-is : (ok : ℕ → Bool) (n k : ℕ) → k < n → ((i : ℕ) → i < k → ok i ≡ true) → ok k ≡ false → firstFailing ok 0 n ≡ k
+failing-is ok n k h below here =
+    let f = firstFailing ok 0 n in
+    ⊎-elim (λ (l : f < k). absurd (false≢true (sym (failing-fails ok 0 n (omega arith)) ∙ below f l)))
+    (λ l. ⊎-elim (λ (m : k < f). absurd (false≢true (sym here ∙ failing-below ok 0 n k (omega arith) m))) (λ m. omega arith) (lt-or-le k f))
+    (lt-or-le f k)
+
+module _ (image state trace : List ℕ) (h : readyTest image state ≡ Passed) (e : length trace % periodBytes ≡ 0) where
+  sound-ready : (n : ℕ) → stateOf state .periods + n ≤ maxPeriods → Ready image state n
+  sound-ready n l = let p = ready-passed image state h in record { good = p .0; sound = p .1; left = omega arith }
+
+  -- by a record's mark: at the first record of another mark, which its step refuses if the count lets the steps before it pass
+  module _ (k : ℕ) (i : k < recordCount trace) (m : (j : ℕ) → j < k → markedAt trace j ≡ true) (bad : markedAt trace k ≡ false) where
+    pub refused-mark : runTest image state trace ≡ BadPeriod k
+    unfolding runTest traceTest marksTest
+    refused-mark =
+        let f = failing-is (markedAt trace) (recordCount trace) k i m bad in
+        rw (h, eq-eqb (length trace % periodBytes) 0 e, f, ne-eqb k (recordCount trace) (λ q. omega arith))
+
+    pub refused-mark-step : (reply : List ℕ) → AllBytes state → longBytes ≤ length reply → stateOf state .periods + k ≤ maxPeriods
+        → RefusedAt image state trace reply k (BadPeriod 0)
+    unfolding recordCount
+    refused-mark-step reply b r l =
+        let ready = sound-ready k l in
+        let w = periodsOf trace k in
+        let q : length w ≡ k = length-periodsOf trace k in
+        let a = accepts image state trace reply k ready b r k (omega arith) (omega arith) m in
+        record {
+          before = a .all;
+          refuses = rw (a .leaves) (step-refuses image (stateBytes (afterPeriods (imageOf image) (stateOf state) w))
+              (later-ready image state k ready w (omega arith)) (recordAt trace k) (record-refused trace k (omega arith) bad));
+        }
+
+  -- by the count: at the first record too many, which its step refuses
+  module _ (m : (j : ℕ) → j < recordCount trace → markedAt trace j ≡ true) (l : maxPeriods < stateOf state .periods + recordCount trace) where
+    pub refused-count : runTest image state trace ≡ FullCount (maxPeriods - stateOf state .periods)
+    unfolding runTest traceTest marksTest countTest
+    refused-count =
+        let n = recordCount trace in
+        rw (h, eq-eqb (length trace % periodBytes) 0 e, all-pass (markedAt trace) n m, eq-eqb n n refl, lt-ltb maxPeriods (stateOf state .periods + n) l)
+
+    pub refused-count-step : (reply : List ℕ) → AllBytes state → longBytes ≤ length reply → stateOf state .periods ≤ maxPeriods
+        → RefusedAt image state trace reply (maxPeriods - stateOf state .periods) (FullCount 0)
+    unfolding recordCount
+    refused-count-step reply b r small =
+        let k = maxPeriods - stateOf state .periods in
+        let ready = sound-ready k (omega arith) in
+        let w = periodsOf trace k in
+        let q : length w ≡ k = length-periodsOf trace k in
+        let a = accepts image state trace reply k ready b r k (omega arith) (omega arith) (λ j i. m j (omega arith)) in
+        let last = stateBytes (afterPeriods (imageOf image) (stateOf state) w) in
+        record {
+          before = a .all;
+          refuses = rw (a .leaves) (step-full image last
+              (ready-less image last 0 (k - length w) (omega arith) (later-ready image state k ready w (omega arith)))
+              (rw (later-read image state k ready w (omega arith), periods-afterPeriods (imageOf image) (stateOf state) w, q) (omega arith))
+              (recordAt trace k) (record-test trace k (omega arith) (m k (omega arith))));
+        }

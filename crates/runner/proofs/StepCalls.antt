@@ -1,0 +1,197 @@
+-- What step calls do to a state, one after the other: a refused call leaves it as it was, an accepted one counts a period and
+-- leaves a sound state of the same length, and a decision never changes. Begin's state is sound.
+-- Assumes nothing.
+use Prim.Native.Nat.{ℕ, zero, suc, _+_, _*_, _-_, _≤_, _<_, _^_}
+use native.Mathlib.Nat.{add-zero, add-assoc}
+use native.Mathlib.Numerals.{add-one}
+use native.Mathlib.Omega.{arith}
+use mathlib.Core.Bool.{Bool, true, false, not, _&&_, cond, and-eq-true-iff}
+use mathlib.Core.List.{List, [], _∷_, _++_}
+use mathlib.Core.Logic.{_⊎_, inl, inr, ⊎-elim}
+use mathlib.Core.Path.{_≡_, refl, sym, ap, _∙_}
+use borrow.Author.Tests.{leb-true, leb-false, eqb-true, eqb-false, le-leb, lt-leb, eq-eqb, ne-eqb}
+use lib.Dec.{eqb, ltb, leb}
+use lib.ListN.{length, getD, take, drop, replicate, length-drop, length-replicate, replicate-append-replicate}
+use lib.Seq.{sets, length-take-le, getD-take, getD-drop, drop-drop, take-take}
+use Rattle.records.specs.Limits.{periodBytes}
+use Rattle.records.specs.Fields.{bytes, field, value}
+use Rattle.records.specs.Marks.{marked}
+use Rattle.records.specs.Periods.{Period, periodAt}
+use Rattle.records.proofs.Numbers.{lt-or-le}
+use Rattle.records.proofs.Written.{drop-take}
+use Rattle.runner.specs.declared.Test.{Test}
+use Rattle.runner.specs.declared.Test.the-variants.{Passed, BadImage, BadState, BadPeriod, FullCount}
+use Rattle.runner.specs.Limits.{headBytes, maxPeriods}
+use Rattle.runner.specs.Images.{rowCount, imageOf}
+use Rattle.runner.specs.States.{State, stateOf, stateBytes}
+use Rattle.runner.specs.Machine.{afterPeriod, afterPeriods}
+use Rattle.runner.specs.Refusals.{numberOf, imageTest, stateLengthTest, stateTest, markedAt, marksTest, recordTest, countTest, beginTest, readyTest, stepTest, runTest}
+use Rattle.runner.specs.Calls.{shortBytes, longBytes, refusal, answer, Left, unwritten, written, call, begin, step, run}
+use Rattle.runner.specs.StepCalls.{StepCall, accepted, stateAfterCall, stateAfter, acceptedCount, recordAt, callsOf}
+use Rattle.runner.specs.Computing.{Ready}
+use Rattle.runner.proofs.Refusals.{true-or-false, first-passed, passed-first, require-passed, state-refused, ready-passed, state-passed}
+use Rattle.runner.proofs.States.{Sound}
+use Rattle.runner.proofs.Machine.{SameDecision, stays-decided, periods-after}
+use Rattle.runner.proofs.Calls.{number-passed, call-no-room, call-passed, call-refused}
+use Rattle.runner.proofs.Steps.{sound-passes, step-ready, later-ready, step-read}
+
+-- ---- one call
+
+module _ (image state : List ℕ) (c : StepCall) where
+  -- what an accepted call has shown
+  pub accepted-passed : accepted image state c ≡ true → stepTest image state (c .period) ≡ Passed
+  unfolding accepted
+  accepted-passed e =
+      let t = stepTest image state (c .period) in
+      number-passed t (eqb-true (numberOf t) 0 (and-eq-true-iff (leb longBytes (length (c .reply))) (eqb (numberOf t) 0) .0 e .1))
+
+  accepted-room : accepted image state c ≡ true → longBytes ≤ length (c .reply)
+  unfolding accepted
+  accepted-room e =
+      let t = stepTest image state (c .period) in
+      leb-true longBytes (length (c .reply)) (and-eq-true-iff (leb longBytes (length (c .reply))) (eqb (numberOf t) 0) .0 e .0)
+
+  -- an accepted call takes its record's period
+  pub accepted-step : accepted image state c ≡ true
+      → step image state (c .period) (c .reply)
+      ≡ written (stateBytes (afterPeriod (imageOf image) (periodAt (c .period) 0) (stateOf state))) (c .reply)
+      (answer (afterPeriod (imageOf image) (periodAt (c .period) 0) (stateOf state)))
+  unfolding step
+  accepted-step e =
+      call-passed longBytes (stepTest image state (c .period)) _ _ _ state (c .reply) (accepted-room e) (ap numberOf (accepted-passed e))
+
+  -- a refused call leaves the state as it was
+  pub refused-step : accepted image state c ≡ false → stateAfterCall image state c ≡ state
+  unfolding accepted stateAfterCall step
+  refused-step e =
+      let t = stepTest image state (c .period) in
+      let keeps : (left : Left) → step image state (c .period) (c .reply) ≡ left → left .state ≡ state → step image state (c .period) (c .reply) .state ≡ state
+      = λ left q k. ap (λ (x : Left). x .state) q ∙ k in
+      ⊎-elim (λ h. keeps _ (call-no-room longBytes t _ _ _ state (c .reply) h) refl)
+      (λ h. keeps _ (call-refused longBytes t _ _ _ state (c .reply) h (eqb-false (numberOf t) 0 (rw (le-leb longBytes (length (c .reply)) h) at e))) refl)
+      (lt-or-le (length (c .reply)) longBytes)
+
+  -- an accepted call leaves the state's bytes of the period after
+  pub taken-step : accepted image state c ≡ true → stateAfterCall image state c ≡ stateBytes (afterPeriod (imageOf image) (periodAt (c .period) 0) (stateOf state))
+  unfolding stateAfterCall
+  taken-step e = ap (λ (x : Left). x .state) (accepted-step e)
+
+  taken-read : accepted image state c ≡ true → stateOf (stateAfterCall image state c) ≡ afterPeriod (imageOf image) (periodAt (c .period) 0) (stateOf state)
+  taken-read e = rw (taken-step e) (step-read image state (step-ready image state (c .period) (accepted-passed e)) (periodAt (c .period) 0))
+
+  -- which of the two it is
+  pub either : (accepted image state c ≡ true) ⊎ (accepted image state c ≡ false)
+  either = true-or-false (accepted image state c)
+
+-- ---- any list of calls
+
+ready-zero : (image state : List ℕ) → Ready image state 0 → readyTest image state ≡ Passed
+unfolding readyTest
+ready-zero image state h = passed-first (imageTest image) (stateTest (rowCount image) state) (h .good) (h .sound)
+
+call-ready : (image state : List ℕ) (c : StepCall) → accepted image state c ≡ true → Ready image (stateAfterCall image state c) 0
+unfolding afterPeriods
+call-ready image state c e =
+    rw (taken-step image state c e)
+    (later-ready image state 1 (step-ready image state (c .period) (accepted-passed image state c e)) (periodAt (c .period) 0 ∷ []) (omega arith))
+
+call-sound : (image state : List ℕ) (c : StepCall) → readyTest image state ≡ Passed → readyTest image (stateAfterCall image state c) ≡ Passed
+call-sound image state c h =
+    ⊎-elim (λ e. ready-zero image (stateAfterCall image state c) (call-ready image state c e)) (λ e. rw (refused-step image state c e) h) (either image state c)
+
+sound-length : (image state : List ℕ) → readyTest image state ≡ Passed → length state ≡ headBytes + rowCount image
+sound-length image state h = state-passed (rowCount image) state (ready-passed image state h .1) .0
+
+call-decision : (image state : List ℕ) (c : StepCall) → ¬ (stateOf state .outcome ≡ 0)
+    → SameDecision (stateOf state) (stateOf (stateAfterCall image state c))
+unfolding afterPeriods
+call-decision image state c d =
+    ⊎-elim (λ e. rw (taken-read image state c e) (stays-decided (imageOf image) (stateOf state) (periodAt (c .period) 0 ∷ []) d))
+    (λ e. rw (refused-step image state c e) (record { outcome-same = refl; blame-same = refl; decision-same = refl })) (either image state c)
+
+-- a sound state of the image's length stays one for ever
+pub stays-sound : (image state : List ℕ) (cs : List StepCall) → readyTest image state ≡ Passed → readyTest image (stateAfter image state cs) ≡ Passed
+unfolding stateAfter
+stays-sound image state [] h = h
+stays-sound image state (c ∷ cs) h = stays-sound image (stateAfterCall image state c) cs (call-sound image state c h)
+
+pub same-length : (image state : List ℕ) (cs : List StepCall) → readyTest image state ≡ Passed → length (stateAfter image state cs) ≡ length state
+same-length image state cs h = sound-length image (stateAfter image state cs) (stays-sound image state cs h) ∙ sym (sound-length image state h)
+
+-- periods taken is the number of accepted calls
+pub counts-accepted : (image state : List ℕ) (cs : List StepCall)
+    → stateOf (stateAfter image state cs) .periods ≡ stateOf state .periods + acceptedCount image state cs
+unfolding stateAfter acceptedCount
+counts-accepted image state [] = sym (add-zero (stateOf state .periods))
+counts-accepted image state (c ∷ cs) =
+    let next = stateAfterCall image state c in
+    let more = acceptedCount image next cs in
+    counts-accepted image next cs
+    ∙ ⊎-elim (λ e. rw (taken-read image state c e, periods-after (imageOf image) (periodAt (c .period) 0) (stateOf state), e) (add-assoc (stateOf state .periods) 1 more))
+    (λ e. rw (refused-step image state c e, e) (omega arith)) (either image state c)
+
+-- after the decision outcome, blame and decision period never change
+pub keeps-decision : (image state : List ℕ) (cs : List StepCall) → ¬ (stateOf state .outcome ≡ 0)
+    → SameDecision (stateOf state) (stateOf (stateAfter image state cs))
+unfolding stateAfter
+keeps-decision image state [] d = record { outcome-same = refl; blame-same = refl; decision-same = refl }
+keeps-decision image state (c ∷ cs) d =
+    let h = call-decision image state c d in
+    let k = keeps-decision image (stateAfterCall image state c) cs (λ e. d (sym (h .outcome-same) ∙ e)) in
+    record {
+      outcome-same = k .outcome-same ∙ h .outcome-same;
+      blame-same = k .blame-same ∙ h .blame-same;
+      decision-same = k .decision-same ∙ h .decision-same;
+    }
+
+-- ---- begin
+
+-- the state of no periods for an image of n rows
+abbrev pub freshState : ℕ → State
+freshState n = record { outcome = 0; blame = 0; periods = 0; decision = 0; values = replicate n 0 }
+
+pub fresh-bytes : (n : ℕ) → replicate (headBytes + n) 0 ≡ stateBytes (freshState n)
+unfolding stateBytes bytes
+fresh-bytes n = sym (replicate-append-replicate headBytes n 0)
+
+zeros-at : (n i : ℕ) → _≡_ {A = ℕ} (getD (replicate n 0) i 0) 0
+zeros-at zero i = refl
+zeros-at (suc n) zero = refl
+zeros-at (suc n) (suc i) = zeros-at n i
+
+fresh-sound : (n : ℕ) → Sound n (freshState n)
+fresh-sound n =
+    record {
+      long = length-replicate n 0;
+      head = record {
+        outcome≤ = omega arith;
+        blame≤ = omega arith;
+        blame≥ = omega arith;
+        decision≥ = omega arith;
+        undecided = λ e. refl;
+        decision≤ = omega arith;
+      };
+      values≤ = λ i. omega (arith, zeros-at n i);
+      zeros = λ e i. zeros-at n i;
+    }
+
+-- begin leaves that state, which is sound
+module _ (image state reply : List ℕ) (r : shortBytes ≤ length reply) (h : beginTest image state ≡ Passed) where
+  begun : (imageTest image ≡ Passed) × (length state ≡ headBytes + rowCount image)
+  unfolding beginTest
+  begun =
+      let b = first-passed (imageTest image) (stateLengthTest (rowCount image) state) h in
+      let n = headBytes + rowCount image in
+      (b .0, eqb-true (length state) n (require-passed (eqb (length state) n) BadState state-refused (b .1)))
+
+  pub begin-state : begin image state reply .state ≡ stateBytes (freshState (rowCount image))
+  unfolding begin
+  begin-state =
+      ap (λ (x : Left). x .state) (call-passed shortBytes (beginTest image state) _ _ _ state reply r (ap numberOf h))
+      ∙ rw (begun .1) (fresh-bytes (rowCount image))
+
+  pub begin-sound : readyTest image (begin image state reply .state) ≡ Passed
+  unfolding readyTest
+  begin-sound =
+      passed-first (imageTest image) (stateTest (rowCount image) (begin image state reply .state)) (begun .0)
+      (rw begin-state (sound-passes (rowCount image) (freshState (rowCount image)) (fresh-sound (rowCount image)) (omega arith)))

@@ -1,0 +1,59 @@
+-- Lists of step calls, each given the state that the last one left. Document 01, "Calls", from "The list in demand 3".
+use Prim.Native.Nat.{ℕ, zero, suc, _+_, _*_}
+use mathlib.Core.Bool.{Bool, true, _&&_, cond}
+use mathlib.Core.List.{List, [], _∷_, _++_}
+use mathlib.Core.Path.{_≡_}
+use lib.Dec.{eqb, leb}
+use lib.ListN.{length, take, drop}
+use lib.Seq.{sets}
+use Rattle.records.specs.Limits.{periodBytes}
+use Rattle.runner.specs.declared.Test.{Test}
+use Rattle.runner.specs.States.{stateOf}
+use Rattle.runner.specs.Refusals.{numberOf, recordCount, stepTest}
+use Rattle.runner.specs.Calls.{answer, longBytes, step, run}
+
+-- a step call's own arguments: any bytes as its record, and a reply area of any length
+pub record StepCall : Type 0 where
+  pub period : List ℕ
+  pub reply : List ℕ
+
+-- a call is accepted when it has room for its reply and no test refuses it
+unfoldable pub accepted : (image state : List ℕ) → StepCall → Bool
+accepted image state c = leb longBytes (length (c .reply)) && eqb (numberOf (stepTest image state (c .period))) 0
+
+-- the state that a call leaves, and the state that a list of calls leaves
+unfoldable pub stateAfterCall : (image state : List ℕ) → StepCall → List ℕ
+stateAfterCall image state c = step image state (c .period) (c .reply) .state
+
+unfoldable pub stateAfter : (image state : List ℕ) → List StepCall → List ℕ
+stateAfter image state [] = state
+stateAfter image state (c ∷ cs) = stateAfter image (stateAfterCall image state c) cs
+
+-- how many calls of a list are accepted
+unfoldable pub acceptedCount : (image state : List ℕ) → List StepCall → ℕ
+acceptedCount image state [] = 0
+acceptedCount image state (c ∷ cs) =
+    cond (accepted image state c) 1 0 + acceptedCount image (stateAfterCall image state c) cs
+
+-- the bytes of a trace's record k
+unfoldable pub recordAt : List ℕ → ℕ → List ℕ
+recordAt trace k = take periodBytes (drop (periodBytes * k) trace)
+
+-- a step call for each of a trace's first n records, with the same reply area
+unfoldable pub callsOf : (trace reply : List ℕ) → ℕ → List StepCall
+callsOf trace reply zero = []
+callsOf trace reply (suc n) = callsOf trace reply n ++ (record { period = recordAt trace n; reply = reply } ∷ [])
+
+-- A run ends as the steps of its records do: each of them is accepted, the state is the one that they leave, and the reply is the
+-- last one's, or the state's own answer where there is none.
+pub record EndsAsSteps (image state trace reply : List ℕ) : Type 0 where
+  pub all : acceptedCount image state (callsOf trace reply (recordCount trace)) ≡ recordCount trace
+  pub same-state : run image state trace reply .state ≡ stateAfter image state (callsOf trace reply (recordCount trace))
+  pub own-answer : recordCount trace ≡ 0 → run image state trace reply .reply ≡ sets reply 0 (answer (stateOf state))
+  pub last-reply : (k : ℕ) → recordCount trace ≡ suc k
+      → run image state trace reply .reply ≡ step image (stateAfter image state (callsOf trace reply k)) (recordAt trace k) reply .reply
+
+-- the steps of a trace's first k records are accepted, and the next one is refused by this test
+pub record RefusedAt (image state trace reply : List ℕ) (k : ℕ) (t : Test) : Type 0 where
+  pub before : acceptedCount image state (callsOf trace reply k) ≡ k
+  pub refuses : stepTest image (stateAfter image state (callsOf trace reply k)) (recordAt trace k) ≡ t
