@@ -192,11 +192,6 @@ module _ (f : ℕ → ℕ) where
   mapFirst-all [] = refl
   mapFirst-all (v ∷ d) = ap (λ (l : List ℕ). f v ∷ l) (mapFirst-all d)
 
-  pub length-mapFirst : (k : ℕ) (d : List ℕ) → length (mapFirst f k d) ≡ length d
-  length-mapFirst zero d = refl
-  length-mapFirst (suc k) [] = refl
-  length-mapFirst (suc k) (v ∷ d) = ap suc (length-mapFirst k d)
-
 -- ---- what S, V1 and V2 decide
 
 pub outcome-sat : (s : Bool) → boolByte s ≡ outcomeOf s false false

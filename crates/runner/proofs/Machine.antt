@@ -1,20 +1,18 @@
 -- The row machine keeps states sound, counts periods, and never changes a decision.
 -- Assumes nothing.
-use Prim.Native.Nat.{ℕ, zero, suc, _+_, _*_, _-_, _≤_, _<_, _^_}
-use native.Mathlib.Nat.{add-zero, add-suc, suc-add, add-assoc}
-use native.Mathlib.Numerals.{add-one}
+use Prim.Native.Nat.{ℕ, _+_, _-_, _≤_}
+use native.Mathlib.Nat.{add-zero}
 use native.Mathlib.Omega.{arith}
 use mathlib.Core.Bool.{Bool, true, false, _||_, cond}
 use mathlib.Core.List.{List, [], _∷_, _++_, map}
-use mathlib.Core.Path.{_≡_, refl, sym, ap, _∙_}
-use borrow.Author.Tests.{eq-eqb, ne-eqb, eqb-true, eqb-false}
+use mathlib.Core.Path.{_≡_, refl, sym, _∙_}
+use borrow.Author.Tests.{eq-eqb, ne-eqb}
 use lib.Dec.{eqb}
-use lib.ListN.{length, getD, length-append, length-map, List·getD-map}
+use lib.ListN.{length, getD, length-map, List·getD-map}
 use Rattle.records.specs.Periods.{Period}
-use Rattle.runner.specs.Rows.{Row}
 use Rattle.runner.specs.Images.{Image}
 use Rattle.runner.specs.States.{State}
-use Rattle.runner.specs.Machine.{byteOf, isTrue, newValues, valuesAfter, outcomeOf, blameOf, decided, counted, afterPeriod, afterPeriods}
+use Rattle.runner.specs.Machine.{byteOf, isTrue, valuesAfter, outcomeOf, blameOf, decided, counted, afterPeriod, afterPeriods}
 use Rattle.runner.proofs.States.{SoundHead, Sound}
 use Rattle.runner.proofs.Computing.{byteOf-le, length-newValues}
 

@@ -1,13 +1,14 @@
 -- The rows that a kind and its fields make, and how their values are read from packed row values.
 -- Assumes nothing.
 use Prim.Native.Nat.{ℕ, zero, suc, _+_, _-_, _*_, _/_, _%_, _≤_, _<_}
-use native.Mathlib.Nat.{mod-lt, le-refl}
+use native.Mathlib.Nat.{mod-lt}
 use native.Mathlib.Omega.{arith}
-use mathlib.Core.Bool.{Bool, true, false, not, _&&_, _||_, cond, and-eq-true-iff, true≢false, false≢true}
-use mathlib.Core.List.{List, map}
+use mathlib.Core.Bool.{Bool, true, false, not, _&&_, cond, and-eq-true-iff, false≢true}
+use mathlib.Core.List.{List}
 use mathlib.Core.Option.{Option, none, some, Option·getD}
+use mathlib.Core.Logic.{⊎-elim}
 use mathlib.Core.Path.{_≡_, refl, sym, ap, _∙_}
-use borrow.Author.Tests.{lt-ltb, ltb-true, eqb-true, ne-eqb}
+use borrow.Author.Tests.{lt-ltb, ltb-true, eqb-true}
 use lib.Bits.{bitAnd, bitOr}
 use lib.Dec.{eqb, ltb, lit<}
 use lib.ListN.{length, getD, List·getD-map}
@@ -15,7 +16,7 @@ use mir.Val.{boolByte}
 use Rattle.records.specs.Limits.{actions}
 use Rattle.records.specs.Fields.{field}
 use Rattle.records.specs.Marks.{rowMark, marked}
-use Rattle.records.specs.Periods.{Period, Party, party1, party2, number, partyOf, tries}
+use Rattle.records.specs.Periods.{Period, Party, party1, party2, number, tries}
 use Rattle.runner.specs.Rows.{Row, never, initial, attempt, negation, conjunction, disjunction, previous, attemptOf, rowOf, decode, namesRows, goodRow}
 use Rattle.runner.specs.Limits.{rowBytes}
 use Rattle.runner.specs.Images.{rowCount, imageOf}
@@ -23,7 +24,9 @@ use Rattle.runner.specs.States.{allAtMost}
 use Rattle.runner.specs.Machine.{byteOf, isTrue, value}
 use Rattle.runner.specs.declared.Test.the-variants.{Passed}
 use Rattle.runner.specs.Refusals.{imageTest}
-use Rattle.runner.specs.Computing.{oldIn, newIn, Packed, KindRow}
+use Rattle.runner.specs.Computing.{oldIn, newIn, KindRow}
+use Rattle.records.proofs.Numbers.{lt-or-le}
+use Rattle.runner.proofs.Rows.{good-other}
 use Rattle.runner.proofs.Images.{passed-good, good-row}
 use Rattle.runner.proofs.States.{allAtMost-at}
 use Rattle.runner.proofs.Computing.{byteOf-bool, byteOf-and, byteOf-or, byteOf-not}
@@ -86,22 +89,9 @@ module _ (k n x y : ℕ) where
   row-6 g = only (eqb y 0) k n (previous x) g
 
 -- no kind above 6 makes a row
-last : (k n kind : ℕ) (o : Option Row) (t : Bool) → eqb kind 6 ≡ t → goodRow k n (cond t o none) ≡ true → kind ≡ 6
-last k n kind o true e g = eqb-true kind 6 e
-last k n kind o false e g = absurd (false≢true g)
-
 pub kind-6 : (k n kind x y : ℕ) → 5 < kind → goodRow k n (rowOf kind x y) ≡ true → kind ≡ 6
-unfolding rowOf
 kind-6 k n kind x y h g =
-    last k n kind (cond (eqb y 0) (some (previous x)) none) (eqb kind 6) refl
-    (rw (
-      ne-eqb kind 0 (λ e. omega arith),
-      ne-eqb kind 1 (λ e. omega arith),
-      ne-eqb kind 2 (λ e. omega arith),
-      ne-eqb kind 3 (λ e. omega arith),
-      ne-eqb kind 4 (λ e. omega arith),
-      ne-eqb kind 5 (λ e. omega arith),
-    ) at g)
+    ⊎-elim (λ l. absurd (false≢true (sym (good-other k n x y kind l) ∙ g))) (λ l. omega arith) (lt-or-le 6 kind)
 
 -- ---- what packed row values hold
 
@@ -129,9 +119,6 @@ module _ (values : List ℕ) (x : ℕ) where
       rw (List·getD-map (λ (v : ℕ). isTrue (v / 2)) values x 0) (byte-of (getD values x 0 / 2) (omega arith))
 
 -- ---- the rows that a good row names
-
-pub x-below : (n x : ℕ) {o : Option Row} → Is n n o (negation x) → x < n
-x-below n x h = ltb-true x n (h .names)
 
 pub both-below : (n x y : ℕ) → (ltb x n && ltb y n) ≡ true → (x < n) × (y < n)
 both-below n x y h =

@@ -9,22 +9,20 @@ use mathlib.Core.List.{List, [], _∷_, _++_}
 use mathlib.Core.Logic.{_⊎_, ⊎-elim}
 use mathlib.Core.Path.{_≡_, refl, sym, ap, _∙_}
 use borrow.Author.Tests.{le-leb, le-ltb, lt-ltb, eq-eqb, ne-eqb}
-use lib.Dec.{eqb, ltb, leb}
-use lib.ListN.{length, getD, take, drop, length-drop}
+use lib.ListN.{length, getD, drop, length-drop}
 use lib.Seq.{sets, length-take-le, getD-take, getD-drop, drop-drop, take-take}
 use Rattle.records.specs.Limits.{periodBytes}
 use Rattle.records.specs.Fields.{AllBytes, field, value}
 use Rattle.records.specs.Marks.{marked}
-use Rattle.records.specs.Periods.{Period, periodAt}
+use Rattle.records.specs.Periods.{periodAt}
 use Rattle.records.proofs.Numbers.{lt-or-le}
 use Rattle.records.proofs.Written.{drop-take}
-use Rattle.runner.specs.declared.Test.{Test}
 use Rattle.runner.specs.declared.Test.the-variants.{Passed, BadPeriod, FullCount}
-use Rattle.runner.specs.Limits.{headBytes, maxPeriods}
-use Rattle.runner.specs.Images.{rowCount, imageOf}
+use Rattle.runner.specs.Limits.{maxPeriods}
+use Rattle.runner.specs.Images.{imageOf}
 use Rattle.runner.specs.States.{State, stateOf, stateBytes}
-use Rattle.runner.specs.Machine.{afterPeriod, afterPeriods}
-use Rattle.runner.specs.Refusals.{numberOf, firstOf, require, firstFailing, imageTest, stateTest, recordCount, markedAt, marksTest, recordTest, traceTest, countTest, readyTest, stepTest, runTest}
+use Rattle.runner.specs.Machine.{afterPeriods}
+use Rattle.runner.specs.Refusals.{numberOf, firstFailing, recordCount, markedAt, marksTest, recordTest, traceTest, countTest, readyTest, stepTest, runTest}
 use Rattle.runner.specs.Calls.{longBytes, answer, Left, periodsOf, step, run}
 use Rattle.runner.specs.StepCalls.{StepCall, accepted, stateAfterCall, stateAfter, acceptedCount, recordAt, callsOf, EndsAsSteps, RefusedAt}
 use Rattle.runner.specs.Computing.{Ready}

@@ -1,33 +1,27 @@
 -- What step calls do to a state, one after the other: a refused call leaves it as it was, an accepted one counts a period and
 -- leaves a sound state of the same length, and a decision never changes. Begin's state is sound.
 -- Assumes nothing.
-use Prim.Native.Nat.{ℕ, zero, suc, _+_, _*_, _-_, _≤_, _<_, _^_}
+use Prim.Native.Nat.{ℕ, zero, suc, _+_, _-_, _≤_}
 use native.Mathlib.Nat.{add-zero, add-assoc}
-use native.Mathlib.Numerals.{add-one}
 use native.Mathlib.Omega.{arith}
-use mathlib.Core.Bool.{Bool, true, false, not, _&&_, cond, and-eq-true-iff}
-use mathlib.Core.List.{List, [], _∷_, _++_}
-use mathlib.Core.Logic.{_⊎_, inl, inr, ⊎-elim}
+use mathlib.Core.Bool.{true, false, and-eq-true-iff}
+use mathlib.Core.List.{List, [], _∷_}
+use mathlib.Core.Logic.{_⊎_, ⊎-elim}
 use mathlib.Core.Path.{_≡_, refl, sym, ap, _∙_}
-use borrow.Author.Tests.{leb-true, leb-false, eqb-true, eqb-false, le-leb, lt-leb, eq-eqb, ne-eqb}
-use lib.Dec.{eqb, ltb, leb}
-use lib.ListN.{length, getD, take, drop, replicate, length-drop, length-replicate, replicate-append-replicate}
-use lib.Seq.{sets, length-take-le, getD-take, getD-drop, drop-drop, take-take}
-use Rattle.records.specs.Limits.{periodBytes}
-use Rattle.records.specs.Fields.{bytes, field, value}
-use Rattle.records.specs.Marks.{marked}
-use Rattle.records.specs.Periods.{Period, periodAt}
+use borrow.Author.Tests.{leb-true, eqb-true, eqb-false, le-leb}
+use lib.Dec.{eqb, leb}
+use lib.ListN.{length, getD, replicate, length-replicate, replicate-append-replicate}
+use Rattle.records.specs.Fields.{bytes}
+use Rattle.records.specs.Periods.{periodAt}
 use Rattle.records.proofs.Numbers.{lt-or-le}
-use Rattle.records.proofs.Written.{drop-take}
-use Rattle.runner.specs.declared.Test.{Test}
-use Rattle.runner.specs.declared.Test.the-variants.{Passed, BadImage, BadState, BadPeriod, FullCount}
-use Rattle.runner.specs.Limits.{headBytes, maxPeriods}
+use Rattle.runner.specs.declared.Test.the-variants.{Passed, BadState}
+use Rattle.runner.specs.Limits.{headBytes}
 use Rattle.runner.specs.Images.{rowCount, imageOf}
 use Rattle.runner.specs.States.{State, stateOf, stateBytes}
 use Rattle.runner.specs.Machine.{afterPeriod, afterPeriods}
-use Rattle.runner.specs.Refusals.{numberOf, imageTest, stateLengthTest, stateTest, markedAt, marksTest, recordTest, countTest, beginTest, readyTest, stepTest, runTest}
-use Rattle.runner.specs.Calls.{shortBytes, longBytes, refusal, answer, Left, unwritten, written, call, begin, step, run}
-use Rattle.runner.specs.StepCalls.{StepCall, accepted, stateAfterCall, stateAfter, acceptedCount, recordAt, callsOf}
+use Rattle.runner.specs.Refusals.{numberOf, imageTest, stateLengthTest, stateTest, beginTest, readyTest, stepTest}
+use Rattle.runner.specs.Calls.{shortBytes, longBytes, answer, Left, written, call, begin, step}
+use Rattle.runner.specs.StepCalls.{StepCall, accepted, stateAfterCall, stateAfter, acceptedCount}
 use Rattle.runner.specs.Computing.{Ready}
 use Rattle.runner.proofs.Refusals.{true-or-false, first-passed, passed-first, require-passed, state-refused, ready-passed, state-passed}
 use Rattle.runner.proofs.States.{Sound}

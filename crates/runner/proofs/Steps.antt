@@ -1,17 +1,17 @@
 -- What the code of a period leaves in a sound state's bytes is what the row machine says.
 -- Assumes nothing.
-use Prim.Native.Nat.{ℕ, zero, suc, _+_, _*_, _-_, _/_, _%_, _≤_, _<_, _^_}
+use Prim.Native.Nat.{ℕ, zero, suc, _+_, _-_, _%_, _≤_, _<_, _^_}
 use native.Mathlib.Nat.{le-refl}
 use native.Mathlib.Numerals.{add-one}
 use native.Mathlib.Omega.{arith}
-use mathlib.Core.Bool.{Bool, true, false, _&&_, _||_, cond, and-eq-true-iff}
+use mathlib.Core.Bool.{Bool, true, false, _||_, cond, and-eq-true-iff}
 use mathlib.Core.List.{List, [], _∷_, _++_, map, append-nil}
 use mathlib.Core.Path.{_≡_, refl, sym, ap, _∙_}
 use borrow.Author.Tests.{eq-eqb, eqb-true, ltb-false}
 use borrow.Rule.Slice.PartMut.{putMid}
 use lib.Dec.{eqb, ltb}
-use lib.ListN.{length, getD, set, take, drop, length-append, length-drop, List·getD-map, drop-of-length-le}
-use lib.Seq.{sets, length-sets, getD-drop}
+use lib.ListN.{length, getD, take, drop, length-append, length-drop, List·getD-map, drop-of-length-le}
+use lib.Seq.{sets, getD-drop}
 use Rattle.records.specs.Limits.{periodBytes}
 use Rattle.records.specs.Fields.{AllBytes, bytes, field}
 use Rattle.records.specs.Periods.{Period}
@@ -22,10 +22,10 @@ use Rattle.runner.specs.declared.Test.the-variants.{Passed, BadPeriod, F
 use Rattle.runner.specs.Limits.{headBytes, maxPeriods}
 use Rattle.runner.specs.Images.{Image, rowCount, imageOf}
 use Rattle.runner.specs.States.{State, stateOf, stateBytes, allAtMost, sound}
-use Rattle.runner.specs.Machine.{byteOf, isTrue, newValues, valuesAfter, outcomeOf, blameOf, decided, counted, afterPeriod, afterPeriods}
+use Rattle.runner.specs.Machine.{byteOf, isTrue, valuesAfter, outcomeOf, blameOf, decided, counted, afterPeriod, afterPeriods}
 use Rattle.runner.specs.Refusals.{require, firstOf, imageTest, stateTest, firstFailing, recordCount, markedAt, marksTest, recordTest, traceTest, countTest, readyTest, stepTest, runTest}
 use Rattle.runner.specs.Calls.{periodsOf}
-use Rattle.runner.specs.Computing.{soundHead, newBits, RowValues, Computed, withDecision, decidedBytes, Ready}
+use Rattle.runner.specs.Computing.{soundHead, newBits, RowValues, withDecision, decidedBytes, Ready}
 use Rattle.runner.proofs.Refusals.{all-passed, first-passed, require-passed, period-refused, count-refused, state-passed, ready-passed}
 use Rattle.runner.proofs.Images.{length-rowsOf}
 use Rattle.runner.proofs.States.{Sound, sound-facts, facts-sound, sound-split, stateBytes-stateOf, stateOf-stateBytes, part-rest, length-stateBytes}

@@ -1,5 +1,5 @@
--- How the code computes a period in the state's own bytes: while the rows are computed in order, the byte of a row that has its new
--- value holds old + 2 × new, that of a later row old.
+-- What the code's inner functions need and give, beside document 01's own notions. A period is computed in the state's own bytes:
+-- while the rows are computed in order, the byte of a row that has its new value holds old + 2 × new, that of a later row old.
 use Prim.Native.Nat.{ℕ, _+_, _*_, _/_, _%_, _<_}
 use mathlib.Core.Bool.{Bool, true, false, _&&_, _||_, cond}
 use mathlib.Core.List.{List, [], _∷_, map}
@@ -9,12 +9,11 @@ use lib.ListN.{length, getD, set}
 use lib.Seq.{sets}
 use Rattle.records.specs.Fields.{bytes}
 use Rattle.records.specs.Periods.{Period}
-use Rattle.runner.specs.declared.Test.{Test}
 use Rattle.runner.specs.declared.Test.the-variants.{Passed}
 use Rattle.runner.specs.Limits.{headBytes, maxPeriods}
 use Rattle.runner.specs.Rows.{rowOf, goodRow}
 use Rattle.runner.specs.Images.{Image, rowCount, imageOf}
-use Rattle.runner.specs.States.{State, stateOf, allAtMost}
+use Rattle.runner.specs.States.{stateOf, allAtMost}
 use Rattle.runner.specs.Machine.{byteOf, isTrue, newValues, outcomeOf, blameOf}
 use Rattle.runner.specs.Refusals.{imageTest, stateTest}
 

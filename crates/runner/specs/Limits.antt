@@ -1,6 +1,6 @@
 -- The sizes of rows, images and states, and the largest count of periods. Document 01, "Image and row machine" and
 -- "Replies that refuse".
-use Prim.Native.Nat.{ℕ, _+_, _*_}
+use Prim.Native.Nat.{ℕ}
 
 -- the bytes of a row, and of an end record
 abbrev pub rowBytes : ℕ

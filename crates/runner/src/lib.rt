@@ -1,22 +1,21 @@
 // The runner: begins a state for an image and takes periods, by the row machine. Document 01, "Image and row machine" and "Calls".
 ghost use mathlib.Core.Path.{_≡_};
-ghost use mathlib.Core.Bool.{Bool, _&&_, _||_, cond};
+ghost use mathlib.Core.Bool.{_&&_, _||_};
 ghost use mathlib.Core.List.{map};
 ghost use mathlib.Core.Option.{Option·getD};
 ghost use Prim.Native.Nat.{ℕ, _+_, _*_, _/_, _^_, _<_, _≤_};
-ghost use lib.Dec.{eqb};
-ghost use lib.ListN.{length, getD, drop, set, replicate};
+ghost use lib.ListN.{length, getD, replicate};
 ghost use lib.Seq.{sets};
 ghost use Rattle.records.specs.Limits.{actions, periodBytes};
 ghost use Rattle.records.specs.Fields.{bytes};
 ghost use Rattle.records.specs.Periods.{Party, number, tries, periodOf};
 ghost use Rattle.records.specs.Verdicts.{verdictNumber};
-ghost use Rattle.runner.specs.Limits.{rowBytes, headBytes, maxPeriods};
+ghost use Rattle.runner.specs.Limits.{rowBytes, headBytes};
 ghost use Rattle.runner.specs.Rows.{never, rowOf, goodRow};
-ghost use Rattle.runner.specs.Images.{rowCount, goodRowAt, goodEnd, imageOf};
+ghost use Rattle.runner.specs.Images.{goodRowAt, goodEnd, imageOf};
 ghost use Rattle.runner.specs.States.{stateOf, stateBytes, allAtMost, sound};
-ghost use Rattle.runner.specs.Machine.{byteOf, isTrue, value, newValues, outcomeOf, blameOf, afterPeriod, afterPeriods, verdict};
-ghost use Rattle.runner.specs.Refusals.{numberOf, placeOf, firstFailing, imageTest, stateLengthTest, stateTest, recordCount, markedAt, marksTest, recordTest, traceTest, countTest, beginTest, readyTest, stepTest, runTest};
+ghost use Rattle.runner.specs.Machine.{byteOf, isTrue, value, outcomeOf, blameOf, afterPeriod, afterPeriods, verdict};
+ghost use Rattle.runner.specs.Refusals.{numberOf, placeOf, firstFailing, imageTest, stateTest, markedAt, marksTest, recordTest, traceTest, countTest, beginTest, readyTest, stepTest, runTest};
 ghost use Rattle.runner.specs.Calls.{shortReply, longReply, answer, shortBytes, longBytes, Gives, begin, periodsOf, step, run};
 ghost use Rattle.runner.specs.Computing.{soundHead, packed, oldIn, newIn, newBits, KindRow, NextRow, RowValues, Computed, withDecision, decidedBytes, Ready};
 use records::Attempts;
@@ -462,7 +461,7 @@ fn decide(image: &[u8], state: &mut [u8], period: u32)
 }
 
 // One period: the row machine on both parties' attempts.
-pub fn take_period(image: &[u8], state: &mut [u8], a: Attempts)
+fn take_period(image: &[u8], state: &mut [u8], a: Attempts)
     requires { ⌜ Ready (now image) (now state) 1 ⌝ }
     ensures { λ _. ⌜ now (state .exit) ≡ stateBytes (afterPeriod (imageOf (now (image .entry))) (periodOf a) (stateOf (now (state .entry)))) ⌝ }
 {

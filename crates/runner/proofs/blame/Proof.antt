@@ -5,8 +5,6 @@ use borrow.Author.Needs.{needs}
 use Rattle.runner.proofs.Computing.{blame-of, blame-small}
 use Rattle.runner.proofs.blame.Statement.{statement}
 use Rattle.runner.proofs.blame.Tie as tie
-use Rattle.runner.proofs.blame.Reads as reads
-use Rattle.runner.proofs.blame.Lts as lts
 
 -- src/lib.rt:136:5
 cast-result : tie.Need-cast-result

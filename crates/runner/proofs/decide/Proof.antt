@@ -8,10 +8,6 @@ use Rattle.runner.proofs.RowKinds.{end-fits, end-S, end-V1, end-V2}
 use borrow.Author.Needs.{needs}
 use Rattle.runner.proofs.decide.Statement.{statement}
 use Rattle.runner.proofs.decide.Tie as tie
-use Rattle.runner.proofs.decide.Reads as reads
-use Rattle.runner.proofs.decide.Lts as lts
-use Rattle.records.proofs.get2.Reads as get2-reads
-use Rattle.runner.proofs.put_decision.Reads as put-decision-reads
 
 sub-end : tie.Need-sub-end
 sub-end c = end-fits (c .before .before .args .image .now) (c .before .before .pre .good)

@@ -1,16 +1,14 @@
 -- `runner::keep_new` meets its contract: the first k values are halved.
 -- Assumes nothing.
-use Prim.Native.Nat.{ℕ, _-_, _/_, _≤_}
+use Prim.Native.Nat.{_-_, _/_, _≤_}
 use native.Mathlib.Omega.{arith}
 use native.Mathlib.Numerals.{add-one}
-use mathlib.Core.Path.{_≡_, refl, ap, _∙_}
+use mathlib.Core.Path.{_≡_, refl, _∙_}
 use borrow.Author.Needs.{needs}
 use lib.ListN.{length, length-set}
-use Rattle.runner.proofs.Computing.{mapFirst, mapFirst-next, mapFirst-all, length-mapFirst}
+use Rattle.runner.proofs.Computing.{mapFirst, mapFirst-next, mapFirst-all}
 use Rattle.runner.proofs.keep_new.Statement.{statement}
 use Rattle.runner.proofs.keep_new.Tie as tie
-use Rattle.runner.proofs.keep_new.Reads as reads
-use Rattle.runner.proofs.keep_new.Lts as lts
 
 abbrev Inv-loop : tie.InvT-loop
 Inv-loop values₀ k₀ values k = (k ≤ length values₀) × (length values ≡ length values₀) × (values ≡ mapFirst (λ v. v / 2) k values₀)

@@ -9,9 +9,6 @@ use Rattle.runner.proofs.States.{allAtMost-at}
 use Rattle.runner.proofs.RowKinds.{row-2, row-3, row-4, row-5, row-6, kind-6, both-below, value-0, value-1, value-2, value-3, value-4, value-5, value-6}
 use Rattle.runner.proofs.kind_value.Statement.{statement}
 use Rattle.runner.proofs.kind_value.Tie as tie
-use Rattle.runner.proofs.kind_value.Reads as reads
-use Rattle.runner.proofs.kind_value.Lts as lts
-use Rattle.runner.proofs.tried.Reads as tried-reads
 
 -- src/lib.rt:69:14
 cast-result : tie.Need-cast-result

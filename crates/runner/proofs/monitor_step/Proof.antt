@@ -1,8 +1,7 @@
 -- `runner::monitor_step` meets its contract: no room for the reply, refused, or one period taken.
 -- Assumes nothing.
 use native.Mathlib.Omega.{arith}
-use mathlib.Core.Path.{_≡_, sym, ap, _∙_}
-use lib.ListN.{length}
+use mathlib.Core.Path.{_≡_, sym, _∙_}
 use Rattle.records.specs.Periods.{periodAt}
 use Rattle.runner.specs.declared.Test.the-variants.{Passed}
 use Rattle.runner.specs.Refusals.{stepTest}

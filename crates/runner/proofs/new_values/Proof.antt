@@ -2,8 +2,8 @@
 -- Assumes nothing.
 use Prim.Native.Nat.{ℕ, _/_}
 use mathlib.Core.List.{map}
-use mathlib.Core.Path.{_≡_, sym, ap, _∙_}
-use lib.ListN.{length, length-map}
+use mathlib.Core.Path.{sym, ap, _∙_}
+use lib.ListN.{length-map}
 use Rattle.records.specs.Periods.{periodOf}
 use Rattle.runner.specs.Images.{rowCount, imageOf}
 use Rattle.runner.specs.Machine.{isTrue, newValues}
@@ -12,10 +12,6 @@ use Rattle.runner.proofs.Computing.{length-newValues, packed-new}
 use borrow.Author.Needs.{needs}
 use Rattle.runner.proofs.new_values.Statement.{statement}
 use Rattle.runner.proofs.new_values.Tie as tie
-use Rattle.runner.proofs.new_values.Reads as reads
-use Rattle.runner.proofs.new_values.Lts as lts
-use Rattle.runner.proofs.compute.Reads as compute-reads
-use Rattle.runner.proofs.keep_new.Reads as keep-new-reads
 
 compute-requires : tie.Need-compute-requires
 compute-requires c κs = search needs

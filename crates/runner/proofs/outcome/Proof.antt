@@ -4,8 +4,6 @@ use borrow.Author.Needs.{needs}
 use Rattle.runner.proofs.Computing.{outcome-sat}
 use Rattle.runner.proofs.outcome.Statement.{statement}
 use Rattle.runner.proofs.outcome.Tie as tie
-use Rattle.runner.proofs.outcome.Reads as reads
-use Rattle.runner.proofs.outcome.Lts as lts
 
 -- src/lib.rt:124:9
 returns : tie.Need-returns

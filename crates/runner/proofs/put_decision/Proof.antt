@@ -9,11 +9,6 @@ use Rattle.runner.specs.Computing.{withDecision}
 use Rattle.runner.proofs.Computing.{decision-none, decision-some}
 use Rattle.runner.proofs.put_decision.Statement.{statement}
 use Rattle.runner.proofs.put_decision.Tie as tie
-use Rattle.runner.proofs.put_decision.Reads as reads
-use Rattle.runner.proofs.put_decision.Lts as lts
-use Rattle.records.proofs.put4.Reads as put4-reads
-use Rattle.runner.proofs.blame.Reads as blame-reads
-use Rattle.runner.proofs.outcome.Reads as outcome-reads
 
 -- src/lib.rt:144:9
 outcome-requires : tie.Need-outcome-requires

@@ -4,10 +4,6 @@ use native.Mathlib.Omega.{arith}
 use Rattle.runner.proofs.RowKinds.{row-fits, row-held, row-good}
 use Rattle.runner.proofs.row_value.Statement.{statement}
 use Rattle.runner.proofs.row_value.Tie as tie
-use Rattle.runner.proofs.row_value.Reads as reads
-use Rattle.runner.proofs.row_value.Lts as lts
-use Rattle.records.proofs.get2.Reads as get2-reads
-use Rattle.runner.proofs.kind_value.Reads as kind-value-reads
 
 mul-at : tie.Need-mul-at
 mul-at c = omega (arith, row-fits (c .before .before .args .image .now) (c .before .before .pre .good) (c .before .before .args .k) (c .before .before .pre .row))

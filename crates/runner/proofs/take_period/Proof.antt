@@ -12,12 +12,6 @@ use Rattle.runner.proofs.Steps.{row-values, raised-outcome, period-coun
 use borrow.Author.Needs.{needs}
 use Rattle.runner.proofs.take_period.Statement.{statement}
 use Rattle.runner.proofs.take_period.Tie as tie
-use Rattle.runner.proofs.take_period.Reads as reads
-use Rattle.runner.proofs.take_period.Lts as lts
-use Rattle.records.proofs.get4.Reads as get4-reads
-use Rattle.records.proofs.put4.Reads as put4-reads
-use Rattle.runner.proofs.decide.Reads as decide-reads
-use Rattle.runner.proofs.new_values.Reads as new-values-reads
 
 get4-requires : tie.Need-get4-requires
 get4-requires c κs = omega (arith, ready-long (c .before .before .before .args .image .now) (c .before .before .before .args .state .now) 1 (c .before .before .before .pre))

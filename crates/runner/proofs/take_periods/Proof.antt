@@ -17,10 +17,6 @@ use Rattle.runner.proofs.Machine.{after-snoc}
 use Rattle.runner.proofs.Steps.{ready-long, length-periodsOf, later-read, later-long, later-ready}
 use Rattle.runner.proofs.take_periods.Statement.{statement}
 use Rattle.runner.proofs.take_periods.Tie as tie
-use Rattle.runner.proofs.take_periods.Reads as reads
-use Rattle.runner.proofs.take_periods.Lts as lts
-use Rattle.records.proofs.read_period.Reads as read-period-reads
-use Rattle.runner.proofs.take_period.Reads as take-period-reads
 
 abbrev Inv-loop : tie.InvT-loop
 Inv-loop image state₀ trace n k₀ state k =

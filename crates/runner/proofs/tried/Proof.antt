@@ -5,9 +5,6 @@ use borrow.Author.Needs.{needs}
 use Rattle.records.specs.Periods.{party1, party2, tries}
 use Rattle.runner.proofs.tried.Statement.{statement}
 use Rattle.runner.proofs.tried.Tie as tie
-use Rattle.runner.proofs.tried.Reads as reads
-use Rattle.runner.proofs.tried.Lts as lts
-use Rattle.records.proofs.bit.Reads as bit-reads
 
 -- src/lib.rt:55:9
 bit-requires : tie.Need-bit-requires
