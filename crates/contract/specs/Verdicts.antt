@@ -1,13 +1,11 @@
 -- The verdicts after some periods, and what else is reported of a decision. Document 01, "Meaning of clauses", from "Verdicts after n periods".
 use Prim.Native.Nat.{ℕ, _≤_, _<_}
-use mathlib.Core.Bool.{cond}
 use mathlib.Core.List.{List, []}
 use mathlib.Core.Logic.{_⊎_}
 use mathlib.Core.Path.{_≡_}
-use lib.Dec.{ltb}
 use lib.ListN.{length, take}
 use Rattle.records.specs.Periods.{number, Period}
-use Rattle.records.specs.Verdicts.{Verdict, «open», met, broken, met-after, broken-after}
+use Rattle.records.specs.Verdicts.{Verdict, «open», met, broken, met-after, broken-after, since}
 use Rattle.contract.specs.Meaning.{Clause, Blame, only, bothParties, Decision, undecided, satisfied, violated, meaning}
 
 -- the decision period, 0 while undecided
@@ -30,8 +28,8 @@ blame (violated k b) = blameNumber b
 -- after n periods: open while undecided; met or broken when n is the decision period; met-after or broken-after later
 abbrev pub verdict : Decision → ℕ → Verdict
 verdict undecided n = «open»
-verdict (satisfied k) n = cond (ltb n k) «open» (cond (ltb k n) met-after met)
-verdict (violated k b) n = cond (ltb n k) «open» (cond (ltb k n) broken-after broken)
+verdict (satisfied k) n = since k n met met-after
+verdict (violated k b) n = since k n broken broken-after
 
 -- A clause decides a list at one period or at none: there is a decision such that each beginning of the list is open if it is
 -- shorter than the deciding period, and otherwise has exactly that decision. So a decision stands on every longer list.

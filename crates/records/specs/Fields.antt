@@ -18,11 +18,11 @@ unfoldable pub bytes : ℕ → ℕ → List ℕ
 bytes zero n = []
 bytes (suc w) n = n % 256 ∷ bytes w (n / 256)
 
--- the number in the field of w bytes at a place
+-- the number in the field of w bytes from byte `at` on
 unfoldable pub field : List ℕ → ℕ → ℕ → ℕ
 field l at w = value (take w (drop at l))
 
--- r is the number in the field of w bytes at a place, below 256 ^ w
+-- r is the number in the field of w bytes from byte `at` on, below 256 ^ w
 pub record HoldsField (l : List ℕ) (at w r : ℕ) : Type 0 where
   pub is : r ≡ field l at w
   pub small : r < 256 ^ w

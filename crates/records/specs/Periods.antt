@@ -49,7 +49,7 @@ tries x p a = bit (attempts x p) a
 unfoldable pub succeeds : Period → ℕ → Bool
 succeeds x a = tries x party1 a && tries x party2 a
 
--- the period that a period record at a place holds: two bytes of party 1's attempts after the mark, then two of party 2's
+-- the period that the period record from byte `at` on holds: two bytes of party 1's attempts after the mark, then two of party 2's
 unfoldable pub periodAt : List ℕ → ℕ → Period
 periodAt l at = record { attempts1 = field l (at + 2) 2; attempts2 = field l (at + 4) 2 }
 
@@ -57,7 +57,7 @@ periodAt l at = record { attempts1 = field l (at + 2) 2; attempts2 = field l (at
 abbrev pub periodOf : Attempts → Period
 periodOf a = record { attempts1 = a .one; attempts2 = a .two }
 
--- a is the period that a period record at a place holds, with a bit for each action
+-- a is the period that the period record from byte `at` on holds, and no mask has a bit above the last action's
 pub record HoldsPeriod (l : List ℕ) (at : ℕ) (a : Attempts) : Type 0 where
   pub is : periodOf a ≡ periodAt l at
   pub small1 : a .one < 2 ^ actions

@@ -1,10 +1,16 @@
 -- The verdicts, their numbers and names. Document 01, "Meaning of clauses", from "Verdicts after n periods".
 use Prim.Native.Nat.{ℕ}
 use Prim.Native.String.{String}
+use mathlib.Core.Bool.{cond}
+use lib.Dec.{ltb}
 
 -- 002's five values
 pub data Verdict : Type 0 where
   «open» met broken met-after broken-after : Verdict
+
+-- the verdict after n periods of a decision at period k: one when n is k, another later, and open before
+abbrev pub since : (k n : ℕ) → (now later : Verdict) → Verdict
+since k n now later = cond (ltb n k) «open» (cond (ltb k n) later now)
 
 -- a verdict's number
 abbrev pub verdictNumber : Verdict → ℕ

@@ -37,7 +37,7 @@ pub fn wide(x: u8) -> u32
     x as u32
 }
 
-// The number in a field of two bytes at a place, low byte first; then of four, and of eight.
+// The number in a field of two bytes from byte `at` on, low byte first; then of four, and of eight.
 pub fn get2(s: &[u8], at: usize) -> u32
     requires { ⌜ at + 2 ≤ length (now s) ⌝ }
     ensures { λ r. ⌜ HoldsField (now (s .entry)) at 2 r ⌝ }
@@ -65,7 +65,7 @@ pub fn get8(s: &[u8], at: usize) -> u64
     low + 4294967296 * high
 }
 
-// A number put into a field of two bytes at a place, low byte first; then of four, and of eight. Higher bytes are left out.
+// A number put into a field of two bytes from byte `at` on, low byte first; then of four, and of eight. Higher bytes are left out.
 pub fn put2(s: &mut [u8], at: usize, x: u32)
     requires { ⌜ at + 2 ≤ length (now s) ⌝ }
     ensures { λ _. ⌜ now (s .exit) ≡ sets (now (s .entry)) at (bytes 2 x) ⌝ }
@@ -90,7 +90,7 @@ pub fn put8(s: &mut [u8], at: usize, x: u64)
     put4(s, at + 4, (x / 4294967296) as u32);
 }
 
-// Whether the record at a place starts with this mark.
+// Whether the record from byte `at` on starts with this mark.
 fn marked(s: &[u8], at: usize, mark: [u8; 2]) -> bool
     requires { ⌜ at + 2 ≤ length (now s) ⌝ }
     ensures { λ r. ⌜ r ≡ marked (now (s .entry)) at mark ⌝ }
@@ -98,7 +98,7 @@ fn marked(s: &[u8], at: usize, mark: [u8; 2]) -> bool
     s[at] == mark[0] && s[at + 1] == mark[1]
 }
 
-// Whether a contract record's mark stands at a place; then a period record's, a row's and an end record's.
+// Whether a contract record's mark stands at byte `at`; then a period record's, a row's and an end record's.
 pub fn contract_marked(s: &[u8], at: usize) -> bool
     requires { ⌜ at + 2 ≤ length (now s) ⌝ }
     ensures { λ r. ⌜ r ≡ marked (now (s .entry)) at contractMark ⌝ }
@@ -142,7 +142,7 @@ pub fn bit(mask: u32, action: u32) -> bool
     (mask >> action) & 1 == 1
 }
 
-// Both parties' attempts in the period record at a place.
+// Both parties' attempts in the period record from byte `at` on.
 pub fn read_period(s: &[u8], at: usize) -> Attempts
     requires { ⌜ at + periodBytes ≤ length (now s) ⌝ }
     ensures { λ r. ⌜ HoldsPeriod (now (s .entry)) at r ⌝ }

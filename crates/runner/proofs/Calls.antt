@@ -15,7 +15,7 @@ use Rattle.records.proofs.Written.{sets-append, drop-after, field-in, field-spe
 use Rattle.runner.specs.declared.Test.{Test}
 use Rattle.runner.specs.declared.Test.the-variants.{Passed, BadImage, BadState, BadPeriod, FullCount}
 use Rattle.runner.specs.Refusals.{numberOf, placeOf}
-use Rattle.runner.specs.Calls.{shortReply, longReply, shortBytes, longBytes, Gives, unwritten, written, call}
+use Rattle.runner.specs.Calls.{beginReply, stepReply, beginReplyBytes, stepReplyBytes, Gives, unwritten, written, call}
 
 -- ---- the numbers of tests
 
@@ -66,24 +66,24 @@ module _ (room : ℕ) (t : Test) (accepted refused later state reply : List ℕ)
 
 -- ---- the bytes of a reply
 
-pub length-short : (t : Test) → length (shortReply t) ≡ shortBytes
-unfolding shortReply
-length-short t = simp (length-append, length-bytes)
+pub length-beginReply : (t : Test) → length (beginReply t) ≡ beginReplyBytes
+unfolding beginReply
+length-beginReply t = simp (length-append, length-bytes)
 
-pub length-long : (t : Test) (v b d : ℕ) → length (longReply t v b d) ≡ longBytes
-unfolding longReply
-length-long t v b d = simp (length-append, length-bytes)
+pub length-stepReply : (t : Test) (v b d : ℕ) → length (stepReply t v b d) ≡ stepReplyBytes
+unfolding stepReply
+length-stepReply t v b d = simp (length-append, length-bytes)
 
 -- a reply's fields, written one after the other
 pub short-written : (r : List ℕ) (t : Test)
-    → sets r 0 (shortReply t) ≡ sets (sets (sets r 0 (bytes 4 (numberOf t))) 4 (bytes 4 0)) 8 (bytes 8 (placeOf t))
-unfolding shortReply
+    → sets r 0 (beginReply t) ≡ sets (sets (sets r 0 (bytes 4 (numberOf t))) 4 (bytes 4 0)) 8 (bytes 8 (placeOf t))
+unfolding beginReply
 short-written r t = simp (sets-append, length-bytes)
 
 pub long-written : (r : List ℕ) (t : Test) (v b d : ℕ)
-    → sets r 0 (longReply t v b d)
+    → sets r 0 (stepReply t v b d)
     ≡ sets (sets (sets (sets (sets r 0 (bytes 4 (numberOf t))) 4 (bytes 4 v)) 8 (bytes 8 (placeOf t))) 16 (bytes 4 b)) 20 (bytes 4 d)
-unfolding longReply
+unfolding stepReply
 long-written r t v b d = simp (sets-append, length-bytes)
 
 -- ---- what is read of a reply in the reply area
@@ -95,60 +95,60 @@ field-put r vs front w n rest at e l h k =
     let f : at + w ≤ length vs = rw (e, length-append, length-append, length-bytes, l) (omega arith) in
     rw zero-add at (field-in r 0 vs at w (rw zero-add h) f) ∙ rw e (field-spelled front w n rest at l) ∙ mod-eq-of-lt k
 
-module _ (r : List ℕ) (t : Test) (h : shortBytes ≤ length r) where
-  fits : length (shortReply t) ≤ length r
-  fits = rw length-short h
+module _ (r : List ℕ) (t : Test) (h : beginReplyBytes ≤ length r) where
+  fits : length (beginReply t) ≤ length r
+  fits = rw length-beginReply h
 
-  pub short-number : field (sets r 0 (shortReply t)) 0 4 ≡ numberOf t
-  unfolding shortReply
-  short-number = field-put r (shortReply t) [] 4 (numberOf t) (bytes 4 0 ++ bytes 8 (placeOf t)) 0 refl refl fits (number-small t)
+  pub short-number : field (sets r 0 (beginReply t)) 0 4 ≡ numberOf t
+  unfolding beginReply
+  short-number = field-put r (beginReply t) [] 4 (numberOf t) (bytes 4 0 ++ bytes 8 (placeOf t)) 0 refl refl fits (number-small t)
 
-  pub short-place : placeOf t < 256 ^ 8 → field (sets r 0 (shortReply t)) 8 8 ≡ placeOf t
-  unfolding shortReply
+  pub short-place : placeOf t < 256 ^ 8 → field (sets r 0 (beginReply t)) 8 8 ≡ placeOf t
+  unfolding beginReply
   short-place k =
-      field-put r (shortReply t) (bytes 4 (numberOf t) ++ bytes 4 0) 8 (placeOf t) [] 8 (simp (append-assoc, append-nil))
+      field-put r (beginReply t) (bytes 4 (numberOf t) ++ bytes 4 0) 8 (placeOf t) [] 8 (simp (append-assoc, append-nil))
       (simp (length-append, length-bytes)) fits k
 
   -- the bytes past the reply
-  pub short-rest : drop shortBytes (sets r 0 (shortReply t)) ≡ drop shortBytes r
-  short-rest = drop-after r 0 (shortReply t) shortBytes (rw length-short (omega arith))
+  pub short-rest : drop beginReplyBytes (sets r 0 (beginReply t)) ≡ drop beginReplyBytes r
+  short-rest = drop-after r 0 (beginReply t) beginReplyBytes (rw length-beginReply (omega arith))
 
-module _ (r : List ℕ) (t : Test) (v b d : ℕ) (h : longBytes ≤ length r) where
+module _ (r : List ℕ) (t : Test) (v b d : ℕ) (h : stepReplyBytes ≤ length r) where
   abbrev put : List ℕ
-  put = sets r 0 (longReply t v b d)
+  put = sets r 0 (stepReply t v b d)
 
   -- a field of the reply
-  long-field : (front : List ℕ) (w n : ℕ) (rest : List ℕ) (at : ℕ) → longReply t v b d ≡ front ++ (bytes w n ++ rest)
+  long-field : (front : List ℕ) (w n : ℕ) (rest : List ℕ) (at : ℕ) → stepReply t v b d ≡ front ++ (bytes w n ++ rest)
       → length front ≡ at → n < 256 ^ w → field put at w ≡ n
-  long-field front w n rest at e l k = field-put r (longReply t v b d) front w n rest at e l (rw length-long h) k
+  long-field front w n rest at e l k = field-put r (stepReply t v b d) front w n rest at e l (rw length-stepReply h) k
 
   pub long-number : field put 0 4 ≡ numberOf t
-  unfolding longReply
+  unfolding stepReply
   long-number = long-field [] 4 (numberOf t) (bytes 4 v ++ (bytes 8 (placeOf t) ++ (bytes 4 b ++ bytes 4 d))) 0 refl refl (number-small t)
 
   pub long-verdict : v < 256 ^ 4 → field put 4 4 ≡ v
-  unfolding longReply
+  unfolding stepReply
   long-verdict k =
       long-field (bytes 4 (numberOf t)) 4 v (bytes 8 (placeOf t) ++ (bytes 4 b ++ bytes 4 d)) 4 refl (length-bytes 4 (numberOf t)) k
 
   pub long-place : placeOf t < 256 ^ 8 → field put 8 8 ≡ placeOf t
-  unfolding longReply
+  unfolding stepReply
   long-place k =
       long-field (bytes 4 (numberOf t) ++ bytes 4 v) 8 (placeOf t) (bytes 4 b ++ bytes 4 d) 8 (simp append-assoc)
       (simp (length-append, length-bytes)) k
 
   pub long-blame : b < 256 ^ 4 → field put 16 4 ≡ b
-  unfolding longReply
+  unfolding stepReply
   long-blame k =
       long-field (bytes 4 (numberOf t) ++ (bytes 4 v ++ bytes 8 (placeOf t))) 4 b (bytes 4 d) 16 (simp append-assoc)
       (simp (length-append, length-bytes)) k
 
   pub long-decision : d < 256 ^ 4 → field put 20 4 ≡ d
-  unfolding longReply
+  unfolding stepReply
   long-decision k =
       long-field (bytes 4 (numberOf t) ++ (bytes 4 v ++ (bytes 8 (placeOf t) ++ bytes 4 b))) 4 d [] 20 (simp (append-assoc, append-nil))
       (simp (length-append, length-bytes)) k
 
   -- the bytes past the reply
-  pub long-rest : drop longBytes put ≡ drop longBytes r
-  long-rest = drop-after r 0 (longReply t v b d) longBytes (rw length-long (omega arith))
+  pub long-rest : drop stepReplyBytes put ≡ drop stepReplyBytes r
+  long-rest = drop-after r 0 (stepReply t v b d) stepReplyBytes (rw length-stepReply (omega arith))

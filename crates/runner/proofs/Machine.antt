@@ -12,14 +12,14 @@ use lib.ListN.{length, getD, length-map, List·getD-map}
 use Rattle.records.specs.Periods.{Period}
 use Rattle.runner.specs.Images.{Image}
 use Rattle.runner.specs.States.{State}
-use Rattle.runner.specs.Machine.{byteOf, isTrue, valuesAfter, outcomeOf, blameOf, decided, counted, afterPeriod, afterPeriods}
+use Rattle.runner.specs.Machine.{byteOf, isTrue, valuesAfter, outcomeOf, blameOf, computed, counted, afterPeriod, afterPeriods}
 use Rattle.runner.proofs.States.{SoundHead, Sound}
 use Rattle.runner.proofs.Computing.{byteOf-le, length-newValues}
 
 -- ---- a period on an undecided and on a decided state
 
 module _ (m : Image) (p : Period) (s : State) where
-  pub after-undecided : s .outcome ≡ 0 → afterPeriod m p s ≡ decided m (valuesAfter m p s) s
+  pub after-undecided : s .outcome ≡ 0 → afterPeriod m p s ≡ computed m (valuesAfter m p s) s
   unfolding afterPeriod
   after-undecided e = rw (eq-eqb (s .outcome) 0 e)
 
@@ -29,10 +29,10 @@ module _ (m : Image) (p : Period) (s : State) where
 
   -- every period is counted
   pub periods-after : afterPeriod m p s .periods ≡ s .periods + 1
-  unfolding afterPeriod decided counted
+  unfolding afterPeriod computed counted
   periods-after = count (eqb (s .outcome) 0)
     where
-      count : (t : Bool) → (cond t (decided m (valuesAfter m p s) s) (counted s)) .periods ≡ s .periods + 1
+      count : (t : Bool) → (cond t (computed m (valuesAfter m p s) s) (counted s)) .periods ≡ s .periods + 1
       count true = refl
       count false = refl
 
@@ -82,8 +82,8 @@ decided-head false false false n =
 byte-values : (new : List Bool) (i : ℕ) → getD (map byteOf new) i 0 ≤ 1
 byte-values new i = rw (List·getD-map byteOf new i false) (byteOf-le (getD new i false))
 
-sound-decided : (m : Image) (new : List Bool) (s : State) → Sound (length new) (decided m new s)
-unfolding decided
+sound-decided : (m : Image) (new : List Bool) (s : State) → Sound (length new) (computed m new s)
+unfolding computed
 sound-decided m new s =
     record {
       long = length-map new byteOf;
@@ -114,7 +114,7 @@ pub sound-after : (m : Image) (p : Period) (s : State) → Sound (length (m .row
 unfolding afterPeriod
 sound-after m p s h = each (eqb (s .outcome) 0)
   where
-    each : (t : Bool) → Sound (length (m .rows)) (cond t (decided m (valuesAfter m p s) s) (counted s))
+    each : (t : Bool) → Sound (length (m .rows)) (cond t (computed m (valuesAfter m p s) s) (counted s))
     each true = rw (length-valuesAfter m p s) at (sound-decided m (valuesAfter m p s) s)
     each false = sound-counted s h
 

@@ -145,21 +145,21 @@ module _ (values : List ℕ) (x y : ℕ) (first : Bool) (p : Period) where
   pub value-3 : KindRow values 3 x y first → 1 - getD values x 0 / 2 ≡ the 3
   value-3 h =
       let b = getD (newIn values) x false in
-      rw (row-3 (length values) (length values) x y (h .good) .row, new-value values x (h .bits .small)) (omega (arith, byteOf-not b))
+      rw (row-3 (length values) (length values) x y (h .good) .row, new-value values x (h .bytes-of-two .small)) (omega (arith, byteOf-not b))
 
   pub value-4 : KindRow values 4 x y first → bitAnd (getD values x 0 / 2) (getD values y 0 / 2) ≡ the 4
   value-4 h =
-      rw (row-4 (length values) (length values) x y (h .good) .row, new-value values x (h .bits .small), new-value values y (h .bits .small))
+      rw (row-4 (length values) (length values) x y (h .good) .row, new-value values x (h .bytes-of-two .small), new-value values y (h .bytes-of-two .small))
       (byteOf-and (getD (newIn values) x false) (getD (newIn values) y false))
 
   pub value-5 : KindRow values 5 x y first → bitOr (getD values x 0 / 2) (getD values y 0 / 2) ≡ the 5
   value-5 h =
-      rw (row-5 (length values) (length values) x y (h .good) .row, new-value values x (h .bits .small), new-value values y (h .bits .small))
+      rw (row-5 (length values) (length values) x y (h .good) .row, new-value values x (h .bytes-of-two .small), new-value values y (h .bytes-of-two .small))
       (byteOf-or (getD (newIn values) x false) (getD (newIn values) y false))
 
   pub value-6 : KindRow values 6 x y first → getD values x 0 % 2 ≡ the 6
   value-6 h = rw (row-6 (length values) (length values) x y (h .good) .row, old-value values x)
-      (fresh-value first (getD (oldIn values) x false) (λ e. h .bits .fresh e x))
+      (fresh-value first (getD (oldIn values) x false) (λ e. h .bytes-of-two .fresh e x))
 
 -- ---- the rows of a good image
 

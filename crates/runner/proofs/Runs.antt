@@ -1,4 +1,5 @@
--- A run ends as the steps of its records do, and is refused at the first step that would be.
+-- A run ends as the steps of its records do. A refused one is refused at the record whose step is refused first, except that a wrong
+-- mark anywhere (11) goes before the count (12).
 -- Assumes nothing.
 use Prim.Native.Nat.{ℕ, zero, suc, _+_, _*_, _-_, _%_, _≤_, _<_}
 use native.Mathlib.Nat.{add-zero}
@@ -16,6 +17,7 @@ use Rattle.records.specs.Fields.{AllBytes, field, value}
 use Rattle.records.specs.Marks.{marked}
 use Rattle.records.specs.Periods.{periodAt}
 use Rattle.records.proofs.Numbers.{lt-or-le}
+use Rattle.records.proofs.Fields.{field-lt}
 use Rattle.records.proofs.Written.{drop-take}
 use Rattle.runner.specs.declared.Test.the-variants.{Passed, BadPeriod, FullCount}
 use Rattle.runner.specs.Limits.{maxPeriods}
@@ -23,7 +25,7 @@ use Rattle.runner.specs.Images.{imageOf}
 use Rattle.runner.specs.States.{State, stateOf, stateBytes}
 use Rattle.runner.specs.Machine.{afterPeriods}
 use Rattle.runner.specs.Refusals.{numberOf, firstFailing, recordCount, markedAt, marksTest, recordTest, traceTest, countTest, readyTest, stepTest, runTest}
-use Rattle.runner.specs.Calls.{longBytes, answer, Left, periodsOf, step, run}
+use Rattle.runner.specs.Calls.{stepReplyBytes, answer, After, periodsOf, step, run}
 use Rattle.runner.specs.StepCalls.{StepCall, accepted, stateAfterCall, stateAfter, acceptedCount, recordAt, callsOf, EndsAsSteps, RefusedAt}
 use Rattle.runner.specs.Computing.{Ready}
 use Rattle.runner.proofs.Refusals.{failing-below, failing-fails, all-pass, first-refused, ready-passed}
@@ -69,14 +71,14 @@ module _ (trace : List ℕ) (k : ℕ) (h : periodBytes * k + periodBytes ≤ len
 
 -- ---- steps that are accepted, and steps that are refused
 
-passes-count : (s : State) (n : ℕ) → s .periods + n < maxPeriods + 1 → countTest s n ≡ Passed
+passes-count : (s : State) (n : ℕ) → s .periods + n ≤ maxPeriods → countTest s n ≡ Passed
 unfolding countTest
 passes-count s n h = rw (le-ltb maxPeriods (s .periods + n) (omega arith))
 
 module _ (image l : List ℕ) where
   step-passes : Ready image l 1 → (r : List ℕ) → recordTest r ≡ Passed → stepTest image l r ≡ Passed
   unfolding stepTest readyTest
-  step-passes h r t = rw (h .good, h .sound, t) (passes-count (stateOf l) 1 (h .left))
+  step-passes h r t = rw (h .good, h .sound, t) (passes-count (stateOf l) 1 (h .room))
 
   step-refuses : {n : ℕ} → Ready image l n → (r : List ℕ) → recordTest r ≡ BadPeriod 0 → stepTest image l r ≡ BadPeriod 0
   unfolding stepTest readyTest
@@ -86,12 +88,12 @@ module _ (image l : List ℕ) where
   unfolding stepTest readyTest countTest
   step-full h e r t = rw (h .good, h .sound, t, e)
 
-  step-accepts : Ready image l 1 → (c : StepCall) → longBytes ≤ length (c .reply) → recordTest (c .period) ≡ Passed → accepted image l c ≡ true
+  step-accepts : Ready image l 1 → (c : StepCall) → stepReplyBytes ≤ length (c .reply) → recordTest (c .period) ≡ Passed → accepted image l c ≡ true
   unfolding accepted
-  step-accepts h c r t = rw (le-leb longBytes (length (c .reply)) r) (eq-eqb (numberOf (stepTest image l (c .period))) 0 (ap numberOf (step-passes h (c .period) t)))
+  step-accepts h c r t = rw (le-leb stepReplyBytes (length (c .reply)) r) (eq-eqb (numberOf (stepTest image l (c .period))) 0 (ap numberOf (step-passes h (c .period) t)))
 
 ready-less : (image l : List ℕ) (j n : ℕ) → j ≤ n → Ready image l n → Ready image l j
-ready-less image l j n i h = record { good = h .good; sound = h .sound; left = omega (arith, h .left) }
+ready-less image l j n i h = record { good = h .good; sound = h .sound; room = omega (arith, h .room) }
 
 -- ---- the last call of a list
 
@@ -115,7 +117,7 @@ pub record Accepts (image state trace reply : List ℕ) (k : ℕ) : Type 0 where
   pub all : acceptedCount image state (callsOf trace reply k) ≡ k
   pub leaves : stateAfter image state (callsOf trace reply k) ≡ stateBytes (afterPeriods (imageOf image) (stateOf state) (periodsOf trace k))
 
-module _ (image state trace reply : List ℕ) (n : ℕ) (h : Ready image state n) (b : AllBytes state) (r : longBytes ≤ length reply) where
+module _ (image state trace reply : List ℕ) (n : ℕ) (h : Ready image state n) (b : AllBytes state) (r : stepReplyBytes ≤ length reply) where
   -- the step after k periods is accepted with a marked record
   next-accepted : (k : ℕ) → suc k ≤ n → periodBytes * k + periodBytes ≤ length trace → markedAt trace k ≡ true
       → accepted image (stateBytes (afterPeriods (imageOf image) (stateOf state) (periodsOf trace k))) (record { period = recordAt trace k; reply = reply }) ≡ true
@@ -158,24 +160,24 @@ module _ (image state trace reply : List ℕ) (n : ℕ) (h : Ready image state n
       let f : periodBytes * k + periodBytes ≤ length trace = omega arith in
       rw (before .leaves, after-snoc (imageOf image) (stateOf state) w (periodAt trace (periodBytes * k)), ← record-period trace k f)
       (rw (later-read image state n h w (omega arith)) at
-      (ap (λ (x : Left). x .reply) (accepted-step image l c (next-accepted k i f (m k (omega arith))))))
+      (ap (λ (x : After). x .reply) (accepted-step image l c (next-accepted k i f (m k (omega arith))))))
 
 -- ---- a run
 
-module _ (image state trace reply : List ℕ) (b : AllBytes state) (r : longBytes ≤ length reply) where
+module _ (image state trace reply : List ℕ) (b : AllBytes state) (r : stepReplyBytes ≤ length reply) where
   -- an accepted run ends as the steps of its records do
   pub run-ends : runTest image state trace ≡ Passed → EndsAsSteps image state trace reply
   unfolding run recordCount periodsOf afterPeriods
   run-ends t =
       let n = recordCount trace in
       let h = run-ready image state trace t in
-      let left = call-passed longBytes (runTest image state trace) _ _ _ state reply r (ap numberOf t) in
+      let left = call-passed stepReplyBytes (runTest image state trace) _ _ _ state reply r (ap numberOf t) in
       let each = accepts image state trace reply n h b r n (omega arith) (omega arith) (run-marks image state trace t) in
       record {
         all = each .all;
-        same-state = ap (λ (x : Left). x .state) left ∙ sym (each .leaves);
-        own-answer = λ e. ap (λ (x : Left). x .reply) left ∙ rw e;
-        last-reply = λ k e. ap (λ (x : Left). x .reply) left ∙ rw e (sym (next-reply image state trace reply n h b r k (omega arith) (omega arith) (λ i j. run-marks image state trace t i (omega arith))));
+        same-state = ap (λ (x : After). x .state) left ∙ sym (each .leaves);
+        own-answer = λ e. ap (λ (x : After). x .reply) left ∙ rw e;
+        last-reply = λ k e. ap (λ (x : After). x .reply) left ∙ rw e (sym (next-reply image state trace reply n h b r k (omega arith) (omega arith) (λ i j. run-marks image state trace t i (omega arith))));
       }
 
 -- ---- a refused run
@@ -185,9 +187,13 @@ pub run-keeps : (image state trace reply : List ℕ) → ¬ (runTest image state
 unfolding run
 run-keeps image state trace reply h =
     let t = runTest image state trace in
-    ⊎-elim (λ n. ap (λ (x : Left). x .state) (call-no-room longBytes t _ _ _ state reply n))
-    (λ n. ap (λ (x : Left). x .state) (call-refused longBytes t _ _ _ state reply n (λ e. h (number-passed t e))))
-    (lt-or-le (length reply) longBytes)
+    ⊎-elim (λ n. ap (λ (x : After). x .state) (call-no-room stepReplyBytes t _ _ _ state reply n))
+    (λ n. ap (λ (x : After). x .state) (call-refused stepReplyBytes t _ _ _ state reply n (λ e. h (number-passed t e))))
+    (lt-or-le (length reply) stepReplyBytes)
+
+small-periods : (state : List ℕ) → AllBytes state → stateOf state .periods ≤ maxPeriods
+unfolding stateOf
+small-periods state b = let h = field-lt state 2 4 b in omega arith
 
 -- by the image or the state: as every step is
 pub refused-ready : (image state trace period : List ℕ) → ¬ (readyTest image state ≡ Passed)
@@ -205,7 +211,7 @@ failing-is ok n k h below here =
 
 module _ (image state trace : List ℕ) (h : readyTest image state ≡ Passed) (e : length trace % periodBytes ≡ 0) where
   sound-ready : (n : ℕ) → stateOf state .periods + n ≤ maxPeriods → Ready image state n
-  sound-ready n l = let p = ready-passed image state h in record { good = p .0; sound = p .1; left = omega arith }
+  sound-ready n l = let p = ready-passed image state h in record { good = p .0; sound = p .1; room = omega arith }
 
   -- by a record's mark: at the first record of another mark, which its step refuses if the count lets the steps before it pass
   module _ (k : ℕ) (i : k < recordCount trace) (m : (j : ℕ) → j < k → markedAt trace j ≡ true) (bad : markedAt trace k ≡ false) where
@@ -215,7 +221,7 @@ module _ (image state trace : List ℕ) (h : readyTest image state ≡ Passed) (
         let f = failing-is (markedAt trace) (recordCount trace) k i m bad in
         rw (h, eq-eqb (length trace % periodBytes) 0 e, f, ne-eqb k (recordCount trace) (λ q. omega arith))
 
-    pub refused-mark-step : (reply : List ℕ) → AllBytes state → longBytes ≤ length reply → stateOf state .periods + k ≤ maxPeriods
+    pub refused-mark-step : (reply : List ℕ) → AllBytes state → stepReplyBytes ≤ length reply → stateOf state .periods + k ≤ maxPeriods
         → RefusedAt image state trace reply k (BadPeriod 0)
     unfolding recordCount
     refused-mark-step reply b r l =
@@ -237,10 +243,11 @@ module _ (image state trace : List ℕ) (h : readyTest image state ≡ Passed) (
         let n = recordCount trace in
         rw (h, eq-eqb (length trace % periodBytes) 0 e, all-pass (markedAt trace) n m, eq-eqb n n refl, lt-ltb maxPeriods (stateOf state .periods + n) l)
 
-    pub refused-count-step : (reply : List ℕ) → AllBytes state → longBytes ≤ length reply → stateOf state .periods ≤ maxPeriods
+    pub refused-count-step : (reply : List ℕ) → AllBytes state → stepReplyBytes ≤ length reply
         → RefusedAt image state trace reply (maxPeriods - stateOf state .periods) (FullCount 0)
     unfolding recordCount
-    refused-count-step reply b r small =
+    refused-count-step reply b r =
+        let small = small-periods state b in
         let k = maxPeriods - stateOf state .periods in
         let ready = sound-ready k (omega arith) in
         let w = periodsOf trace k in

@@ -20,7 +20,7 @@ use Rattle.runner.specs.Images.{rowCount, imageOf}
 use Rattle.runner.specs.States.{State, stateOf, stateBytes}
 use Rattle.runner.specs.Machine.{afterPeriod, afterPeriods}
 use Rattle.runner.specs.Refusals.{numberOf, imageTest, stateLengthTest, stateTest, beginTest, readyTest, stepTest}
-use Rattle.runner.specs.Calls.{shortBytes, longBytes, answer, Left, written, call, begin, step}
+use Rattle.runner.specs.Calls.{beginReplyBytes, stepReplyBytes, answer, After, written, call, begin, step}
 use Rattle.runner.specs.StepCalls.{StepCall, accepted, stateAfterCall, stateAfter, acceptedCount}
 use Rattle.runner.specs.Computing.{Ready}
 use Rattle.runner.proofs.Refusals.{true-or-false, first-passed, passed-first, require-passed, state-refused, ready-passed, state-passed}
@@ -37,13 +37,13 @@ module _ (image state : List ℕ) (c : StepCall) where
   unfolding accepted
   accepted-passed e =
       let t = stepTest image state (c .period) in
-      number-passed t (eqb-true (numberOf t) 0 (and-eq-true-iff (leb longBytes (length (c .reply))) (eqb (numberOf t) 0) .0 e .1))
+      number-passed t (eqb-true (numberOf t) 0 (and-eq-true-iff (leb stepReplyBytes (length (c .reply))) (eqb (numberOf t) 0) .0 e .1))
 
-  accepted-room : accepted image state c ≡ true → longBytes ≤ length (c .reply)
+  accepted-room : accepted image state c ≡ true → stepReplyBytes ≤ length (c .reply)
   unfolding accepted
   accepted-room e =
       let t = stepTest image state (c .period) in
-      leb-true longBytes (length (c .reply)) (and-eq-true-iff (leb longBytes (length (c .reply))) (eqb (numberOf t) 0) .0 e .0)
+      leb-true stepReplyBytes (length (c .reply)) (and-eq-true-iff (leb stepReplyBytes (length (c .reply))) (eqb (numberOf t) 0) .0 e .0)
 
   -- an accepted call takes its record's period
   pub accepted-step : accepted image state c ≡ true
@@ -52,23 +52,23 @@ module _ (image state : List ℕ) (c : StepCall) where
       (answer (afterPeriod (imageOf image) (periodAt (c .period) 0) (stateOf state)))
   unfolding step
   accepted-step e =
-      call-passed longBytes (stepTest image state (c .period)) _ _ _ state (c .reply) (accepted-room e) (ap numberOf (accepted-passed e))
+      call-passed stepReplyBytes (stepTest image state (c .period)) _ _ _ state (c .reply) (accepted-room e) (ap numberOf (accepted-passed e))
 
   -- a refused call leaves the state as it was
   pub refused-step : accepted image state c ≡ false → stateAfterCall image state c ≡ state
   unfolding accepted stateAfterCall step
   refused-step e =
       let t = stepTest image state (c .period) in
-      let keeps : (left : Left) → step image state (c .period) (c .reply) ≡ left → left .state ≡ state → step image state (c .period) (c .reply) .state ≡ state
-      = λ left q k. ap (λ (x : Left). x .state) q ∙ k in
-      ⊎-elim (λ h. keeps _ (call-no-room longBytes t _ _ _ state (c .reply) h) refl)
-      (λ h. keeps _ (call-refused longBytes t _ _ _ state (c .reply) h (eqb-false (numberOf t) 0 (rw (le-leb longBytes (length (c .reply)) h) at e))) refl)
-      (lt-or-le (length (c .reply)) longBytes)
+      let keeps : (left : After) → step image state (c .period) (c .reply) ≡ left → left .state ≡ state → step image state (c .period) (c .reply) .state ≡ state
+      = λ left q k. ap (λ (x : After). x .state) q ∙ k in
+      ⊎-elim (λ h. keeps _ (call-no-room stepReplyBytes t _ _ _ state (c .reply) h) refl)
+      (λ h. keeps _ (call-refused stepReplyBytes t _ _ _ state (c .reply) h (eqb-false (numberOf t) 0 (rw (le-leb stepReplyBytes (length (c .reply)) h) at e))) refl)
+      (lt-or-le (length (c .reply)) stepReplyBytes)
 
   -- an accepted call leaves the state's bytes of the period after
   pub taken-step : accepted image state c ≡ true → stateAfterCall image state c ≡ stateBytes (afterPeriod (imageOf image) (periodAt (c .period) 0) (stateOf state))
   unfolding stateAfterCall
-  taken-step e = ap (λ (x : Left). x .state) (accepted-step e)
+  taken-step e = ap (λ (x : After). x .state) (accepted-step e)
 
   taken-read : accepted image state c ≡ true → stateOf (stateAfterCall image state c) ≡ afterPeriod (imageOf image) (periodAt (c .period) 0) (stateOf state)
   taken-read e = rw (taken-step e) (step-read image state (step-ready image state (c .period) (accepted-passed e)) (periodAt (c .period) 0))
@@ -170,7 +170,7 @@ fresh-sound n =
     }
 
 -- begin leaves that state, which is sound
-module _ (image state reply : List ℕ) (r : shortBytes ≤ length reply) (h : beginTest image state ≡ Passed) where
+module _ (image state reply : List ℕ) (r : beginReplyBytes ≤ length reply) (h : beginTest image state ≡ Passed) where
   begun : (imageTest image ≡ Passed) × (length state ≡ headBytes + rowCount image)
   unfolding beginTest
   begun =
@@ -181,7 +181,7 @@ module _ (image state reply : List ℕ) (r : shortBytes ≤ length reply) (h : b
   pub begin-state : begin image state reply .state ≡ stateBytes (freshState (rowCount image))
   unfolding begin
   begin-state =
-      ap (λ (x : Left). x .state) (call-passed shortBytes (beginTest image state) _ _ _ state reply r (ap numberOf h))
+      ap (λ (x : After). x .state) (call-passed beginReplyBytes (beginTest image state) _ _ _ state reply r (ap numberOf h))
       ∙ rw (begun .1) (fresh-bytes (rowCount image))
 
   pub begin-sound : readyTest image (begin image state reply .state) ≡ Passed

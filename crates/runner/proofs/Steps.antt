@@ -22,10 +22,10 @@ use Rattle.runner.specs.declared.Test.the-variants.{Passed, BadPeriod, F
 use Rattle.runner.specs.Limits.{headBytes, maxPeriods}
 use Rattle.runner.specs.Images.{Image, rowCount, imageOf}
 use Rattle.runner.specs.States.{State, stateOf, stateBytes, allAtMost, sound}
-use Rattle.runner.specs.Machine.{byteOf, isTrue, valuesAfter, outcomeOf, blameOf, decided, counted, afterPeriod, afterPeriods}
+use Rattle.runner.specs.Machine.{byteOf, isTrue, valuesAfter, outcomeOf, blameOf, computed, counted, afterPeriod, afterPeriods}
 use Rattle.runner.specs.Refusals.{require, firstOf, imageTest, stateTest, firstFailing, recordCount, markedAt, marksTest, recordTest, traceTest, countTest, readyTest, stepTest, runTest}
 use Rattle.runner.specs.Calls.{periodsOf}
-use Rattle.runner.specs.Computing.{soundHead, newBits, RowValues, withDecision, decidedBytes, Ready}
+use Rattle.runner.specs.Computing.{soundHead, newBits, RowValues, withDecision, decidedBytes, Answering, Ready}
 use Rattle.runner.proofs.Refusals.{all-passed, first-passed, require-passed, period-refused, count-refused, state-passed, ready-passed}
 use Rattle.runner.proofs.Images.{length-rowsOf}
 use Rattle.runner.proofs.States.{Sound, sound-facts, facts-sound, sound-split, stateBytes-stateOf, stateOf-stateBytes, part-rest, length-stateBytes}
@@ -131,7 +131,7 @@ module _ (image l : List ℕ) (h : imageTest image ≡ Passed) (k : stateTest (r
     pub period-computed : n ≡ stateOf l .periods + 1 → stateOf l .outcome ≡ 0 → (p : Period) (vs : List ℕ)
         → vs ≡ map byteOf (newBits image p (eqb (stateOf l .periods) 0) (take (length raised - headBytes) (drop headBytes raised)))
         → decidedBytes (imageOf image) n (putMid headBytes (length raised - headBytes) raised vs) ≡ stateBytes (afterPeriod (imageOf image) p (stateOf l))
-    unfolding decided counted
+    unfolding computed counted
     period-computed e o p vs v =
         let s = stateOf l in
         let new = valuesAfter (imageOf image) p s in
@@ -146,9 +146,9 @@ module _ (image l : List ℕ) (n : ℕ) (h : Ready image l n) where
   pub ready-long : length l ≡ headBytes + rowCount image
   ready-long = state-passed (rowCount image) l (h .sound) .0
 
-  pub ready-room : field l 2 4 + n < maxPeriods + 1
+  pub ready-room : field l 2 4 + n ≤ maxPeriods
   unfolding stateOf
-  ready-room = h .left
+  ready-room = h .room
 
 -- ---- the states that follow
 
@@ -185,7 +185,7 @@ module _ (image l : List ℕ) (n : ℕ) (h : Ready image l n) (w : List Period) 
   later-count = rw (periods-afterPeriods (imageOf image) (stateOf l) w) (omega arith)
 
   pub later-read : stateOf (stateBytes later) ≡ later
-  later-read = read-back (rowCount image) later later-sound (omega (arith, later-count, h .left))
+  later-read = read-back (rowCount image) later later-sound (omega (arith, later-count, h .room))
 
   pub later-long : length (stateBytes later) ≡ length l
   later-long = length-stateBytes later ∙ rw (later-sound .long) (sym (ready-long image l n h))
@@ -194,18 +194,26 @@ module _ (image l : List ℕ) (n : ℕ) (h : Ready image l n) (w : List Period) 
   later-ready =
       record {
         good = h .good;
-        sound = sound-passes (rowCount image) later later-sound (omega (arith, later-count, h .left));
-        left = rw (later-read, later-count) (h .left);
+        sound = sound-passes (rowCount image) later later-sound (omega (arith, later-count, h .room));
+        room = rw (later-read, later-count) (h .room);
+      }
+
+  -- and its answer can be given
+  pub later-answering : Answering (stateBytes later)
+  later-answering =
+      record {
+        head = omega (arith, later-long, ready-long image l n h);
+        past = rw later-read (later-sound .head .decision≤);
       }
 
 -- ---- what the tests of step and run leave
 
-passed-count : (s : State) (n : ℕ) → countTest s n ≡ Passed → s .periods + n < maxPeriods + 1
+passed-count : (s : State) (n : ℕ) → countTest s n ≡ Passed → s .periods + n ≤ maxPeriods
 unfolding countTest
 passed-count s n e = go (ltb maxPeriods (s .periods + n)) refl e
   where
     go : (t : Bool) → ltb maxPeriods (s .periods + n) ≡ t → cond t (FullCount (maxPeriods - s .periods)) Passed ≡ Passed
-        → s .periods + n < maxPeriods + 1
+        → s .periods + n ≤ maxPeriods
     go true b q = absurd (count-refused (maxPeriods - s .periods) q)
     go false b q = let h = ltb-false maxPeriods (s .periods + n) b in omega arith
 
@@ -216,7 +224,7 @@ tests-ready image state t n e =
     let a = first-passed (readyTest image state) (firstOf t (countTest (stateOf state) n)) e in
     let b = first-passed t (countTest (stateOf state) n) (a .1) in
     let r = ready-passed image state (a .0) in
-    (record { good = r .0; sound = r .1; left = passed-count (stateOf state) n (b .1) }, b .0)
+    (record { good = r .0; sound = r .1; room = passed-count (stateOf state) n (b .1) }, b .0)
 
 pub step-ready : (image state period : List ℕ) → stepTest image state period ≡ Passed → Ready image state 1
 unfolding stepTest
@@ -240,8 +248,12 @@ run-marks image state trace e =
     let t = first-passed (require (eqb (length trace % periodBytes) 0) (BadPeriod 0)) (marksTest trace) (tests-ready image state (traceTest trace) n e .1) in
     all-passed (markedAt trace) n (eqb-true bad n (require-passed (eqb bad n) (BadPeriod bad) (period-refused bad) (t .1)))
 
--- the state after one period is read back
+-- the state after one period is read back, and its answer can be given
 pub step-read : (image l : List ℕ) → Ready image l 1 → (p : Period)
     → stateOf (stateBytes (afterPeriod (imageOf image) p (stateOf l))) ≡ afterPeriod (imageOf image) p (stateOf l)
 unfolding afterPeriods
 step-read image l h p = later-read image l 1 h (p ∷ []) (omega arith)
+
+pub step-answering : (image l : List ℕ) → Ready image l 1 → (p : Period) → Answering (stateBytes (afterPeriod (imageOf image) p (stateOf l)))
+unfolding afterPeriods
+step-answering image l h p = later-answering image l 1 h (p ∷ []) (omega arith)

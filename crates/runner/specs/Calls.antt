@@ -1,4 +1,5 @@
--- What begin, step and run leave in every byte that they were lent. Document 01, "Calls" and "Replies that refuse".
+-- What begin, step and run leave in the bytes that they were lent. Document 01, "Calls" and "Replies that refuse".
+-- Image, record and trace are lent to be read only, so they are afterwards as they were.
 use Prim.Native.Nat.{ℕ, zero, suc, _+_, _*_}
 use mathlib.Core.Bool.{cond}
 use mathlib.Core.List.{List, [], _∷_, _++_}
@@ -20,60 +21,61 @@ use Rattle.runner.specs.Refusals.{numberOf, placeOf, recordCount, beginT
 -- ---- replies
 
 -- begin: number, a zero, place
-unfoldable pub shortReply : Test → List ℕ
-shortReply t = bytes 4 (numberOf t) ++ (bytes 4 0 ++ bytes 8 (placeOf t))
+unfoldable pub beginReply : Test → List ℕ
+beginReply t = bytes 4 (numberOf t) ++ (bytes 4 0 ++ bytes 8 (placeOf t))
 
 -- step and run: number, verdict, place, blame, decision period
-unfoldable pub longReply : Test → ℕ → ℕ → ℕ → List ℕ
-longReply t v b d = bytes 4 (numberOf t) ++ (bytes 4 v ++ (bytes 8 (placeOf t) ++ (bytes 4 b ++ bytes 4 d)))
+unfoldable pub stepReply : Test → ℕ → ℕ → ℕ → List ℕ
+stepReply t v b d = bytes 4 (numberOf t) ++ (bytes 4 v ++ (bytes 8 (placeOf t) ++ (bytes 4 b ++ bytes 4 d)))
 
-abbrev pub shortBytes : ℕ
-shortBytes = 16
+abbrev pub beginReplyBytes : ℕ
+beginReplyBytes = 16
 
-abbrev pub longBytes : ℕ
-longBytes = 24
+abbrev pub stepReplyBytes : ℕ
+stepReplyBytes = 24
 
 -- "Step and run give verdict, blame and decision period of the state they leave"
 unfoldable pub answer : State → List ℕ
-answer s = longReply Passed (verdictNumber (verdict s)) (s .blame) (s .decision)
+answer s = stepReply Passed (verdictNumber (verdict s)) (s .blame) (s .decision)
 
 -- "A refusal gives its number and a place; every other field is 0"
 unfoldable pub refusal : Test → List ℕ
-refusal t = longReply t 0 0 0
+refusal t = stepReply t 0 0 0
 
 -- ---- what a call leaves
 
 -- its result, the state's bytes and the reply area's
-pub record Left : Type 0 where
+pub record After : Type 0 where
   pub result : ℕ
   pub state : List ℕ
   pub reply : List ℕ
 
 -- a call's result and the later bytes are those
-pub record Gives (left : Left) (result : ℕ) (state reply : List ℕ) : Type 0 where
+pub record Gives (left : After) (result : ℕ) (state reply : List ℕ) : Type 0 where
   pub result-is : result ≡ left .result
   pub state-is : state ≡ left .state
   pub reply-is : reply ≡ left .reply
 
 -- "If that area is too short for the reply, the call writes nothing anywhere"
-abbrev pub unwritten : List ℕ → List ℕ → Left
+abbrev pub unwritten : List ℕ → List ℕ → After
 unwritten state reply = record { result = 0; state = state; reply = reply }
 
 -- the reply in the area's first bytes, and the state that comes with it
-abbrev pub written : List ℕ → List ℕ → List ℕ → Left
+abbrev pub written : List ℕ → List ℕ → List ℕ → After
 written state reply vs = record { result = 1; state = state; reply = sets reply 0 vs }
 
--- a call whose reply has this many bytes, which leaves this state and reply where it is accepted and that reply where it is refused
-unfoldable pub call : ℕ → Test → (accepted refused : List ℕ) → (later : List ℕ) → (state reply : List ℕ) → Left
+-- A call whose reply needs `room` bytes and whose tests find t: accepted, it writes the reply `accepted` and leaves the state `later`;
+-- refused, it writes the reply `refused` and leaves the state as it was.
+unfoldable pub call : ℕ → Test → (accepted refused : List ℕ) → (later : List ℕ) → (state reply : List ℕ) → After
 call room t accepted refused later state reply =
     cond (ltb (length reply) room) (unwritten state reply)
     (cond (eqb (numberOf t) 0) (written later reply accepted) (written state reply refused))
 
 -- "Begin sets a state to zeros."
-unfoldable pub begin : (image state reply : List ℕ) → Left
+unfoldable pub begin : (image state reply : List ℕ) → After
 begin image state reply =
     let t = beginTest image state in
-    call shortBytes t (shortReply t) (shortReply t) (replicate (length state) 0) state reply
+    call beginReplyBytes t (beginReply t) (beginReply t) (replicate (length state) 0) state reply
 
 -- the periods of a trace's first n records
 unfoldable pub periodsOf : List ℕ → ℕ → List Period
@@ -81,15 +83,15 @@ periodsOf trace zero = []
 periodsOf trace (suc n) = periodsOf trace n ++ (periodAt trace (periodBytes * n) ∷ [])
 
 -- "Step takes one period record."
-unfoldable pub step : (image state period reply : List ℕ) → Left
+unfoldable pub step : (image state period reply : List ℕ) → After
 step image state period reply =
     let t = stepTest image state period in
     let later = afterPeriod (imageOf image) (periodAt period 0) (stateOf state) in
-    call longBytes t (answer later) (refusal t) (stateBytes later) state reply
+    call stepReplyBytes t (answer later) (refusal t) (stateBytes later) state reply
 
 -- "Run takes a state and a trace of zero or more period records and ends as that many steps would."
-unfoldable pub run : (image state trace reply : List ℕ) → Left
+unfoldable pub run : (image state trace reply : List ℕ) → After
 run image state trace reply =
     let t = runTest image state trace in
     let later = afterPeriods (imageOf image) (stateOf state) (periodsOf trace (recordCount trace)) in
-    call longBytes t (answer later) (refusal t) (stateBytes later) state reply
+    call stepReplyBytes t (answer later) (refusal t) (stateBytes later) state reply

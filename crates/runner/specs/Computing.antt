@@ -1,6 +1,6 @@
 -- What the code's inner functions need and give, beside document 01's own notions. A period is computed in the state's own bytes:
 -- while the rows are computed in order, the byte of a row that has its new value holds old + 2 × new, that of a later row old.
-use Prim.Native.Nat.{ℕ, _+_, _*_, _/_, _%_, _<_}
+use Prim.Native.Nat.{ℕ, _+_, _*_, _/_, _%_, _≤_, _<_}
 use mathlib.Core.Bool.{Bool, true, false, _&&_, _||_, cond}
 use mathlib.Core.List.{List, [], _∷_, map}
 use mathlib.Core.Path.{_≡_}
@@ -41,22 +41,22 @@ newIn l = map (λ (v : ℕ). isTrue (v / 2)) l
 unfoldable pub newBits : (image : List ℕ) → Period → Bool → (values : List ℕ) → List Bool
 newBits image p first values = newValues first p (map isTrue values) (imageOf image .rows) (rowCount image)
 
--- such bytes: in period 1 every old value is false
-pub record Packed (values : List ℕ) (first : Bool) : Type 0 where
+-- bytes of two values each; in period 1 every old value is false
+pub record TwoValues (values : List ℕ) (first : Bool) : Type 0 where
   pub small : allAtMost 3 values ≡ true
   pub fresh : first ≡ true → (x : ℕ) → getD (oldIn values) x false ≡ false
 
--- the fields make a row that names rows of these values
+-- the fields make a row that names rows of these bytes
 pub record KindRow (values : List ℕ) (kind x y : ℕ) (first : Bool) : Type 0 where
   pub good : goodRow (length values) (length values) (rowOf kind x y) ≡ true
-  pub bits : Packed values first
+  pub bytes-of-two : TwoValues values first
 
--- the bytes are those of a good image's rows, and row k is next
+-- a byte of two values for each row of a good image, of which k is one
 pub record NextRow (image values : List ℕ) (k : ℕ) (first : Bool) : Type 0 where
   pub good : imageTest image ≡ Passed
   pub row : k < rowCount image
   pub long : length values ≡ rowCount image
-  pub bits : Packed values first
+  pub bytes-of-two : TwoValues values first
 
 -- the bytes are row values that a sound state of a good image has
 pub record RowValues (image values : List ℕ) (first : Bool) : Type 0 where
@@ -65,7 +65,7 @@ pub record RowValues (image values : List ℕ) (first : Bool) : Type 0 where
   pub small : allAtMost (cond first 0 1) values ≡ true
 
 -- the state has a byte for each row of a good image
-pub record Computed (image state : List ℕ) : Type 0 where
+pub record HasRows (image state : List ℕ) : Type 0 where
   pub good : imageTest image ≡ Passed
   pub long : length state ≡ headBytes + rowCount image
 
@@ -78,8 +78,13 @@ unfoldable pub decidedBytes : Image → ℕ → List ℕ → List ℕ
 decidedBytes m period l =
     withDecision (isTrue (getD l (headBytes + m .S) 0)) (isTrue (getD l (headBytes + m .V1) 0)) (isTrue (getD l (headBytes + m .V2) 0)) period l
 
--- the state is a sound one of a good image, with n periods left to count
+-- a state's head, with a decision period that is not above periods taken
+pub record Answering (state : List ℕ) : Type 0 where
+  pub head : headBytes ≤ length state
+  pub past : stateOf state .decision ≤ stateOf state .periods
+
+-- the state is a sound one of a good image, with room to count n more periods
 pub record Ready (image state : List ℕ) (n : ℕ) : Type 0 where
   pub good : imageTest image ≡ Passed
   pub sound : stateTest (rowCount image) state ≡ Passed
-  pub left : stateOf state .periods + n < maxPeriods + 1
+  pub room : stateOf state .periods + n ≤ maxPeriods

@@ -37,7 +37,7 @@ imageBytes m = rowsBytes (m .rows) ++ endBytes m
 unfoldable pub rowCount : List ℕ → ℕ
 rowCount l = length l / rowBytes - 1
 
--- the first n rows
+-- the first n rows; `never` stands where the bytes hold no row, which a good image has nowhere
 unfoldable pub rowsOf : List ℕ → ℕ → List Row
 rowsOf l zero = []
 rowsOf l (suc n) = rowsOf l n ++ (Option·getD (decode l (rowBytes * n)) never ∷ [])

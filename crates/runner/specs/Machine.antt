@@ -3,10 +3,10 @@
 use Prim.Native.Nat.{ℕ, zero, suc, _+_}
 use mathlib.Core.Bool.{Bool, true, false, not, _&&_, _||_, cond}
 use mathlib.Core.List.{List, [], _∷_, _++_, map}
-use lib.Dec.{eqb, ltb}
+use lib.Dec.{eqb}
 use lib.ListN.{length, getD}
 use Rattle.records.specs.Periods.{Period, tries}
-use Rattle.records.specs.Verdicts.{Verdict, «open», met, broken, met-after, broken-after}
+use Rattle.records.specs.Verdicts.{Verdict, «open», met, broken, met-after, broken-after, since}
 use Rattle.runner.specs.Rows.{Row, never, initial, attempt, negation, conjunction, disjunction, previous}
 use Rattle.runner.specs.Images.{Image}
 use Rattle.runner.specs.States.{State}
@@ -51,8 +51,8 @@ blameOf false true = 2
 blameOf true true = 3
 
 -- a period that finds outcome 0 and gives the rows these values
-unfoldable pub decided : Image → List Bool → State → State
-decided m new s =
+unfoldable pub computed : Image → List Bool → State → State
+computed m new s =
     let sat = getD new (m .S) false in
     let v1 = getD new (m .V1) false in
     let v2 = getD new (m .V2) false in
@@ -70,7 +70,7 @@ counted s = record { outcome = s .outcome; blame = s .blame; periods = s .period
 
 -- the state after one period
 unfoldable pub afterPeriod : Image → Period → State → State
-afterPeriod m p s = cond (eqb (s .outcome) 0) (decided m (valuesAfter m p s) s) (counted s)
+afterPeriod m p s = cond (eqb (s .outcome) 0) (computed m (valuesAfter m p s) s) (counted s)
 
 -- the state after a list of periods
 unfoldable pub afterPeriods : Image → State → List Period → State
@@ -81,5 +81,5 @@ afterPeriods m s (p ∷ w) = afterPeriods m (afterPeriod m p s) w
 abbrev pub verdict : State → Verdict
 verdict s =
     cond (eqb (s .outcome) 0) «open»
-    (cond (eqb (s .outcome) 1) (cond (ltb (s .decision) (s .periods)) met-after met)
-    (cond (ltb (s .decision) (s .periods)) broken-after broken))
+    (cond (eqb (s .outcome) 1) (since (s .decision) (s .periods) met met-after)
+    (since (s .decision) (s .periods) broken broken-after))

@@ -36,7 +36,7 @@ firstOf BadState t = BadState
 firstOf (BadPeriod place) t = BadPeriod place
 firstOf (FullCount place) t = FullCount place
 
--- a test of its own
+-- passed where the condition holds, and otherwise this refusal
 abbrev pub require : Bool → Test → Test
 require ok refusal = cond ok Passed refusal
 
@@ -84,7 +84,7 @@ recordTest period = firstOf (require (eqb (length period) periodBytes) (BadPerio
 unfoldable pub traceTest : List ℕ → Test
 traceTest trace = firstOf (require (eqb (length trace % periodBytes) 0) (BadPeriod 0)) (marksTest trace)
 
--- 12: n records more than the periods taken; the first record too many
+-- 12: n more records would pass the largest count; at the first record too many
 unfoldable pub countTest : State → ℕ → Test
 countTest s n = cond (ltb maxPeriods (s .periods + n)) (FullCount (maxPeriods - s .periods)) Passed
 

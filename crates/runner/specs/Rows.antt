@@ -53,7 +53,7 @@ fieldY (previous x) = 0
 unfoldable pub encode : Row → List ℕ
 encode r = rowMark ++ (kind r ∷ 0 ∷ (bytes 2 (fieldX r) ++ bytes 2 (fieldY r)))
 
--- the fields fit their bytes: an action's number is one, and a row's number is one of two bytes
+-- the fields fit a row's bytes: an action is below 16, a row's number fits two bytes
 abbrev pub Fits : Row → Type 0
 Fits never = Unit {0}
 Fits initial = Unit {0}
@@ -81,7 +81,7 @@ rowOf k x y =
     (cond (eqb k 6) (cond (eqb y 0) (some (previous x)) none)
     none))))))
 
--- the row at a place
+-- the row in the eight bytes from byte `at` on
 unfoldable pub decode : List ℕ → ℕ → Option Row
 decode l at =
     cond (marked l at rowMark && eqb (getD l (at + 3) 0) 0) (rowOf (getD l (at + 2) 0) (field l (at + 4) 2) (field l (at + 6) 2)) none

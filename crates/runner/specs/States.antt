@@ -29,6 +29,7 @@ unfoldable pub allAtMost : ℕ → List ℕ → Bool
 allAtMost m [] = true
 allAtMost m (v ∷ vs) = leb v m && allAtMost m vs
 
+-- every field but periods taken, which is 0 where this is asked
 unfoldable pub allZero : State → Bool
 allZero s = eqb (s .outcome) 0 && eqb (s .blame) 0 && eqb (s .decision) 0 && allAtMost 0 (s .values)
 

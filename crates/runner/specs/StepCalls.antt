@@ -1,4 +1,5 @@
--- Lists of step calls, each given the state that the last one left. Document 01, "Calls", from "The list in demand 3".
+-- Lists of step calls, each given the state that the last one left. Document 01, "Calls": "The list in demand 3 holds step calls only",
+-- and "Run .. ends as that many steps would".
 use Prim.Native.Nat.{ℕ, zero, suc, _+_, _*_}
 use mathlib.Core.Bool.{Bool, _&&_, cond}
 use mathlib.Core.List.{List, [], _∷_, _++_}
@@ -10,7 +11,7 @@ use Rattle.records.specs.Limits.{periodBytes}
 use Rattle.runner.specs.declared.Test.{Test}
 use Rattle.runner.specs.States.{stateOf}
 use Rattle.runner.specs.Refusals.{numberOf, recordCount, stepTest}
-use Rattle.runner.specs.Calls.{answer, longBytes, step, run}
+use Rattle.runner.specs.Calls.{answer, stepReplyBytes, step, run}
 
 -- a step call's own arguments: any bytes as its record, and a reply area of any length
 pub record StepCall : Type 0 where
@@ -19,7 +20,7 @@ pub record StepCall : Type 0 where
 
 -- a call is accepted when it has room for its reply and no test refuses it
 unfoldable pub accepted : (image state : List ℕ) → StepCall → Bool
-accepted image state c = leb longBytes (length (c .reply)) && eqb (numberOf (stepTest image state (c .period))) 0
+accepted image state c = leb stepReplyBytes (length (c .reply)) && eqb (numberOf (stepTest image state (c .period))) 0
 
 -- the state that a call leaves, and the state that a list of calls leaves
 unfoldable pub stateAfterCall : (image state : List ℕ) → StepCall → List ℕ
@@ -39,7 +40,7 @@ acceptedCount image state (c ∷ cs) =
 unfoldable pub recordAt : List ℕ → ℕ → List ℕ
 recordAt trace k = take periodBytes (drop (periodBytes * k) trace)
 
--- a step call for each of a trace's first n records, with the same reply area
+-- a step call for each of a trace's first n records, each with an area of these bytes
 unfoldable pub callsOf : (trace reply : List ℕ) → ℕ → List StepCall
 callsOf trace reply zero = []
 callsOf trace reply (suc n) = callsOf trace reply n ++ (record { period = recordAt trace n; reply = reply } ∷ [])

@@ -12,12 +12,12 @@ ghost use Rattle.records.specs.Periods.{Party, number, tries, periodOf};
 ghost use Rattle.records.specs.Verdicts.{verdictNumber};
 ghost use Rattle.runner.specs.Limits.{rowBytes, headBytes};
 ghost use Rattle.runner.specs.Rows.{never, rowOf, goodRow};
-ghost use Rattle.runner.specs.Images.{goodRowAt, goodEnd, imageOf};
+ghost use Rattle.runner.specs.Images.{rowCount, goodRowAt, goodEnd, imageOf};
 ghost use Rattle.runner.specs.States.{stateOf, stateBytes, allAtMost, sound};
 ghost use Rattle.runner.specs.Machine.{byteOf, isTrue, value, outcomeOf, blameOf, afterPeriod, afterPeriods, verdict};
-ghost use Rattle.runner.specs.Refusals.{numberOf, placeOf, firstFailing, imageTest, stateTest, markedAt, marksTest, recordTest, traceTest, countTest, beginTest, readyTest, stepTest, runTest};
-ghost use Rattle.runner.specs.Calls.{shortReply, longReply, answer, shortBytes, longBytes, Gives, begin, periodsOf, step, run};
-ghost use Rattle.runner.specs.Computing.{soundHead, packed, oldIn, newIn, newBits, KindRow, NextRow, RowValues, Computed, withDecision, decidedBytes, Ready};
+ghost use Rattle.runner.specs.Refusals.{numberOf, placeOf, firstFailing, imageTest, stateTest, recordCount, markedAt, marksTest, recordTest, traceTest, countTest, beginTest, readyTest, stepTest, runTest};
+ghost use Rattle.runner.specs.Calls.{beginReply, stepReply, answer, beginReplyBytes, stepReplyBytes, Gives, begin, periodsOf, step, run};
+ghost use Rattle.runner.specs.Computing.{soundHead, packed, oldIn, newIn, newBits, KindRow, NextRow, RowValues, HasRows, withDecision, decidedBytes, Answering, Ready};
 use records::Attempts;
 
 // The most rows of an image.
@@ -32,10 +32,11 @@ pub const HEAD_BYTES: usize = 10;
 // The most periods that a state counts.
 const MAX_PERIODS: u32 = 4294967295;
 
-// The bytes of begin's reply, and of step's and run's.
-const SHORT_BYTES: usize = 16;
+// Begin's reply: number (4 bytes), 0 (4), place (8).
+const BEGIN_REPLY_BYTES: usize = 16;
 
-const LONG_BYTES: usize = 24;
+// Step's and run's: number (4), verdict (4), place (8), blame (4), decision period (4).
+const STEP_REPLY_BYTES: usize = 24;
 
 // What a call's tests find: all passed, or the first refusal with its place.
 pub enum Test {
@@ -74,8 +75,16 @@ fn place(t: Test) -> u64
 
 // ---- refusal 9
 
+// How many rows stand before the end record.
+fn row_count(image: &[u8]) -> usize
+    requires { ⌜ rowBytes ≤ length (now image) ⌝ }
+    ensures { λ r. ⌜ r ≡ rowCount (now (image .entry)) ⌝ }
+{
+    image.len() / ROW_BYTES - 1
+}
+
 // Whether a kind and its fields make a good row k of an image of n rows.
-fn good_row(kind: u32, x: u32, y: u32, k: usize, n: usize) -> bool
+fn good_row(kind: u8, x: u32, y: u32, k: usize, n: usize) -> bool
     ensures { λ r. ⌜ r ≡ goodRow k n (rowOf kind x y) ⌝ }
 {
     match kind {
@@ -101,7 +110,7 @@ fn good_row_at(image: &[u8], n: usize, k: usize) -> bool
         return false;
     }
     good_row(
-        records::wide(image[at + 2]),
+        image[at + 2],
         records::get2(image, at + 4),
         records::get2(image, at + 6),
         k,
@@ -146,7 +155,7 @@ fn image_test(image: &[u8]) -> Test
     if bytes % ROW_BYTES != 0 || bytes < 2 * ROW_BYTES || ROW_BYTES * (MAX_ROWS + 1) < bytes {
         return Test::BadImage(0);
     }
-    let n = bytes / ROW_BYTES - 1;
+    let n = row_count(image);
     let bad = first_bad_row(image, n);
     if bad != n {
         return Test::BadImage(bad);
@@ -222,6 +231,13 @@ fn state_test(n: usize, state: &[u8]) -> Test
 
 // ---- refusals 11 and 12
 
+// How many period records a trace has.
+fn record_count(trace: &[u8]) -> usize
+    ensures { λ r. ⌜ r ≡ recordCount (now (trace .entry)) ⌝ }
+{
+    trace.len() / records::PERIOD_BYTES
+}
+
 // The first of n records without a period record's mark, or n.
 fn first_unmarked(trace: &[u8], n: usize) -> usize
     requires { ⌜ periodBytes * n ≤ length (now trace) ⌝ }
@@ -241,7 +257,7 @@ fn first_unmarked(trace: &[u8], n: usize) -> usize
 fn marks_test(trace: &[u8]) -> Test
     ensures { λ r. ⌜ r ≡ marksTest (now (trace .entry)) ⌝ }
 {
-    let n = trace.len() / records::PERIOD_BYTES;
+    let n = record_count(trace);
     let bad = first_unmarked(trace, n);
     if bad != n {
         return Test::BadPeriod(bad);
@@ -283,6 +299,7 @@ fn count_test(state: &[u8], n: usize) -> Test
 
 // ---- the tests of each call
 
+// Begin: the image, then the state's length.
 fn begin_test(image: &[u8], state: &[u8]) -> Test
     ensures { λ r. ⌜ r ≡ beginTest (now (image .entry)) (now (state .entry)) ⌝ }
 {
@@ -290,7 +307,7 @@ fn begin_test(image: &[u8], state: &[u8]) -> Test
     let Test::Passed = t else {
         return t;
     };
-    if state.len() != HEAD_BYTES + (image.len() / ROW_BYTES - 1) {
+    if state.len() != HEAD_BYTES + row_count(image) {
         return Test::BadState;
     }
     Test::Passed
@@ -304,9 +321,10 @@ fn ready_test(image: &[u8], state: &[u8]) -> Test
     let Test::Passed = t else {
         return t;
     };
-    state_test(image.len() / ROW_BYTES - 1, state)
+    state_test(row_count(image), state)
 }
 
+// Step: then the record, then the count.
 fn step_test(image: &[u8], state: &[u8], period: &[u8]) -> Test
     ensures { λ r. ⌜ r ≡ stepTest (now (image .entry)) (now (state .entry)) (now (period .entry)) ⌝ }
 {
@@ -321,6 +339,7 @@ fn step_test(image: &[u8], state: &[u8], period: &[u8]) -> Test
     count_test(state, 1)
 }
 
+// Run: then the trace, then the count.
 fn run_test(image: &[u8], state: &[u8], trace: &[u8]) -> Test
     ensures { λ r. ⌜ r ≡ runTest (now (image .entry)) (now (state .entry)) (now (trace .entry)) ⌝ }
 {
@@ -332,7 +351,7 @@ fn run_test(image: &[u8], state: &[u8], trace: &[u8]) -> Test
     let Test::Passed = u else {
         return u;
     };
-    count_test(state, trace.len() / records::PERIOD_BYTES)
+    count_test(state, record_count(trace))
 }
 
 // ---- one period of the row machine
@@ -361,6 +380,7 @@ fn kind_value(values: &[u8], kind: u8, x: u32, y: u32, a: Attempts, first: bool)
         3 => 1 - values[x as usize] / 2,
         4 => (values[x as usize] / 2) & (values[y as usize] / 2),
         5 => (values[x as usize] / 2) | (values[y as usize] / 2),
+        // A good row has no kind above 6.
         6..=255 => values[x as usize] % 2,
     }
 }
@@ -450,7 +470,7 @@ fn put_decision(state: &mut [u8], sat: bool, v1: bool, v2: bool, period: u32)
 
 // Decides in a period whose row values the state holds.
 fn decide(image: &[u8], state: &mut [u8], period: u32)
-    requires { ⌜ Computed (now image) (now state) ⌝ }
+    requires { ⌜ HasRows (now image) (now state) ⌝ }
     ensures { λ _. ⌜ now (state .exit) ≡ decidedBytes (imageOf (now (image .entry))) period (now (state .entry)) ⌝ }
 {
     let end = image.len() - ROW_BYTES;
@@ -493,7 +513,7 @@ fn take_periods(image: &[u8], state: &mut [u8], trace: &[u8], n: usize)
 
 // The verdict's number that a state shows.
 fn verdict(state: &[u8]) -> u32
-    requires { ⌜ headBytes ≤ length (now state) ⌝ }
+    requires { ⌜ Answering (now state) ⌝ }
     ensures { λ r. ⌜ r ≡ verdictNumber (verdict (stateOf (now (state .entry)))) ⌝ }
 {
     let outcome = state[0];
@@ -507,18 +527,20 @@ fn verdict(state: &[u8]) -> u32
     }
 }
 
-fn put_short(reply: &mut [u8], t: Test)
-    requires { ⌜ shortBytes ≤ length (now reply) ⌝ }
-    ensures { λ _. ⌜ now (reply .exit) ≡ sets (now (reply .entry)) 0 (shortReply t) ⌝ }
+// Writes begin's reply, accepted or refused.
+fn put_begin_reply(reply: &mut [u8], t: Test)
+    requires { ⌜ beginReplyBytes ≤ length (now reply) ⌝ }
+    ensures { λ _. ⌜ now (reply .exit) ≡ sets (now (reply .entry)) 0 (beginReply t) ⌝ }
 {
     records::put4(reply, 0, number(t));
     records::put4(reply, 4, 0);
     records::put8(reply, 8, place(t));
 }
 
-fn put_long(reply: &mut [u8], t: Test, verdict: u32, blame: u32, decision: u32)
-    requires { ⌜ longBytes ≤ length (now reply) ⌝ }
-    ensures { λ _. ⌜ now (reply .exit) ≡ sets (now (reply .entry)) 0 (longReply t verdict blame decision) ⌝ }
+// Writes step's or run's reply.
+fn put_step_reply(reply: &mut [u8], t: Test, verdict: u32, blame: u32, decision: u32)
+    requires { ⌜ stepReplyBytes ≤ length (now reply) ⌝ }
+    ensures { λ _. ⌜ now (reply .exit) ≡ sets (now (reply .entry)) 0 (stepReply t verdict blame decision) ⌝ }
 {
     records::put4(reply, 0, number(t));
     records::put4(reply, 4, verdict);
@@ -529,10 +551,10 @@ fn put_long(reply: &mut [u8], t: Test, verdict: u32, blame: u32, decision: u32)
 
 // The answer that a state gives.
 fn put_answer(reply: &mut [u8], state: &[u8])
-    requires { ⌜ (longBytes ≤ length (now reply)) × (headBytes ≤ length (now state)) ⌝ }
+    requires { ⌜ (stepReplyBytes ≤ length (now reply)) × Answering (now state) ⌝ }
     ensures { λ _. ⌜ now (reply .exit) ≡ sets (now (reply .entry)) 0 (answer (stateOf (now (state .entry)))) ⌝ }
 {
-    put_long(
+    put_step_reply(
         reply,
         Test::Passed,
         verdict(state),
@@ -559,20 +581,18 @@ fn clear(state: &mut [u8])
 pub extern "C" fn monitor_begin(image: &[u8], state: &mut [u8], reply: &mut [u8]) -> u32
     ensures { λ r. ⌜ Gives (begin (now (image .entry)) (now (state .entry)) (now (reply .entry))) r (now (state .exit)) (now (reply .exit)) ⌝ }
 {
-    if reply.len() < SHORT_BYTES {
+    if reply.len() < BEGIN_REPLY_BYTES {
         return 0;
     }
     let t = begin_test(image, state);
-    if number(t) != 0 {
-        put_short(reply, t);
-        return 1;
+    put_begin_reply(reply, t);
+    if number(t) == 0 {
+        clear(state);
     }
-    clear(state);
-    put_short(reply, t);
     1
 }
 
-// Takes one period record.
+// Takes one period record. The result is 1, or 0 where the reply area is too short.
 #[no_mangle]
 pub extern "C" fn monitor_step(
     image: &[u8],
@@ -582,12 +602,12 @@ pub extern "C" fn monitor_step(
 ) -> u32
     ensures { λ r. ⌜ Gives (step (now (image .entry)) (now (state .entry)) (now (period .entry)) (now (reply .entry))) r (now (state .exit)) (now (reply .exit)) ⌝ }
 {
-    if reply.len() < LONG_BYTES {
+    if reply.len() < STEP_REPLY_BYTES {
         return 0;
     }
     let t = step_test(image, state, period);
     if number(t) != 0 {
-        put_long(reply, t, 0, 0, 0);
+        put_step_reply(reply, t, 0, 0, 0);
         return 1;
     }
     take_period(image, state, records::read_period(period, 0));
@@ -595,20 +615,20 @@ pub extern "C" fn monitor_step(
     1
 }
 
-// Takes a trace of zero or more period records.
+// Takes a trace of zero or more period records. The result is 1, or 0 where the reply area is too short.
 #[no_mangle]
 pub extern "C" fn monitor_run(image: &[u8], state: &mut [u8], trace: &[u8], reply: &mut [u8]) -> u32
     ensures { λ r. ⌜ Gives (run (now (image .entry)) (now (state .entry)) (now (trace .entry)) (now (reply .entry))) r (now (state .exit)) (now (reply .exit)) ⌝ }
 {
-    if reply.len() < LONG_BYTES {
+    if reply.len() < STEP_REPLY_BYTES {
         return 0;
     }
     let t = run_test(image, state, trace);
     if number(t) != 0 {
-        put_long(reply, t, 0, 0, 0);
+        put_step_reply(reply, t, 0, 0, 0);
         return 1;
     }
-    take_periods(image, state, trace, trace.len() / records::PERIOD_BYTES);
+    take_periods(image, state, trace, record_count(trace));
     put_answer(reply, state);
     1
 }

@@ -5,7 +5,6 @@ use borrow.Author.Tests.{eq-eqb, ne-eqb}
 use native.Mathlib.Omega.{arith}
 use mathlib.Core.Path.{_≡_, sym, _∙_}
 use Rattle.runner.specs.declared.Test.the-variants.{Passed}
-use Rattle.runner.specs.Images.{rowCount}
 use Rattle.runner.specs.Refusals.{imageTest, beginTest}
 use Rattle.runner.proofs.Refusals.{refused-first}
 use Rattle.runner.proofs.Images.{passed-good}
@@ -14,6 +13,7 @@ use Rattle.runner.proofs.begin_test.Tie as tie
 use Rattle.runner.proofs.begin_test.Reads as reads
 use Rattle.runner.proofs.begin_test.Lts as lts
 use Rattle.runner.proofs.image_test.Reads as image-test-reads
+use Rattle.runner.proofs.row_count.Reads as row-count-reads
 
 image-test-requires : tie.Need-image-test-requires
 image-test-requires c κs = search needs
@@ -28,25 +28,26 @@ returns c =
     refused-first (t .result) _ _ (t .ensures) (c .match .keys2)
 
 -- past the test of the image
-passed : (c : lts.After-enum-told (image-test-reads.Asked, image-test-reads.Learnt) reads.Pre reads.Post)
+passed : (c : lts.After-enum-told (image-test-reads.Asked, image-test-reads.Learnt, row-count-reads.Asked, row-count-reads.Learnt) reads.Pre reads.Post)
     → imageTest (c .before .before .before .before .before .args .image .now) ≡ Passed
 passed c = sym (c .before .before .image-test .ensures) ∙ c .enum-told .given .1
 
-sub-if1 : tie.Need-sub-if1
-unfolding rowCount
-sub-if1 c = let g = passed-good _ (passed c) in omega (arith, g .count)
+row-count-requires : tie.Need-row-count-requires
+row-count-requires c κs = let g = passed-good _ (passed c) in omega (arith, g .count)
 
 add-if1 : tie.Need-add-if1
-add-if1 c = search needs
+add-if1 c =
+    let g = passed-good _ (passed (c .before)) in
+    omega (arith, g .most, c .row-count .ensures)
 
 returns-2 : tie.Need-returns-2
-unfolding beginTest rowCount
-returns-2 c = rw (passed (c .before), ne-eqb _ _ (c .if1 .taken))
+unfolding beginTest
+returns-2 c = rw (passed (c .before .before), ← c .before .row-count .ensures, ne-eqb _ _ (c .if1 .taken))
 
 returns-3 : tie.Need-returns-3
-unfolding beginTest rowCount
-returns-3 c = rw (passed (c .before), eq-eqb _ _ (c .if1 .left))
+unfolding beginTest
+returns-3 c = rw (passed (c .before .before), ← c .before .row-count .ensures, eq-eqb _ _ (c .if1 .left))
 
 pub begin-test-spec : {M : Type 1} → statement M
 begin-test-spec =
-    tie.close (tie.spec image-test-requires enum-told returns sub-if1 add-if1 returns-2 returns-3)
+    tie.close (tie.spec image-test-requires enum-told returns row-count-requires add-if1 returns-2 returns-3)

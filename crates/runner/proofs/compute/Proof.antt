@@ -47,7 +47,7 @@ row-value-requires c κs =
       good = h .good;
       row = omega (arith, h .long, l .inv .1);
       long = l .inv .1 ∙ h .long;
-      bits = record {
+      bytes-of-two = record {
         small = rw (l .inv .2) (packed-small old new);
         fresh = rw (l .inv .2, old-packed old new) (fresh-of (a .first) (a .values .now) (h .small));
       };

@@ -28,14 +28,11 @@ unfolding goodRowAt decode
 returns-2 c =
     rw (← c .before .before .before .row-marked .ensures, not-false (c .before .before .before .row-marked .result) (c .before .before .if1 .left), ne-eqb _ _ (c .if2 .taken))
 
-add-wide : tie.Need-add-wide
-add-wide c = search needs
+add-good-row : tie.Need-add-good-row
+add-good-row c = search needs
 
-shared-slice-read-wide : tie.Need-shared-slice-read-wide
-shared-slice-read-wide c = search needs
-
-wide-requires : tie.Need-wide-requires
-wide-requires c κs = search needs
+shared-slice-read-good-row : tie.Need-shared-slice-read-good-row
+shared-slice-read-good-row c = search needs
 
 add-get2 : tie.Need-add-get2
 add-get2 c = search needs
@@ -56,9 +53,9 @@ returns-3 : tie.Need-returns-3
 unfolding goodRowAt decode
 returns-3 c =
     let g = c .before .before in
-    let e = g .before .before .before in
+    let e = g .before .before in
     let m = e .before .before in
-    rw (← m .before .row-marked .ensures, not-false (m .before .row-marked .result) (m .if1 .left), eq-eqb _ _ (e .if2 .left), ← g .before .wide .ensures .0, ← g .get2 .ensures .is, ← c .before .get22 .ensures .is)
+    rw (← m .before .row-marked .ensures, not-false (m .before .row-marked .result) (m .if1 .left), eq-eqb _ _ (e .if2 .left), ← g .get2 .ensures .is, ← c .before .get22 .ensures .is)
     (c .good-row .ensures)
 
 pub good-row-at-spec : {M : Type 1} → statement M
@@ -71,9 +68,8 @@ good-row-at-spec =
     add-if2
     shared-slice-read-if2
     returns-2
-    add-wide
-    shared-slice-read-wide
-    wide-requires
+    add-good-row
+    shared-slice-read-good-row
     add-get2
     get2-requires
     add-get2-2

@@ -13,6 +13,7 @@ use Rattle.runner.proofs.image_test.Statement.{statement}
 use Rattle.runner.proofs.image_test.Tie as tie
 use Rattle.runner.proofs.image_test.Reads as reads
 use Rattle.runner.proofs.image_test.Lts as lts
+use Rattle.runner.proofs.row_count.Reads as row-count-reads
 use Rattle.runner.proofs.first_bad_row.Reads as first-bad-row-reads
 use Rattle.runner.proofs.good_end.Reads as good-end-reads
 
@@ -36,36 +37,38 @@ returns c =
     (c .if1 .came) in
     rw e
 
-sub-n : tie.Need-sub-n
-sub-n c = omega (arith, ltb-false)
+row-count-requires : tie.Need-row-count-requires
+row-count-requires c κs = omega (arith, ltb-false)
 
 first-bad-row-requires : tie.Need-first-bad-row-requires
-first-bad-row-requires c κs = search needs
+unfolding rowCount
+first-bad-row-requires c κs = omega (arith, c .row-count .ensures)
 
 -- past the tests of the length
-right : (c : lts.Else3 (first-bad-row-reads.Asked, first-bad-row-reads.Learnt, good-end-reads.Asked, good-end-reads.Learnt) reads.Pre reads.Post)
+right : (c : lts.Else3 (row-count-reads.Asked, row-count-reads.Learnt, first-bad-row-reads.Asked, first-bad-row-reads.Learnt, good-end-reads.Asked, good-end-reads.Learnt) reads.Pre reads.Post)
     → goodLength (c .before .before .before .before .args .image .now) ≡ true
 right c =
     right-length (c .before .before .before .before .args .image .now) (c .before .before .if1 .left) (ltb-false _ _ (c .before .if2 .left)) (ltb-false _ _ (c .if3 .left))
 
 returns-2 : tie.Need-returns-2
-unfolding imageTest rowCount
-returns-2 c = rw (right (c .before .before), ← c .before .first-bad-row .ensures, ne-eqb _ _ (c .if4 .taken))
+unfolding imageTest
+returns-2 c = rw (right (c .before .before .before), ← c .before .before .row-count .ensures, ← c .before .first-bad-row .ensures, ne-eqb _ _ (c .if4 .taken))
 
 good-end-requires : tie.Need-good-end-requires
+unfolding rowCount
 good-end-requires c κs = omega (arith, ltb-false)
 
 returns-3 : tie.Need-returns-3
-unfolding imageTest rowCount
+unfolding imageTest
 returns-3 c =
     let f = c .before .before .before in
-    rw (right (f .before), ← f .first-bad-row .ensures, eq-eqb _ _ (c .before .before .if4 .left), ← c .before .good-end .ensures, not-true (c .before .good-end .result) (c .if5 .taken))
+    rw (right (f .before .before), ← f .before .row-count .ensures, ← f .first-bad-row .ensures, eq-eqb _ _ (c .before .before .if4 .left), ← c .before .good-end .ensures, not-true (c .before .good-end .result) (c .if5 .taken))
 
 returns-4 : tie.Need-returns-4
-unfolding imageTest rowCount
+unfolding imageTest
 returns-4 c =
     let f = c .before .before .before in
-    rw (right (f .before), ← f .first-bad-row .ensures, eq-eqb _ _ (c .before .before .if4 .left), ← c .before .good-end .ensures, not-false (c .before .good-end .result) (c .if5 .left))
+    rw (right (f .before .before), ← f .before .row-count .ensures, ← f .first-bad-row .ensures, eq-eqb _ _ (c .before .before .if4 .left), ← c .before .good-end .ensures, not-false (c .before .good-end .result) (c .if5 .left))
 
 pub image-test-spec : {M : Type 1} → statement M
 image-test-spec =
@@ -75,7 +78,7 @@ image-test-spec =
     add-if3
     mul-if3
     returns
-    sub-n
+    row-count-requires
     first-bad-row-requires
     returns-2
     good-end-requires

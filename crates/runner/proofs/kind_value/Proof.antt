@@ -35,7 +35,7 @@ shared-slice-read-result c =
 sub-result : tie.Need-sub-result
 sub-result c =
     let a = c .before .before .before .args in
-    omega (arith, allAtMost-at 3 (a .values .now) (c .before .before .before .pre .bits .small) (a .x))
+    omega (arith, allAtMost-at 3 (a .values .now) (c .before .before .before .pre .bytes-of-two .small) (a .x))
 
 -- src/lib.rt:72:15
 shared-slice-read-result-2 : tie.Need-shared-slice-read-result-2

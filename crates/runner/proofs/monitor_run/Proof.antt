@@ -5,9 +5,9 @@ use mathlib.Core.Path.{_≡_, sym, _∙_}
 use lib.ListN.{length}
 use Rattle.runner.specs.declared.Test.the-variants.{Passed}
 use Rattle.runner.specs.Refusals.{recordCount, runTest}
-use Rattle.runner.specs.Calls.{longBytes, refusal, periodsOf, run}
+use Rattle.runner.specs.Calls.{stepReplyBytes, refusal, periodsOf, run}
 use Rattle.runner.proofs.Calls.{number-passed, gives-no-room, gives-refused, gives-passed}
-use Rattle.runner.proofs.Steps.{ready-long, length-periodsOf, later-read, run-ready}
+use Rattle.runner.proofs.Steps.{length-periodsOf, later-read, later-answering, run-ready}
 use borrow.Author.Needs.{needs}
 use Rattle.runner.proofs.monitor_run.Statement.{statement}
 use Rattle.runner.proofs.monitor_run.Tie as tie
@@ -15,13 +15,14 @@ use Rattle.runner.proofs.monitor_run.Reads as reads
 use Rattle.runner.proofs.monitor_run.Lts as lts
 use Rattle.runner.proofs.number.Reads as number-reads
 use Rattle.runner.proofs.put_answer.Reads as put-answer-reads
-use Rattle.runner.proofs.put_long.Reads as put-long-reads
+use Rattle.runner.proofs.put_step_reply.Reads as put-step-reply-reads
+use Rattle.runner.proofs.record_count.Reads as record-count-reads
 use Rattle.runner.proofs.run_test.Reads as run-test-reads
 use Rattle.runner.proofs.take_periods.Reads as take-periods-reads
 
 returns : tie.Need-returns
 unfolding run
-returns c = gives-no-room longBytes _ _ _ _ _ _ (c .if1 .taken)
+returns c = gives-no-room stepReplyBytes _ _ _ _ _ _ (c .if1 .taken)
 
 run-test-requires : tie.Need-run-test-requires
 run-test-requires c κs = search needs
@@ -29,8 +30,8 @@ run-test-requires c κs = search needs
 number-requires : tie.Need-number-requires
 number-requires c κs = search needs
 
-put-long-requires : tie.Need-put-long-requires
-put-long-requires c κs = search needs
+put-step-reply-requires : tie.Need-put-step-reply-requires
+put-step-reply-requires c κs = search needs
 
 same-length : tie.Need-same-length
 same-length c = search needs
@@ -45,10 +46,13 @@ returns-2 c =
     let n = p .before .before .before in
     let b = n .before in
     rw (← b .run-test .ensures)
-    (gives-refused longBytes (b .run-test .result) _ _ _ _ _ (b .before .before .if1 .left) (λ e. p .before .before .if2 .taken (n .number .ensures ∙ e)) _ (p .put-long .ensures))
+    (gives-refused stepReplyBytes (b .run-test .result) _ _ _ _ _ (b .before .before .if1 .left) (λ e. p .before .before .if2 .taken (n .number .ensures ∙ e)) _ (p .put-step-reply .ensures))
+
+record-count-requires : tie.Need-record-count-requires
+record-count-requires c κs = search needs
 
 -- the tests are passed
-passed : (c : lts.Else2 (run-test-reads.Asked, run-test-reads.Learnt, number-reads.Asked, number-reads.Learnt, put-long-reads.Asked, put-long-reads.Learnt, take-periods-reads.Asked, take-periods-reads.Learnt, put-answer-reads.Asked, put-answer-reads.Learnt) reads.Pre reads.Post)
+passed : (c : lts.Else2 (run-test-reads.Asked, run-test-reads.Learnt, number-reads.Asked, number-reads.Learnt, put-step-reply-reads.Asked, put-step-reply-reads.Learnt, record-count-reads.Asked, record-count-reads.Learnt, take-periods-reads.Asked, take-periods-reads.Learnt, put-answer-reads.Asked, put-answer-reads.Learnt) reads.Pre reads.Post)
     → runTest (c .before .before .before .before .before .before .before .before .before .args .image .now) (c .before .before .before .before .before .before .before .before .before .args .state .now) (c .before .before .before .before .before .before .before .before .before .args .trace .now) ≡ Passed
 passed c =
     let n = c .before in
@@ -58,14 +62,19 @@ passed c =
 take-periods-requires : tie.Need-take-periods-requires
 unfolding recordCount
 take-periods-requires c κs =
-    let a = c .before .before .before .before .before .before .before .before .before .before .args in
-    (run-ready (a .image .now) (a .state .now) (a .trace .now) (passed (c .before)), omega arith)
+    let a = c .before .before .before .before .before .before .before .before .before .before .before .args in
+    rw (c .record-count .ensures) (run-ready (a .image .now) (a .state .now) (a .trace .now) (passed (c .before .before)), omega arith)
 
 put-answer-requires : tie.Need-put-answer-requires
 put-answer-requires c κs =
-    let a = c .before .before .before .before .before .before .before .before .before .before .before .before .before .before .before .args in
-    let h = run-ready (a .image .now) (a .state .now) (a .trace .now) (passed (c .before .before .before .before .before .before)) in
-    (c .before .before .before .before .before .before .before .before .before .before .if1 .left, omega (arith, c .before .before .before .state .given, ready-long (a .image .now) (a .state .now) (recordCount (a .trace .now)) h))
+    let a = c .before .before .before .before .before .before .before .before .before .before .before .before .before .before .before .before .args in
+    let t = a .trace .now in
+    let h = run-ready (a .image .now) (a .state .now) t (passed (c .before .before .before .before .before .before .before)) in
+    let w = periodsOf t (recordCount t) in
+    let e : length w ≡ recordCount t = length-periodsOf t (recordCount t) in (
+      c .before .before .before .before .before .before .before .before .before .before .before .if1 .left,
+      rw (c .before .before .before .before .take-periods .ensures, c .before .before .before .before .before .record-count .ensures) (later-answering (a .image .now) (a .state .now) (recordCount t) h w (omega arith)),
+    )
 
 same-length-3 : tie.Need-same-length-3
 same-length-3 c = search needs
@@ -74,18 +83,18 @@ same-length-4 : tie.Need-same-length-4
 same-length-4 c = search needs
 
 returns-3 : tie.Need-returns-3
-unfolding run recordCount
+unfolding run
 returns-3 c =
-    let a = c .before .before .before .before .before .before .before .before .before .before .before .before .before .before .before .before .before .before .args in
+    let a = c .before .before .before .before .before .before .before .before .before .before .before .before .before .before .before .before .before .before .before .args in
     let t = a .trace .now in
-    let h = run-ready (a .image .now) (a .state .now) t (passed (c .before .before .before .before .before .before .before .before .before)) in
-    let took = c .before .before .before .before .before .before .before .take-periods .ensures in
-    let n = c .before .before .before .before .before .before .before .before .before .before in
+    let h = run-ready (a .image .now) (a .state .now) t (passed (c .before .before .before .before .before .before .before .before .before .before)) in
+    let took = rw (c .before .before .before .before .before .before .before .before .record-count .ensures) at (c .before .before .before .before .before .before .before .take-periods .ensures) in
+    let n = c .before .before .before .before .before .before .before .before .before .before .before in
     let b = n .before in
     let w = periodsOf t (recordCount t) in
     let e : length w ≡ recordCount t = length-periodsOf t (recordCount t) in
     rw (← b .run-test .ensures)
-    (gives-passed longBytes (b .run-test .result) _ _ _ _ _ (b .before .before .if1 .left) (sym (n .number .ensures) ∙ c .before .before .before .before .before .before .before .before .before .if2 .left) _ _ took
+    (gives-passed stepReplyBytes (b .run-test .result) _ _ _ _ _ (b .before .before .if1 .left) (sym (n .number .ensures) ∙ c .before .before .before .before .before .before .before .before .before .before .if2 .left) _ _ took
     (rw (took, later-read (a .image .now) (a .state .now) (recordCount t) h w (omega arith)) at (c .before .before .put-answer .ensures)))
 
 pub monitor-run-spec : {M : Type 1} → statement M
@@ -95,10 +104,11 @@ monitor-run-spec =
     returns
     run-test-requires
     number-requires
-    put-long-requires
+    put-step-reply-requires
     same-length
     same-length-2
     returns-2
+    record-count-requires
     take-periods-requires
     put-answer-requires
     same-length-3

@@ -18,8 +18,8 @@ wide-requires c κs = search needs
 get4-requires : tie.Need-get4-requires
 get4-requires c κs = search needs
 
-put-long-requires : tie.Need-put-long-requires
-put-long-requires c κs = search needs
+put-step-reply-requires : tie.Need-put-step-reply-requires
+put-step-reply-requires c κs = search needs
 
 same-length : tie.Need-same-length
 same-length c = search needs
@@ -36,6 +36,6 @@ put-answer-spec =
     shared-slice-read-wide
     wide-requires
     get4-requires
-    put-long-requires
+    put-step-reply-requires
     same-length
     returns)

@@ -4,7 +4,6 @@ use borrow.Author.Needs.{needs}
 use native.Mathlib.Omega.{arith}
 use mathlib.Core.Path.{_≡_, sym, _∙_}
 use Rattle.runner.specs.declared.Test.the-variants.{Passed}
-use Rattle.runner.specs.Images.{rowCount}
 use Rattle.runner.specs.Refusals.{imageTest, readyTest}
 use Rattle.runner.proofs.Refusals.{refused-first}
 use Rattle.runner.proofs.Images.{passed-good}
@@ -13,6 +12,7 @@ use Rattle.runner.proofs.ready_test.Tie as tie
 use Rattle.runner.proofs.ready_test.Reads as reads
 use Rattle.runner.proofs.ready_test.Lts as lts
 use Rattle.runner.proofs.image_test.Reads as image-test-reads
+use Rattle.runner.proofs.row_count.Reads as row-count-reads
 use Rattle.runner.proofs.state_test.Reads as state-test-reads
 
 image-test-requires : tie.Need-image-test-requires
@@ -28,23 +28,23 @@ returns c =
     refused-first (t .result) _ _ (t .ensures) (c .match .keys2)
 
 -- past the test of the image
-passed : (c : lts.After-enum-told (image-test-reads.Asked, image-test-reads.Learnt, state-test-reads.Asked, state-test-reads.Learnt) reads.Pre reads.Post)
+passed : (c : lts.After-enum-told (image-test-reads.Asked, image-test-reads.Learnt, row-count-reads.Asked, row-count-reads.Learnt, state-test-reads.Asked, state-test-reads.Learnt) reads.Pre reads.Post)
     → imageTest (c .before .before .before .before .before .args .image .now) ≡ Passed
 passed c = sym (c .before .before .image-test .ensures) ∙ c .enum-told .given .1
 
-sub-state-test : tie.Need-sub-state-test
-unfolding rowCount
-sub-state-test c = let g = passed-good _ (passed c) in omega (arith, g .count)
+row-count-requires : tie.Need-row-count-requires
+row-count-requires c κs = let g = passed-good _ (passed c) in omega (arith, g .count)
 
 state-test-requires : tie.Need-state-test-requires
-unfolding rowCount
-state-test-requires c κs = let g = passed-good _ (passed c) in omega (arith, g .most)
+state-test-requires c κs =
+    let g = passed-good _ (passed (c .before)) in
+    omega (arith, g .most, c .row-count .ensures)
 
 returns-2 : tie.Need-returns-2
-unfolding readyTest rowCount
-returns-2 c = rw (passed (c .before)) (c .state-test .ensures)
+unfolding readyTest
+returns-2 c = rw (passed (c .before .before), ← c .before .row-count .ensures) (c .state-test .ensures)
 
 pub ready-test-spec : {M : Type 1} → statement M
 ready-test-spec =
     tie.close
-    (tie.spec image-test-requires enum-told returns sub-state-test state-test-requires returns-2)
+    (tie.spec image-test-requires enum-told returns row-count-requires state-test-requires returns-2)

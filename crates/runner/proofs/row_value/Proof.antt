@@ -32,7 +32,7 @@ kind-value-requires c κs =
     let p = c .before .before .before .before .before .pre in
     record {
       good = rw (p .long, c .before .get2 .ensures .is, c .get22 .ensures .is) (row-good (a .image .now) (p .good) (a .k) (p .row));
-      bits = p .bits;
+      bytes-of-two = p .bytes-of-two;
     }
 
 returns : tie.Need-returns

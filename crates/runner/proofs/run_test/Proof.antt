@@ -3,7 +3,7 @@
 use borrow.Author.Needs.{needs}
 use mathlib.Core.Path.{_≡_, sym, _∙_}
 use Rattle.runner.specs.declared.Test.the-variants.{Passed}
-use Rattle.runner.specs.Refusals.{recordCount, readyTest, runTest}
+use Rattle.runner.specs.Refusals.{readyTest, runTest}
 use Rattle.runner.proofs.Refusals.{refused-first, ready-head}
 use Rattle.runner.proofs.run_test.Statement.{statement}
 use Rattle.runner.proofs.run_test.Tie as tie
@@ -11,6 +11,7 @@ use Rattle.runner.proofs.run_test.Reads as reads
 use Rattle.runner.proofs.run_test.Lts as lts
 use Rattle.runner.proofs.ready_test.Reads as ready-test-reads
 use Rattle.runner.proofs.trace_test.Reads as trace-test-reads
+use Rattle.runner.proofs.record_count.Reads as record-count-reads
 use Rattle.runner.proofs.count_test.Reads as count-test-reads
 
 ready-test-requires : tie.Need-ready-test-requires
@@ -26,7 +27,7 @@ returns c =
     refused-first (t .result) _ _ (t .ensures) (c .match .keys2)
 
 -- past the tests of the image and the state
-ready : (c : lts.After-enum-told (ready-test-reads.Asked, ready-test-reads.Learnt, trace-test-reads.Asked, trace-test-reads.Learnt, count-test-reads.Asked, count-test-reads.Learnt) reads.Pre reads.Post)
+ready : (c : lts.After-enum-told (ready-test-reads.Asked, ready-test-reads.Learnt, trace-test-reads.Asked, trace-test-reads.Learnt, record-count-reads.Asked, record-count-reads.Learnt, count-test-reads.Asked, count-test-reads.Learnt) reads.Pre reads.Post)
     → let a = c .before .before .before .before .before .before .args in readyTest (a .image .now) (a .state .now) ≡ Passed
 ready c = sym (c .before .before .ready-test .ensures) ∙ c .enum-told .given .1
 
@@ -42,14 +43,17 @@ returns-2 c =
     let t = c .before .trace-test in
     rw (ready (c .before .before)) (refused-first (t .result) _ _ (t .ensures) (c .match2 .keys2))
 
+record-count-requires : tie.Need-record-count-requires
+record-count-requires c κs = search needs
+
 count-test-requires : tie.Need-count-test-requires
-count-test-requires c κs = ready-head _ _ (ready (c .before .before .before))
+count-test-requires c κs = ready-head _ _ (ready (c .before .before .before .before))
 
 returns-3 : tie.Need-returns-3
-unfolding runTest recordCount
+unfolding runTest
 returns-3 c =
-    let t = c .before .before .before .trace-test in
-    rw (ready (c .before .before .before .before), ← t .ensures, c .before .enum-told2 .given .1) (c .count-test .ensures)
+    let t = c .before .before .before .before .trace-test in
+    rw (ready (c .before .before .before .before .before), ← c .before .record-count .ensures, ← t .ensures, c .before .before .enum-told2 .given .1) (c .count-test .ensures)
 
 pub run-test-spec : {M : Type 1} → statement M
 run-test-spec =
@@ -61,5 +65,6 @@ run-test-spec =
     trace-test-requires
     enum-told-2
     returns-2
+    record-count-requires
     count-test-requires
     returns-3)

@@ -45,7 +45,7 @@ take-period-requires c κs =
     let l = c .before .before .before .loop in
     let e : length (periodsOf (a .trace .now) (l .k)) ≡ l .k = length-periodsOf (a .trace .now) (l .k) in
     let g = later-ready (a .image .now) (a .state .now) (a .n) h (periodsOf (a .trace .now) (l .k)) (omega arith) in
-    rw (l .inv .1) (record { good = g .good; sound = g .sound; left = omega (arith, g .left) })
+    rw (l .inv .1) (record { good = g .good; sound = g .sound; room = omega (arith, g .room) })
 
 add-k : tie.Need-add-k Inv-loop μ-loop
 add-k c = omega arith

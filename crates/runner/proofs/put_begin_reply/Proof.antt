@@ -1,9 +1,9 @@
--- `runner::put_short` meets its contract: the reply's fields are written one after the other.
+-- `runner::put_begin_reply` meets its contract: the reply's fields are written one after the other.
 -- Assumes nothing.
 use borrow.Author.Needs.{needs}
 use Rattle.runner.proofs.Calls.{short-written}
-use Rattle.runner.proofs.put_short.Statement.{statement}
-use Rattle.runner.proofs.put_short.Tie as tie
+use Rattle.runner.proofs.put_begin_reply.Statement.{statement}
+use Rattle.runner.proofs.put_begin_reply.Tie as tie
 
 number-requires : tie.Need-number-requires
 number-requires c κs = search needs
@@ -28,8 +28,8 @@ returns c =
     let a = c .before .before .before .before .before .before .before .before .before .before .before .before .before .before .before .args in
     cc (short-written (a .reply .now) (a .t))
 
-pub put-short-spec : {M : Type 1} → statement M
-put-short-spec =
+pub put-begin-reply-spec : {M : Type 1} → statement M
+put-begin-reply-spec =
     tie.close
     (tie.spec
     number-requires

@@ -1,9 +1,9 @@
--- `runner::put_long` meets its contract: the reply's fields are written one after the other.
+-- `runner::put_step_reply` meets its contract: the reply's fields are written one after the other.
 -- Assumes nothing.
 use borrow.Author.Needs.{needs}
 use Rattle.runner.proofs.Calls.{long-written}
-use Rattle.runner.proofs.put_long.Statement.{statement}
-use Rattle.runner.proofs.put_long.Tie as tie
+use Rattle.runner.proofs.put_step_reply.Statement.{statement}
+use Rattle.runner.proofs.put_step_reply.Tie as tie
 
 number-requires : tie.Need-number-requires
 number-requires c κs = search needs
@@ -34,8 +34,8 @@ returns c =
     let a = c .before .before .before .before .before .before .before .before .before .before .before .before .before .before .before .before .before .before .before .before .before .before .before .args in
     cc (long-written (a .reply .now) (a .t) (a .verdict) (a .blame) (a .decision))
 
-pub put-long-spec : {M : Type 1} → statement M
-put-long-spec =
+pub put-step-reply-spec : {M : Type 1} → statement M
+put-step-reply-spec =
     tie.close
     (tie.spec
     number-requires
