@@ -51,10 +51,10 @@ pub record After : Type 0 where
   pub reply : List ℕ
 
 -- a call's result and the later bytes are those
-pub record Gives (left : After) (result : ℕ) (state reply : List ℕ) : Type 0 where
-  pub result-is : result ≡ left .result
-  pub state-is : state ≡ left .state
-  pub reply-is : reply ≡ left .reply
+pub record Gives (after : After) (result : ℕ) (state reply : List ℕ) : Type 0 where
+  pub result-is : result ≡ after .result
+  pub state-is : state ≡ after .state
+  pub reply-is : reply ≡ after .reply
 
 -- "If that area is too short for the reply, the call writes nothing anywhere"
 abbrev pub unwritten : List ℕ → List ℕ → After
