@@ -14,15 +14,18 @@ if command -v c++ >/dev/null; then
     echo "ok monitor.h as C++"
 fi
 
-cc -std=c11 -Wall -Wextra -Werror -O2 -o "$built/smoke" hosts/c/smoke.c "$archive"
-if ! "$built/smoke" >"$built/smoke.out"; then
-    cat "$built/smoke.out"
-    echo "FAILED smoke"
-    exit 1
-fi
-diff -u hosts/c/smoke.expected "$built/smoke.out"
-echo "ok smoke"
+for host in smoke samples; do
+    cc -std=c11 -Wall -Wextra -Werror -O2 -o "$built/$host" "hosts/c/$host.c" "$archive"
+    if ! "$built/$host" >"$built/$host.out"; then
+        cat "$built/$host.out"
+        echo "FAILED $host"
+        exit 1
+    fi
+    diff -u "hosts/c/$host.expected" "$built/$host.out"
+    echo "ok $host"
+done
 
-# The benchmark is built and not run.
+# The benchmark is run for what it compares, not for its times: both machines end in the same row values.
 cc -std=c11 -Wall -Wextra -Werror -O2 -Ihosts/c -o "$built/run_ratio" hosts/bench/run_ratio.c "$archive"
-echo "ok run_ratio builds"
+"$built/run_ratio" >"$built/run_ratio.out"
+echo "ok run_ratio agrees"

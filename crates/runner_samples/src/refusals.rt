@@ -1,244 +1,95 @@
-// The refusals of step and run, one small input each, and their order.
-use crate::show::begin_on;
-use crate::show::counted;
-use crate::show::run;
-use crate::show::run_on;
-use crate::show::state;
-use crate::show::step;
-use crate::show::step_on;
+// The refusal table's small inputs for 9 to 12, and traces that leave the state as it is.
+// A line has the call, a label, the result, the reply's fields, and whether the state was kept.
+use crate::show::put;
+use crate::show::put_begin;
+use crate::show::put_reply;
 
-// The refusal table's small inputs for 9 to 12.
-fn table() {
-    begin_on(
-        b"row 0 of kind 3",
-        b"TR\x03\0\0\0\0\0TE\0\0\0\0\0\0",
-        &[7u8; 11],
-        &mut [7u8; 11],
-    );
-    step_on(
-        b"row 0 of kind 3",
-        b"TR\x03\0\0\0\0\0TE\0\0\0\0\0\0",
-        &[0u8; 11],
-        &mut [0u8; 11],
-        b"TP\0\0\0\0",
-    );
-    run_on(
-        b"row 0 of kind 3",
-        b"TR\x03\0\0\0\0\0TE\0\0\0\0\0\0",
-        &[0u8; 11],
-        &mut [0u8; 11],
-        b"TP\0\0\0\0",
-    );
-    step(b"outcome 3", state(3, 0, 1, 1, 0, 0), b"TP\0\0\0\0");
-    run(b"outcome 3", state(3, 0, 1, 1, 0, 0), b"TP\0\0\0\0");
-    step(b"7 bytes", state(0, 0, 0, 0, 0, 0), b"TP\0\0\0\0T");
-    run(b"7 bytes", state(0, 0, 0, 0, 0, 0), b"TP\0\0\0\0T");
-    step(b"full count, open", counted(0, 0, 255, 0), b"TP\0\0\0\0");
+// Two rows: party 1 tries action 0, party 2 tries action 1. S is row 0, V1 and V2 are row 1.
+const SMALL: [u8; 24] = *b"TR\x02\0\x01\0\0\0\
+    TR\x02\0\x02\0\x01\0\
+    TE\0\0\x01\0\x01\0";
+
+// The same with a row 0 of kind 3.
+const BAD: [u8; 24] = *b"TR\x03\0\0\0\0\0\
+    TR\x02\0\x02\0\x01\0\
+    TE\0\0\x01\0\x01\0";
+
+fn put_kept(before: &[u8], state: &[u8]) {
+    if check::same(before, state) {
+        put(b" kept\n");
+    } else {
+        put(b" changed\n");
+    }
+}
+
+fn step(label: &[u8], image: &[u8; 24], before: [u8; 12], record: &[u8]) {
+    let mut state = before;
+    let mut reply = [238u8; 24];
+    let result = runner::monitor_step(image, &mut state, record, &mut reply);
+    put(label);
+    put_reply(result, &reply);
+    put_kept(&before, &state);
+}
+
+fn run(label: &[u8], image: &[u8; 24], before: [u8; 12], trace: &[u8]) {
+    let mut state = before;
+    let mut reply = [238u8; 24];
+    let result = runner::monitor_run(image, &mut state, trace, &mut reply);
+    put(label);
+    put_reply(result, &reply);
+    put_kept(&before, &state);
+}
+
+// The refusal table.
+pub fn table() {
+    let zeros = [0u8; 12];
+    let mut state = [7u8; 12];
+    let mut reply = [238u8; 24];
+    let result = runner::monitor_begin(&BAD, &mut state, &mut reply);
+    put(b"begin: row 0 of kind 3:");
+    put_begin(result, &reply);
+    put_kept(&[7u8; 12], &state);
+    step(b"step: row 0 of kind 3:", &BAD, zeros, b"TP\0\0\0\0");
+    run(b"run: row 0 of kind 3:", &BAD, zeros, b"TP\0\0\0\0");
+    let third = [3u8, 0, 1, 0, 0, 0, 1, 0, 0, 0, 0, 0];
+    step(b"step: outcome 3:", &SMALL, third, b"TP\0\0\0\0");
+    run(b"run: outcome 3:", &SMALL, third, b"TP\0\0\0\0");
+    step(b"step: 7 bytes:", &SMALL, zeros, b"TP\0\0\0\0T");
+    run(b"run: 7 bytes:", &SMALL, zeros, b"TP\0\0\0\0T");
     step(
-        b"full count, satisfied",
-        counted(1, 0, 255, 1),
+        b"step: full count, open:",
+        &SMALL,
+        [0, 0, 255, 255, 255, 255, 0, 0, 0, 0, 0, 0],
         b"TP\0\0\0\0",
     );
-    step(
-        b"full count, violated",
-        counted(2, 3, 255, 9),
-        b"TP\0\0\0\0",
+    run(
+        b"run: 2 records at 4294967294:",
+        &SMALL,
+        [0, 0, 254, 255, 255, 255, 0, 0, 0, 0, 0, 0],
+        b"TP\0\0\0\0TP\0\0\0\0",
     );
 }
 
-// A trace that would pass the count, and one that fills it.
-fn counts() {
+// A trace refused at its last record, and zero records.
+pub fn traces() {
+    let zeros = [0u8; 12];
     run(
-        b"2 records at 4294967294",
-        counted(0, 0, 254, 0),
-        b"TP\0\0\0\0TP\0\0\0\0",
-    );
-    run(
-        b"3 records at 4294967294, decided",
-        counted(2, 1, 254, 4),
-        b"TP\0\0\0\0TP\0\0\0\0TP\0\0\0\0",
-    );
-    run(
-        b"3 records at 4294967293",
-        counted(0, 0, 253, 0),
-        b"TP\0\0\0\0TP\0\0\0\0TP\0\0\0\0",
-    );
-    run(
-        b"3 records at 4294967295",
-        counted(0, 0, 255, 0),
-        b"TP\0\0\0\0TP\0\0\0\0TP\0\0\0\0",
-    );
-    run(
-        b"1 record at 4294967294",
-        counted(0, 0, 254, 0),
-        b"TP\0\0\0\0",
-    );
-    run(
-        b"2 records at 4294967293, decided",
-        counted(1, 0, 253, 2),
-        b"TP\0\0\0\0TP\0\0\0\0",
-    );
-    run(b"no record at 4294967295", counted(0, 0, 255, 0), b"");
-    step(b"at 4294967294", counted(0, 0, 254, 0), b"TP\0\0\0\0");
-    step(
-        b"at 4294967294, decided",
-        counted(1, 0, 254, 2),
-        b"TP\x01\0\0\0",
-    );
-}
-
-// A step's record: its length and its mark.
-fn records() {
-    step(b"record of 0 bytes", state(0, 0, 0, 0, 0, 0), b"");
-    step(b"record of 5 bytes", state(0, 0, 0, 0, 0, 0), b"TP\0\0\0");
-    step(b"record of 6 bytes", state(0, 0, 0, 0, 0, 0), b"TP\0\0\0\0");
-    step(
-        b"record of 7 bytes",
-        state(0, 0, 0, 0, 0, 0),
-        b"TP\0\0\0\0T",
-    );
-    step(
-        b"record of 12 bytes",
-        state(0, 0, 0, 0, 0, 0),
-        b"TP\0\0\0\0TP\0\0\0\0",
-    );
-    step(
-        b"record with a wrong first byte",
-        state(0, 0, 0, 0, 0, 0),
-        b"UP\0\0\0\0",
-    );
-    step(
-        b"record with a wrong second byte",
-        state(0, 0, 0, 0, 0, 0),
-        b"TQ\0\0\0\0",
-    );
-    step(b"contract record", state(0, 0, 0, 0, 0, 0), b"TC\0\0\0\0");
-    step(
-        b"wrong mark on a decided state",
-        state(1, 0, 3, 2, 0, 0),
-        b"PT\0\0\0\0",
-    );
-}
-
-// A run's trace: its length and its marks.
-fn traces() {
-    run(
-        b"wrong mark in the first of 3",
-        state(0, 0, 0, 0, 0, 0),
-        b"TR\0\0\0\0TP\x08\0\x10\0TP\x08\0\x10\0",
-    );
-    run(
-        b"wrong mark in the last of 3",
-        state(0, 0, 0, 0, 0, 0),
-        b"TP\x08\0\x10\0TP\x08\0\x10\0TE\0\0\0\0",
-    );
-    run(
-        b"wrong mark in the last of 3, decided by the first",
-        state(0, 0, 0, 0, 0, 0),
+        b"run: wrong mark in the last of 3, decided by the first:",
+        &SMALL,
+        zeros,
         b"TP\x01\0\0\0TP\x08\0\x10\0Tp\0\0\0\0",
     );
+    run(b"run: no record, nothing taken:", &SMALL, zeros, b"");
     run(
-        b"wrong marks in the last 2 of 4",
-        state(0, 0, 0, 0, 0, 0),
-        b"TP\x08\0\x10\0TP\x08\0\x10\0TX\0\0\0\0XP\0\0\0\0",
-    );
-    run(b"5 bytes", state(0, 0, 0, 0, 0, 0), b"TP\0\0\0");
-    run(
-        b"11 bytes",
-        state(0, 0, 0, 0, 0, 0),
-        b"TP\x08\0\x10\0TP\x08\0\x10",
+        b"run: no record, met:",
+        &SMALL,
+        [1, 0, 5, 0, 0, 0, 5, 0, 0, 0, 1, 0],
+        b"",
     );
     run(
-        b"13 bytes",
-        state(0, 0, 0, 0, 0, 0),
-        b"TP\x08\0\x10\0TP\x08\0\x10\0T",
+        b"run: no record, broken-after:",
+        &SMALL,
+        [2, 3, 7, 0, 0, 0, 1, 0, 0, 0, 0, 1],
+        b"",
     );
-    run(
-        b"16 bytes",
-        state(0, 0, 0, 0, 0, 0),
-        b"TP\x08\0\x10\0TP\x08\0\x10\0TP\0\0",
-    );
-    run(
-        b"18 bytes",
-        state(0, 0, 0, 0, 0, 0),
-        b"TP\x08\0\x10\0TP\x08\0\x10\0TP\x08\0\x10\0",
-    );
-}
-
-// Zero records.
-fn empty() {
-    run(b"no record, nothing taken", state(0, 0, 0, 0, 0, 0), b"");
-    run(b"no record, open", state(0, 0, 5, 0, 1, 1), b"");
-    run(b"no record, met", state(1, 0, 5, 5, 1, 0), b"");
-    run(b"no record, met-after", state(1, 0, 6, 5, 1, 0), b"");
-    run(b"no record, broken", state(2, 2, 1, 1, 0, 1), b"");
-    run(b"no record, broken-after", state(2, 3, 7, 1, 0, 1), b"");
-}
-
-// The order of the tests.
-fn order() {
-    step_on(
-        b"bad image, state and record",
-        b"TR\x03\0\0\0\0\0TE\0\0\0\0\0\0",
-        &[3u8; 11],
-        &mut [3u8; 11],
-        b"TQ",
-    );
-    run_on(
-        b"bad image, state and trace",
-        b"TR\x03\0\0\0\0\0TE\0\0\0\0\0\0",
-        &[3u8; 12],
-        &mut [3u8; 12],
-        b"TQ",
-    );
-    begin_on(
-        b"bad image and state length",
-        b"TR\x03\0\0\0\0\0TE\0\0\0\0\0\0",
-        &[3u8; 12],
-        &mut [3u8; 12],
-    );
-    step(
-        b"bad state and record",
-        state(3, 0, 1, 1, 0, 0),
-        b"TQ\0\0\0\0",
-    );
-    run(
-        b"bad state and trace",
-        state(3, 0, 1, 1, 0, 0),
-        b"TQ\0\0\0\0\0",
-    );
-    step(
-        b"bad state with a full count",
-        counted(0, 1, 255, 0),
-        b"TP\0\0\0\0",
-    );
-    step(
-        b"bad record on a full count",
-        counted(0, 0, 255, 0),
-        b"TQ\0\0\0\0",
-    );
-    run(
-        b"bad last record past a full count",
-        counted(0, 0, 254, 0),
-        b"TP\0\0\0\0TP\0\0\0\0TQ\0\0\0\0",
-    );
-    run(
-        b"length before marks",
-        state(0, 0, 0, 0, 0, 0),
-        b"TP\0\0\0\0TQ\0\0\0\0T",
-    );
-    run(
-        b"length before count",
-        counted(0, 0, 255, 0),
-        b"TP\0\0\0\0T",
-    );
-}
-
-pub fn all() {
-    table();
-    counts();
-    records();
-    traces();
-    empty();
-    order();
 }
