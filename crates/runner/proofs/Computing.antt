@@ -22,17 +22,24 @@ pub byteOf-bool : (a : Bool) → boolByte a ≡ byteOf a
 byteOf-bool true = refl
 byteOf-bool false = refl
 
-pub byteOf-and : (a b : Bool) → bitAnd (byteOf a) (byteOf b) ≡ byteOf (a && b)
-byteOf-and true true = refl
-byteOf-and true false = refl
-byteOf-and false true = refl
-byteOf-and false false = refl
+-- a value in the second bit
+pub second-bit : (o v : Bool) → bitAnd (byteOf o + 2 * byteOf v) 2 ≡ 2 * byteOf v
+second-bit true true = refl
+second-bit true false = refl
+second-bit false true = refl
+second-bit false false = refl
 
-pub byteOf-or : (a b : Bool) → bitOr (byteOf a) (byteOf b) ≡ byteOf (a || b)
-byteOf-or true true = refl
-byteOf-or true false = refl
-byteOf-or false true = refl
-byteOf-or false false = refl
+pub second-and : (a b : Bool) → bitAnd (2 * byteOf a) (2 * byteOf b) ≡ 2 * byteOf (a && b)
+second-and true true = refl
+second-and true false = refl
+second-and false true = refl
+second-and false false = refl
+
+pub second-or : (a b : Bool) → bitOr (2 * byteOf a) (2 * byteOf b) ≡ 2 * byteOf (a || b)
+second-or true true = refl
+second-or true false = refl
+second-or false true = refl
+second-or false false = refl
 
 pub byteOf-not : (a : Bool) → byteOf (not a) + byteOf a ≡ 1
 byteOf-not true = refl
@@ -42,8 +49,12 @@ pub byteOf-le : (a : Bool) → byteOf a ≤ 1
 byteOf-le true = omega arith
 byteOf-le false = omega arith
 
-pub bit-small : {r : ℕ} (a : Bool) → r ≡ byteOf a → r ≤ 1
-bit-small a e = omega (arith, byteOf-le a)
+pub bool-small : (a : Bool) → boolByte a ≤ 1
+bool-small true = omega arith
+bool-small false = omega arith
+
+pub second-small : {r : ℕ} (a : Bool) → r ≡ 2 * byteOf a → r ≤ 2
+second-small a e = omega (arith, byteOf-le a)
 
 pub isTrue-byteOf : (a : Bool) → isTrue (byteOf a) ≡ a
 isTrue-byteOf true = refl

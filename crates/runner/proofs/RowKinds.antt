@@ -29,7 +29,7 @@ use Rattle.records.proofs.Numbers.{lt-or-le}
 use Rattle.runner.proofs.Rows.{good-other}
 use Rattle.runner.proofs.Images.{passed-good, good-row}
 use Rattle.runner.proofs.States.{allAtMost-at}
-use Rattle.runner.proofs.Computing.{byteOf-bool, byteOf-and, byteOf-or, byteOf-not}
+use Rattle.runner.proofs.Computing.{byteOf-bool, second-bit, second-and, second-or, byteOf-not}
 
 -- r is what bytes hold, and names rows below k, or below n in kind 6
 pub record Is (k n : ℕ) (o : Option Row) (r : Row) : Type 0 where
@@ -125,41 +125,53 @@ both-below n x y h =
     let b = and-eq-true-iff (ltb x n) (ltb y n) .0 h in
     (ltb-true x n (b .0), ltb-true y n (b .1))
 
--- ---- a row's value, by its kind
+-- ---- a row's value, by its kind, in the second bit
+
+module _ (values : List ℕ) (x : ℕ) (s : allAtMost 3 values ≡ true) where
+  -- the new value beside the old one
+  pub new-second : bitAnd (getD values x 0) 2 ≡ 2 * byteOf (getD (newIn values) x false)
+  new-second =
+      let o = getD (oldIn values) x false in
+      let v = getD (newIn values) x false in
+      let e : getD values x 0 ≡ byteOf o + 2 * byteOf v = omega (arith, old-value values x, new-value values x s) in
+      rw e (second-bit o v)
 
 module _ (values : List ℕ) (x y : ℕ) (first : Bool) (p : Period) where
   abbrev the : ℕ → ℕ
-  the kind = byteOf (value first p (oldIn values) (newIn values) (Option·getD (rowOf kind x y) never))
+  the kind = 2 * byteOf (value first p (oldIn values) (newIn values) (Option·getD (rowOf kind x y) never))
 
   pub value-0 : KindRow values 0 x y first → 0 ≡ the 0
   value-0 h = rw (row-0 (length values) (length values) x y (h .good) .row)
 
-  pub value-1 : KindRow values 1 x y first → boolByte first ≡ the 1
-  value-1 h = rw (row-1 (length values) (length values) x y (h .good) .row) (byteOf-bool first)
+  pub value-1 : KindRow values 1 x y first → 2 * boolByte first ≡ the 1
+  value-1 h = rw (row-1 (length values) (length values) x y (h .good) .row, byteOf-bool first)
 
-  pub value-2 : KindRow values 2 x y first → (r : Bool) → ((q : Party) → x ≡ number q → r ≡ tries p q y) → boolByte r ≡ the 2
+  pub value-2 : KindRow values 2 x y first → (r : Bool) → ((q : Party) → x ≡ number q → r ≡ tries p q y) → 2 * boolByte r ≡ the 2
   value-2 h r e =
       let g = row-2 (length values) (length values) x y (h .good) in
-      rw (g .row, e (g .party) (g .is-party)) (byteOf-bool (tries p (g .party) y))
+      rw (g .row, e (g .party) (g .is-party), byteOf-bool (tries p (g .party) y))
 
-  pub value-3 : KindRow values 3 x y first → 1 - getD values x 0 / 2 ≡ the 3
+  pub value-3 : KindRow values 3 x y first → 2 - bitAnd (getD values x 0) 2 ≡ the 3
   value-3 h =
       let b = getD (newIn values) x false in
-      rw (row-3 (length values) (length values) x y (h .good) .row, new-value values x (h .bytes-of-two .small)) (omega (arith, byteOf-not b))
+      rw (row-3 (length values) (length values) x y (h .good) .row, new-second values x (h .bytes-of-two .small)) (omega (arith, byteOf-not b))
 
-  pub value-4 : KindRow values 4 x y first → bitAnd (getD values x 0 / 2) (getD values y 0 / 2) ≡ the 4
+  pub value-4 : KindRow values 4 x y first → bitAnd (bitAnd (getD values x 0) 2) (bitAnd (getD values y 0) 2) ≡ the 4
   value-4 h =
-      rw (row-4 (length values) (length values) x y (h .good) .row, new-value values x (h .bytes-of-two .small), new-value values y (h .bytes-of-two .small))
-      (byteOf-and (getD (newIn values) x false) (getD (newIn values) y false))
+      let s = h .bytes-of-two .small in
+      rw (row-4 (length values) (length values) x y (h .good) .row, new-second values x s, new-second values y s)
+      (second-and (getD (newIn values) x false) (getD (newIn values) y false))
 
-  pub value-5 : KindRow values 5 x y first → bitOr (getD values x 0 / 2) (getD values y 0 / 2) ≡ the 5
+  pub value-5 : KindRow values 5 x y first → bitOr (bitAnd (getD values x 0) 2) (bitAnd (getD values y 0) 2) ≡ the 5
   value-5 h =
-      rw (row-5 (length values) (length values) x y (h .good) .row, new-value values x (h .bytes-of-two .small), new-value values y (h .bytes-of-two .small))
-      (byteOf-or (getD (newIn values) x false) (getD (newIn values) y false))
+      let s = h .bytes-of-two .small in
+      rw (row-5 (length values) (length values) x y (h .good) .row, new-second values x s, new-second values y s)
+      (second-or (getD (newIn values) x false) (getD (newIn values) y false))
 
-  pub value-6 : KindRow values 6 x y first → getD values x 0 % 2 ≡ the 6
-  value-6 h = rw (row-6 (length values) (length values) x y (h .good) .row, old-value values x)
-      (fresh-value first (getD (oldIn values) x false) (λ e. h .bytes-of-two .fresh e x))
+  pub value-6 : KindRow values 6 x y first → 2 * (getD values x 0 % 2) ≡ the 6
+  value-6 h =
+      rw (row-6 (length values) (length values) x y (h .good) .row, old-value values x)
+      (ap (λ (n : ℕ). 2 * n) (fresh-value first (getD (oldIn values) x false) (λ e. h .bytes-of-two .fresh e x)))
 
 -- ---- the rows of a good image
 

@@ -368,27 +368,27 @@ fn tried(a: Attempts, party: u32, action: u32) -> bool
     }
 }
 
-// The value, as 0 or 1, of a row with this kind and these fields.
+// The value of a row with this kind and these fields, as 0 or 2.
 fn kind_value(values: &[u8], kind: u8, x: u32, y: u32, a: Attempts, first: bool) -> u8
     requires { ⌜ KindRow (now values) kind x y first ⌝ }
-    ensures { λ r. ⌜ r ≡ byteOf (value first (periodOf a) (oldIn (now (values .entry))) (newIn (now (values .entry))) (Option·getD (rowOf kind x y) never)) ⌝ }
+    ensures { λ r. ⌜ r ≡ 2 * byteOf (value first (periodOf a) (oldIn (now (values .entry))) (newIn (now (values .entry))) (Option·getD (rowOf kind x y) never)) ⌝ }
 {
     match kind {
         0 => 0,
-        1 => first as u8,
-        2 => tried(a, x, y) as u8,
-        3 => 1 - values[x as usize] / 2,
-        4 => (values[x as usize] / 2) & (values[y as usize] / 2),
-        5 => (values[x as usize] / 2) | (values[y as usize] / 2),
+        1 => 2 * (first as u8),
+        2 => 2 * (tried(a, x, y) as u8),
+        3 => 2 - (values[x as usize] & 2),
+        4 => (values[x as usize] & 2) & (values[y as usize] & 2),
+        5 => (values[x as usize] & 2) | (values[y as usize] & 2),
         // A good row has no kind above 6.
-        6..=255 => values[x as usize] % 2,
+        6..=255 => 2 * (values[x as usize] % 2),
     }
 }
 
-// Row k's value as 0 or 1. Of the row values, those of the lower rows hold old + 2 × new, the others old.
+// Row k's value as 0 or 2. Of the row values, those of the lower rows hold old + 2 × new, the others old.
 fn row_value(image: &[u8], values: &[u8], k: usize, a: Attempts, first: bool) -> u8
     requires { ⌜ NextRow (now image) (now values) k first ⌝ }
-    ensures { λ r. ⌜ r ≡ byteOf (value first (periodOf a) (oldIn (now (values .entry))) (newIn (now (values .entry))) (getD (imageOf (now (image .entry)) .rows) k never)) ⌝ }
+    ensures { λ r. ⌜ r ≡ 2 * byteOf (value first (periodOf a) (oldIn (now (values .entry))) (newIn (now (values .entry))) (getD (imageOf (now (image .entry)) .rows) k never)) ⌝ }
 {
     let at = ROW_BYTES * k;
     kind_value(
@@ -408,7 +408,7 @@ fn compute(image: &[u8], values: &mut [u8], a: Attempts, first: bool)
 {
     let mut k = 0;
     while k < values.len() {
-        values[k] = values[k] + 2 * row_value(image, values, k, a, first);
+        values[k] = values[k] + row_value(image, values, k, a, first);
         k += 1;
     }
 }

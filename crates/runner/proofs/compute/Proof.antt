@@ -13,7 +13,7 @@ use Rattle.runner.specs.Images.{rowCount, imageOf}
 use Rattle.runner.specs.Machine.{isTrue, value, newValues}
 use Rattle.runner.specs.Computing.{oldIn, newIn, newBits}
 use Rattle.runner.proofs.States.{allAtMost-at}
-use Rattle.runner.proofs.Computing.{bit-small, packed-small, old-packed, fresh-of, at-most-one, soFar, soFar-none, soFar-next}
+use Rattle.runner.proofs.Computing.{second-small, packed-small, old-packed, fresh-of, at-most-one, soFar, soFar-none, soFar-next}
 use Rattle.runner.proofs.compute.Statement.{statement}
 use Rattle.runner.proofs.compute.Tie as tie
 use Rattle.runner.proofs.compute.Reads as reads
@@ -53,23 +53,14 @@ row-value-requires c κs =
       };
     }
 
--- a row's value is 0 or 1
-small : (c : lts.After-row-value (row-value-reads.Asked, row-value-reads.Learnt) reads.Pre reads.Post Inv-loop μ-loop) → c .row-value .result ≤ 1
-small c =
-    let a = c .before .before .before .before .before .before .before .args in
-    let l = c .before .before .before .before .loop in
-    bit-small (value (a .first) (periodOf (a .a)) (oldIn (l .values)) (newIn (l .values)) (getD (imageOf (a .image .now) .rows) (l .k) never)) (c .row-value .ensures)
-
-mul-values : tie.Need-mul-values Inv-loop μ-loop
-mul-values c = omega (arith, small c)
-
 add-values : tie.Need-add-values Inv-loop μ-loop
 add-values c =
     let a = c .before .before .before .before .before .before .before .args in
     let l = c .before .before .before .before .loop in
     let old = map isTrue (a .values .now) in
     let new = newValues (a .first) (periodOf (a .a)) old (imageOf (a .image .now) .rows) (l .k) in
-    omega (arith, small c, allAtMost-at 3 (l .values) (rw (l .inv .2) (packed-small old new)) (l .k))
+    let v = value (a .first) (periodOf (a .a)) (oldIn (l .values)) (newIn (l .values)) (getD (imageOf (a .image .now) .rows) (l .k) never) in
+    omega (arith, second-small v (c .row-value .ensures), allAtMost-at 3 (l .values) (rw (l .inv .2) (packed-small old new)) (l .k))
 
 slice-write-values : tie.Need-slice-write-values Inv-loop μ-loop
 slice-write-values c = search needs
@@ -112,7 +103,6 @@ compute-spec =
     loop-holds
     slice-read-values
     row-value-requires
-    mul-values
     add-values
     slice-write-values
     add-k

@@ -3,10 +3,12 @@
 use native.Mathlib.Omega.{arith}
 use borrow.Author.Needs.{needs}
 use borrow.Author.Tests.{ltb-true}
-use lib.ListN.{length}
+use mathlib.Core.Bool.{false}
+use lib.ListN.{length, getD}
 use Rattle.records.specs.Periods.{periodOf}
-use Rattle.runner.proofs.States.{allAtMost-at}
-use Rattle.runner.proofs.RowKinds.{row-2, row-3, row-4, row-5, row-6, kind-6, both-below, value-0, value-1, value-2, value-3, value-4, value-5, value-6}
+use Rattle.runner.specs.Computing.{newIn}
+use Rattle.runner.proofs.Computing.{bool-small, byteOf-le}
+use Rattle.runner.proofs.RowKinds.{new-second, row-2, row-3, row-4, row-5, row-6, kind-6, both-below, value-0, value-1, value-2, value-3, value-4, value-5, value-6}
 use Rattle.runner.proofs.kind_value.Statement.{statement}
 use Rattle.runner.proofs.kind_value.Tie as tie
 
@@ -15,6 +17,9 @@ cast-result : tie.Need-cast-result
 cast-result c = search needs
 
 -- src/lib.rt:70:14
+mul-result : tie.Need-mul-result
+mul-result c = omega (arith, bool-small (c .before .before .args .first))
+
 tried-requires : tie.Need-tried-requires
 tried-requires c κs =
     let a = c .before .before .args in
@@ -23,6 +28,9 @@ tried-requires c κs =
 -- src/lib.rt:70:14
 cast-result-2 : tie.Need-cast-result-2
 cast-result-2 c = search needs
+
+mul-result-2 : tie.Need-mul-result-2
+mul-result-2 c = omega (arith, bool-small (c .tried .result))
 
 -- src/lib.rt:71:18
 shared-slice-read-result : tie.Need-shared-slice-read-result
@@ -35,7 +43,8 @@ shared-slice-read-result c =
 sub-result : tie.Need-sub-result
 sub-result c =
     let a = c .before .before .before .args in
-    omega (arith, allAtMost-at 3 (a .values .now) (c .before .before .before .pre .bytes-of-two .small) (a .x))
+    let b = getD (newIn (a .values .now)) (a .x) false in
+    omega (arith, new-second (a .values .now) (a .x) (c .before .before .before .pre .bytes-of-two .small), byteOf-le b)
 
 -- src/lib.rt:72:15
 shared-slice-read-result-2 : tie.Need-shared-slice-read-result-2
@@ -75,6 +84,9 @@ shared-slice-read-result-6 c =
     ltb-true (a .x) n (row-6 n n (a .x) (a .y) (rw e at g) .names)
 
 -- src/lib.rt:63:1
+mul-result-3 : tie.Need-mul-result-3
+mul-result-3 c = search needs
+
 returns : tie.Need-returns
 returns c =
     let a = c .before .before .args in
@@ -124,8 +136,10 @@ kind-value-spec =
     tie.close
     (tie.spec
     cast-result
+    mul-result
     tried-requires
     cast-result-2
+    mul-result-2
     shared-slice-read-result
     sub-result
     shared-slice-read-result-2
@@ -133,6 +147,7 @@ kind-value-spec =
     shared-slice-read-result-4
     shared-slice-read-result-5
     shared-slice-read-result-6
+    mul-result-3
     returns
     returns-2
     returns-3
