@@ -6,23 +6,18 @@ use Rattle.runner.proofs.Computing.{blame-of, blame-small}
 use Rattle.runner.proofs.blame.Statement.{statement}
 use Rattle.runner.proofs.blame.Tie as tie
 
--- src/lib.rt:136:5
 cast-result : tie.Need-cast-result
 cast-result c = search needs
 
--- src/lib.rt:136:21
 cast-result-2 : tie.Need-cast-result-2
 cast-result-2 c = search needs
 
--- src/lib.rt:136:16
 mul-result : tie.Need-mul-result
 mul-result c = omega (arith, blame-small (c .args .v1) (c .args .v2))
 
--- src/lib.rt:136:5
 add-result : tie.Need-add-result
 add-result c = omega (arith, blame-small (c .args .v1) (c .args .v2))
 
--- src/lib.rt:133:1
 returns : tie.Need-returns
 returns c = blame-of (c .args .v1) (c .args .v2)
 

@@ -7,16 +7,15 @@ use mathlib.Core.Bool.{false}
 use lib.ListN.{length, getD}
 use Rattle.records.specs.Periods.{periodOf}
 use Rattle.runner.specs.Computing.{newIn}
+use Rattle.runner.proofs.States.{allAtMost-at}
 use Rattle.runner.proofs.Computing.{bool-small, byteOf-le}
 use Rattle.runner.proofs.RowKinds.{new-second, row-2, row-3, row-4, row-5, row-6, kind-6, both-below, value-0, value-1, value-2, value-3, value-4, value-5, value-6}
 use Rattle.runner.proofs.kind_value.Statement.{statement}
 use Rattle.runner.proofs.kind_value.Tie as tie
 
--- src/lib.rt:69:14
 cast-result : tie.Need-cast-result
 cast-result c = search needs
 
--- src/lib.rt:70:14
 mul-result : tie.Need-mul-result
 mul-result c = omega (arith, bool-small (c .before .before .args .first))
 
@@ -25,56 +24,48 @@ tried-requires c κs =
     let a = c .before .before .args in
     row-2 (length (a .values .now)) (length (a .values .now)) (a .x) (a .y) (rw (c .match .keys3) at (c .before .before .pre .good)) .is-action
 
--- src/lib.rt:70:14
 cast-result-2 : tie.Need-cast-result-2
 cast-result-2 c = search needs
 
 mul-result-2 : tie.Need-mul-result-2
 mul-result-2 c = omega (arith, bool-small (c .tried .result))
 
--- src/lib.rt:71:18
 shared-slice-read-result : tie.Need-shared-slice-read-result
 shared-slice-read-result c =
     let a = c .before .before .before .args in
     let n = length (a .values .now) in
     ltb-true (a .x) n (row-3 n n (a .x) (a .y) (rw (c .before .match .keys4) at (c .before .before .before .pre .good)) .names)
 
--- src/lib.rt:71:14
 sub-result : tie.Need-sub-result
 sub-result c =
     let a = c .before .before .before .args in
     let b = getD (newIn (a .values .now)) (a .x) false in
     omega (arith, new-second (a .values .now) (a .x) (c .before .before .before .pre .bytes-of-two .small), byteOf-le b)
 
--- src/lib.rt:72:15
 shared-slice-read-result-2 : tie.Need-shared-slice-read-result-2
 shared-slice-read-result-2 c =
     let a = c .before .before .before .args in
     let n = length (a .values .now) in
     both-below n (a .x) (a .y) (row-4 n n (a .x) (a .y) (rw (c .before .match .keys5) at (c .before .before .before .pre .good)) .names) .0
 
--- src/lib.rt:72:42
 shared-slice-read-result-3 : tie.Need-shared-slice-read-result-3
 shared-slice-read-result-3 c =
     let a = c .before .before .before .before .args in
     let n = length (a .values .now) in
     both-below n (a .x) (a .y) (row-4 n n (a .x) (a .y) (rw (c .before .before .match .keys5) at (c .before .before .before .before .pre .good)) .names) .1
 
--- src/lib.rt:73:15
 shared-slice-read-result-4 : tie.Need-shared-slice-read-result-4
 shared-slice-read-result-4 c =
     let a = c .before .before .before .args in
     let n = length (a .values .now) in
     both-below n (a .x) (a .y) (row-5 n n (a .x) (a .y) (rw (c .before .match .keys6) at (c .before .before .before .pre .good)) .names) .0
 
--- src/lib.rt:73:42
 shared-slice-read-result-5 : tie.Need-shared-slice-read-result-5
 shared-slice-read-result-5 c =
     let a = c .before .before .before .before .args in
     let n = length (a .values .now) in
     both-below n (a .x) (a .y) (row-5 n n (a .x) (a .y) (rw (c .before .before .match .keys6) at (c .before .before .before .before .pre .good)) .names) .1
 
--- src/lib.rt:74:20
 shared-slice-read-result-6 : tie.Need-shared-slice-read-result-6
 shared-slice-read-result-6 c =
     let a = c .before .before .before .args in
@@ -83,46 +74,41 @@ shared-slice-read-result-6 c =
     let e = kind-6 n n (a .kind) (a .x) (a .y) (omega arith) g in
     ltb-true (a .x) n (row-6 n n (a .x) (a .y) (rw e at g) .names)
 
--- src/lib.rt:63:1
 mul-result-3 : tie.Need-mul-result-3
-mul-result-3 c = search needs
+mul-result-3 c =
+    let a = c .before .before .before .args in
+    omega (arith, allAtMost-at 3 (a .values .now) (c .before .before .before .pre .bytes-of-two .small) (a .x))
 
 returns : tie.Need-returns
 returns c =
     let a = c .before .before .args in
     rw (c .match .keys1) (value-0 (a .values .now) (a .x) (a .y) (a .first) (periodOf (a .a)) (rw (c .match .keys1) at (c .before .before .pre)))
 
--- src/lib.rt:63:1
 returns-2 : tie.Need-returns-2
 returns-2 c =
     let a = c .before .before .args in
     rw (c .match .keys2) (value-1 (a .values .now) (a .x) (a .y) (a .first) (periodOf (a .a)) (rw (c .match .keys2) at (c .before .before .pre)))
 
--- src/lib.rt:63:1
 returns-3 : tie.Need-returns-3
 returns-3 c =
     let a = c .before .before .before .args in
     rw (c .before .match .keys3) (value-2 (a .values .now) (a .x) (a .y) (a .first) (periodOf (a .a)) (rw (c .before .match .keys3) at (c .before .before .before .pre)) (c .tried .result) (c .tried .ensures))
 
--- src/lib.rt:63:1
 returns-4 : tie.Need-returns-4
 returns-4 c =
     let a = c .before .before .before .args in
     rw (c .before .match .keys4) (value-3 (a .values .now) (a .x) (a .y) (a .first) (periodOf (a .a)) (rw (c .before .match .keys4) at (c .before .before .before .pre)))
 
--- src/lib.rt:63:1
 returns-5 : tie.Need-returns-5
 returns-5 c =
     let a = c .before .before .before .before .args in
     rw (c .before .before .match .keys5) (value-4 (a .values .now) (a .x) (a .y) (a .first) (periodOf (a .a)) (rw (c .before .before .match .keys5) at (c .before .before .before .before .pre)))
 
--- src/lib.rt:63:1
 returns-6 : tie.Need-returns-6
 returns-6 c =
     let a = c .before .before .before .before .args in
     rw (c .before .before .match .keys6) (value-5 (a .values .now) (a .x) (a .y) (a .first) (periodOf (a .a)) (rw (c .before .before .match .keys6) at (c .before .before .before .before .pre)))
 
--- src/lib.rt:63:1
 returns-7 : tie.Need-returns-7
 returns-7 c =
     let a = c .before .before .before .args in

@@ -10,46 +10,36 @@ use Rattle.runner.proofs.Computing.{decision-none, decision-some}
 use Rattle.runner.proofs.put_decision.Statement.{statement}
 use Rattle.runner.proofs.put_decision.Tie as tie
 
--- src/lib.rt:144:9
 outcome-requires : tie.Need-outcome-requires
 outcome-requires c κs = search needs
 
--- src/lib.rt:145:5
 slice-write-state : tie.Need-slice-write-state
 slice-write-state c = search needs
 
--- src/lib.rt:146:16
 blame-requires : tie.Need-blame-requires
 blame-requires c κs = search needs
 
--- src/lib.rt:146:5
 slice-write-state-2 : tie.Need-slice-write-state-2
 slice-write-state-2 c = simp length-set (omega arith)
 
--- src/lib.rt:148:9
 put4-requires : tie.Need-put4-requires
 put4-requires c κs = search needs
 
--- src/lib.rt:150:9
 put4-requires-2 : tie.Need-put4-requires-2
 put4-requires-2 c κs = search needs
 
--- src/lib.rt:140:1
 same-length : tie.Need-same-length
 same-length c = ap length (c .before .before .put4 .ensures) ∙ simp (length-sets, length-set)
 
--- src/lib.rt:140:1
 returns : tie.Need-returns
 unfolding withDecision
 returns c =
     let a = c .before .before .before .before .before .before .before .before .args in
     cc (decision-none (a .sat) (a .v1) (a .v2) (a .period) (cc))
 
--- src/lib.rt:140:1
 same-length-2 : tie.Need-same-length-2
 same-length-2 c = ap length (c .before .before .put42 .ensures) ∙ simp (length-sets, length-set)
 
--- src/lib.rt:140:1
 returns-2 : tie.Need-returns-2
 unfolding withDecision
 returns-2 c =

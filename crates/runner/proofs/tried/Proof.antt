@@ -6,21 +6,17 @@ use Rattle.records.specs.Periods.{party1, party2, tries}
 use Rattle.runner.proofs.tried.Statement.{statement}
 use Rattle.runner.proofs.tried.Tie as tie
 
--- src/lib.rt:55:9
 bit-requires : tie.Need-bit-requires
 bit-requires c κs = search needs
 
--- src/lib.rt:57:9
 bit-requires-2 : tie.Need-bit-requires-2
 bit-requires-2 c κs = search needs
 
--- src/lib.rt:50:1
 returns : tie.Need-returns
 unfolding tries
 returns c party1 e = c .bit .ensures
 returns c party2 e = absurd (omega arith)
 
--- src/lib.rt:50:1
 returns-2 : tie.Need-returns-2
 unfolding tries
 returns-2 c party1 e = absurd (c .before .if1 .left e)
