@@ -1,5 +1,6 @@
--- A run ends as the steps of its records do. A refused one is refused at the record whose step is refused first, except that a wrong
--- mark anywhere (11) goes before the count (12).
+-- A run ends as the steps of its records do. A refused one is refused as every step is, by the image or the state; at 0, by a length
+-- that leaves a record cut; or at the record whose step is refused first, except that a wrong mark anywhere (11) goes before the count
+-- (12).
 -- Assumes nothing.
 use Prim.Native.Nat.{ℕ, zero, suc, _+_, _*_, _-_, _%_, _≤_, _<_}
 use native.Mathlib.Nat.{add-zero}
@@ -201,6 +202,12 @@ pub refused-ready : (image state trace period : List ℕ) → ¬ (readyTest imag
 unfolding runTest stepTest
 refused-ready image state trace period h =
     first-refused (readyTest image state) _ h ∙ sym (first-refused (readyTest image state) _ h)
+
+-- by the length: at 0
+pub refused-length : (image state trace : List ℕ) → readyTest image state ≡ Passed → ¬ (length trace % periodBytes ≡ 0)
+    → runTest image state trace ≡ BadPeriod 0
+unfolding runTest traceTest
+refused-length image state trace h e = rw (h, ne-eqb (length trace % periodBytes) 0 e)
 
 failing-is : (ok : ℕ → Bool) (n k : ℕ) → k < n → ((i : ℕ) → i < k → ok i ≡ true) → ok k ≡ false → firstFailing ok 0 n ≡ k
 failing-is ok n k h below here =
