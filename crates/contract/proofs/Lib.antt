@@ -4,3 +4,7 @@ pub mod Readings
 pub mod Meaning
 pub mod Verdicts
 pub mod Examples
+pub mod Table
+pub mod Codes
+pub mod Tests
+pub mod Stack

@@ -4,3 +4,9 @@ pub mod Readings
 pub mod Meaning
 pub mod Verdicts
 pub mod Examples
+pub mod Limits
+pub mod Table
+pub mod Trees
+pub mod Spelling
+pub mod Reader
+pub mod Codes

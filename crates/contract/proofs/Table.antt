@@ -1,0 +1,117 @@
+-- The table by its numbers: each kind is the kind of its own number, and what the program's table has at each number.
+-- Assumes nothing.
+use Prim.Native.Nat.{ℕ, zero, suc, _+_, _-_, _≤_, _<_}
+use native.Mathlib.Omega.{arith}
+use mathlib.Core.Path.{_≡_, refl, subst}
+use mathlib.Core.Logic.{⊎-elim}
+use mathlib.Core.Bool.{Bool, true, false, _&&_, not, cond, and-eq-true-iff, false≢true}
+use mathlib.Core.List.{List, [], _∷_, map}
+use mathlib.Core.Option.{Option, none, some}
+use lib.Dec.{eqb, ltb, leb}
+use lib.ListN.{getD}
+use borrow.Author.Tests.{eqb-true, lt-ltb, le-leb}
+use Rattle.records.proofs.Numbers.{lt-or-le}
+use Rattle.contract.specs.declared.Entry.{Entry}
+use Rattle.contract.specs.declared.Lookup.the-variants.{Found, Unknown}
+use Rattle.contract.specs.Table.{Kind, kinds, numbered, kindOf, line}
+use Rattle.contract.specs.Table.{duty, ban, power, both, then, repair, repeat, when, until, any, tries, idle, succeeds, fails, seq, or, star}
+use Rattle.contract.specs.Codes.{entryOf, lookupOf}
+
+pub kind-number : (k : Kind) → kindOf (line k .number) ≡ some k
+unfolding kindOf numbered
+kind-number duty = refl
+kind-number ban = refl
+kind-number power = refl
+kind-number both = refl
+kind-number then = refl
+kind-number repair = refl
+kind-number repeat = refl
+kind-number when = refl
+kind-number until = refl
+kind-number any = refl
+kind-number tries = refl
+kind-number idle = refl
+kind-number succeeds = refl
+kind-number fails = refl
+kind-number seq = refl
+kind-number or = refl
+kind-number star = refl
+
+abbrev pub every : (Kind → Bool) → List Kind → Bool
+every f [] = true
+every f (K ∷ Ks) = f K && every f Ks
+
+-- the kind has this number and passes this test
+abbrev pub Listed : (Kind → Bool) → ℕ → Option Kind → Type 0
+Listed f n none = Unit {0}
+Listed f n (some K) = (line K .number ≡ n) × (f K ≡ true)
+
+-- a kind found by its number passes the test that all do
+pub listed : (f : Kind → Bool) (n : ℕ) (Ks : List Kind) → every f Ks ≡ true → Listed f n (numbered n Ks)
+unfolding numbered
+listed f n [] h = tt
+listed f n (K ∷ Ks) h = go (eqb (line K .number) n) refl (listed f n Ks (and-eq-true-iff (f K) (every f Ks) .0 h .1))
+  where
+    go : (t : Bool) → eqb (line K .number) n ≡ t → Listed f n (numbered n Ks) → Listed f n (cond t (some K) (numbered n Ks))
+    go true e rest = (eqb-true (line K .number) n e, and-eq-true-iff (f K) (every f Ks) .0 h .0)
+    go false e rest = rest
+
+pub number-kind : (n : ℕ) (k : Kind) → kindOf n ≡ some k → line k .number ≡ n
+unfolding kindOf
+number-kind n k h = subst (Listed (λ j. true) n) h (listed (λ j. true) n kinds refl) .0
+
+-- ---- the program's table
+
+abbrev pub entries : List Entry
+entries = map entryOf kinds
+
+-- true of each of so many numbers from i on
+abbrev From : (ℕ → Type 0) → (i count : ℕ) → Type 0
+From P i zero = Unit {0}
+From P i (suc m) = P i × From P (suc i) m
+
+infixr 5 _and_
+abbrev _and_ : {A B : Type 0} → A → B → A × B
+a and b = (a, b)
+
+at : (P : ℕ → Type 0) (i m : ℕ) → From P i m → (n : ℕ) → i ≤ n → n < i + m → P n
+at P i zero all n h l = absurd (omega arith)
+at P i (suc m) all n h l =
+    ⊎-elim (λ s. let e : i ≡ n = omega arith in subst P e (all .0)) (λ s. at P (suc i) m (all .1) n s (omega arith)) (lt-or-le n (suc i))
+
+module _ (d : Entry) where
+  pub known-clause : (n : ℕ) → 1 ≤ n → n ≤ 9 → lookupOf (kindOf n) ≡ Found (getD entries (n - 1) d)
+  unfolding kindOf numbered
+  known-clause n h l =
+      at (λ n. lookupOf (kindOf n) ≡ Found (getD entries (n - 1) d)) 1 9
+      (refl and refl and refl and refl and refl and refl and refl and refl and refl and tt)
+      n h (omega arith)
+
+  pub known-expression : (n : ℕ) → 16 ≤ n → n ≤ 23 → lookupOf (kindOf n) ≡ Found (getD entries (n - 7) d)
+  unfolding kindOf numbered
+  known-expression n h l =
+      at (λ n. lookupOf (kindOf n) ≡ Found (getD entries (n - 7) d)) 16 8
+      (refl and refl and refl and refl and refl and refl and refl and refl and tt)
+      n h (omega arith)
+
+-- no kind has a number from a on and below b
+unknown-between : (a b n : ℕ) → every (λ K. not (leb a (line K .number) && ltb (line K .number) b)) kinds ≡ true → a ≤ n → n < b
+    → lookupOf (kindOf n) ≡ Unknown
+unfolding kindOf
+unknown-between a b n none-there h l = go (kindOf n) (listed outside n kinds none-there)
+  where
+    outside : Kind → Bool
+    outside K = not (leb a (line K .number) && ltb (line K .number) b)
+
+    go : (o : Option Kind) → Listed outside n o → lookupOf o ≡ Unknown
+    go none w = refl
+    go (some K) w = absurd (false≢true (rw (w .0, le-leb a n h, lt-ltb n b l) at (w .1)))
+
+pub unknown : (n : ℕ) → ¬ ((1 ≤ n) × (n ≤ 9)) → ¬ ((16 ≤ n) × (n ≤ 23)) → lookupOf (kindOf n) ≡ Unknown
+unknown n no-clause no-expression =
+    ⊎-elim (λ l. unknown-between 0 1 n refl (omega arith) l)
+    (λ a. ⊎-elim (λ l. absurd (no-clause (a, omega arith)))
+    (λ b. ⊎-elim (λ l. unknown-between 10 16 n refl b l)
+    (λ c. ⊎-elim (λ l. absurd (no-expression (c, omega arith)))
+    (λ d. unknown-between 24 (suc n) n refl d (omega arith))
+    (lt-or-le n 24)) (lt-or-le n 16)) (lt-or-le n 10)) (lt-or-le n 1)
