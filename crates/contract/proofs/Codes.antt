@@ -21,13 +21,14 @@ use Rattle.contract.specs.declared.Lookup.the-variants.{Found}
 use Rattle.contract.specs.declared.Step.{Step}
 use Rattle.contract.specs.declared.Step.the-variants.{Bad, Completed}
 use Rattle.contract.specs.declared.Answer.the-variants.{Refused, Taken}
-use Rattle.contract.specs.Table.{Sort, clause, expression, Kind, kinds, kindOf, line}
+use Rattle.contract.specs.Table.{Sort, clause, expression, Kind, kindOf, line}
 use Rattle.contract.specs.Table.{duty, ban, power, both, then, repair, repeat, when, until, any, tries, idle, succeeds, fails, seq, or, star}
 use Rattle.contract.specs.Expressions.{holdsEmpty}
-use Rattle.contract.proofs.Table.{Listed, listed}
+use Rattle.contract.proofs.Table.{number-kind, of-all}
+use Rattle.contract.proofs.Nodes.{onto, onto-operands}
 use Rattle.contract.specs.Trees.{Trees, Used, Fields, node}
-use Rattle.contract.specs.Reader.{Result, refused, taken, require, demand, partyField, actionField, fieldsFrom, fieldsOf, Operand, operand, Operands, oneMore, below, operandsOf, holdsEmptyUnder, push, readRecord, justOne}
-use Rattle.contract.specs.Codes.{answerOf, sortNumber, entryOf, lookupOf, goodParty, goodAction, goodFields, expressionCode, codeOf, codeAt, sortOf, goodOperands, emptyUnder, completed, stepFound, stepOf}
+use Rattle.contract.specs.Reader.{Result, refused, taken, require, demand, partyField, actionField, fieldsFrom, fieldsOf, Operand, operand, oneMore, below, operandsOf, holdsEmptyUnder, push, readRecord, justOne, answerOf}
+use Rattle.contract.specs.Codes.{sortNumber, entryOf, lookupOf, goodParty, goodAction, goodFields, expressionCode, codeOf, codeAt, sortOf, goodOperands, emptyUnder, completed, stepFound, stepOf}
 
 -- ---- 4: the fields
 
@@ -65,6 +66,9 @@ fields-present K p a z =
 
 -- ---- 5: the operands
 
+few-operands : (K : Kind) → length (line K .operands) ≤ 2
+few-operands K = leb-true (length (line K .operands)) 2 (of-all (λ J. leb (length (line J .operands)) 2) refl K)
+
 sort-of-expression : (empty : Bool) → sortOf (expressionCode empty) ≡ 2
 sort-of-expression true = refl
 sort-of-expression false = refl
@@ -93,7 +97,7 @@ two-present s expression (operand expression e ∷ st) =
 
 operands-present : (ss : List Sort) (party action : Bool) (st : List Operand) → length ss ≤ 2
     → goodOperands
-    record { operands = length ss; first = getD (map sortNumber ss) 0 0; second = getD (map sortNumber ss) 1 0; party = party; action = action }
+    record { 0 = length ss; 1 = getD (map sortNumber ss) 0 0; 2 = getD (map sortNumber ss) 1 0; 3 = party; 4 = action }
     (codeAt st 1)
     (codeAt st 0)
     ≡ present (operandsOf ss st)
@@ -103,41 +107,15 @@ operands-present (s ∷ []) party action st h = one-present s [] tt st
 operands-present (s ∷ s′ ∷ []) party action st h = two-present s s′ st
 operands-present (s ∷ s′ ∷ s″ ∷ ss) party action st h = absurd (omega arith)
 
--- a stack with these trees on top, the last one topmost
-abbrev stacked : (ss : List Sort) → Trees ss → List Operand → List Operand
-stacked [] ts st = st
-stacked (s ∷ ss) ts st = stacked ss (ts .1) (operand s (ts .0) ∷ st)
+onto-length : (ss : List Sort) (ts : Trees ss) (st : List Operand) → length (onto ss ts st) ≡ length ss + length st
+onto-length [] ts st = sym (zero-add (length st))
+onto-length (s ∷ ss) ts st = omega (arith, onto-length ss (ts .1) (operand s (ts .0) ∷ st))
 
-stacked-length : (ss : List Sort) (ts : Trees ss) (st : List Operand) → length (stacked ss ts st) ≡ length ss + length st
-stacked-length [] ts st = sym (zero-add (length st))
-stacked-length (s ∷ ss) ts st = omega (arith, stacked-length ss (ts .1) (operand s (ts .0) ∷ st))
-
-stacked-below : (ss : List Sort) (ts : Trees ss) (st : List Operand) → drop (length ss) (map codeOf (stacked ss ts st)) ≡ map codeOf st
-stacked-below [] ts st = refl
-stacked-below (s ∷ ss) ts st =
+onto-below : (ss : List Sort) (ts : Trees ss) (st : List Operand) → drop (length ss) (map codeOf (onto ss ts st)) ≡ map codeOf st
+onto-below [] ts st = refl
+onto-below (s ∷ ss) ts st =
     let st′ = operand s (ts .0) ∷ st in
-    rw (← add-one, ← drop-drop 1 (length ss) (map codeOf (stacked ss (ts .1) st′)), stacked-below ss (ts .1) st′)
-
--- the operands found are those of the stack
-abbrev Stacked : (ss : List Sort) → List Operand → Option (Operands ss) → Type 0
-Stacked ss st none = Unit {0}
-Stacked ss st (some os) = st ≡ stacked ss (os .trees) (os .rest)
-
-stack-is : (ss : List Sort) (st : List Operand) → Stacked ss st (operandsOf ss st)
-unfolding operandsOf
-stack-is [] st = refl
-stack-is (s ∷ ss) st = go (operandsOf ss st) (stack-is ss st)
-  where
-    more : (s : Sort) (ts : Trees ss) (rest : List Operand) → st ≡ stacked ss ts rest → Stacked (s ∷ ss) st (oneMore s {ss = ss} ts rest)
-    more s ts [] h = tt
-    more clause ts (operand clause c ∷ rest) h = h
-    more clause ts (operand expression e ∷ rest) h = tt
-    more expression ts (operand clause c ∷ rest) h = tt
-    more expression ts (operand expression e ∷ rest) h = h
-
-    go : (o : Option (Operands ss)) → Stacked ss st o → Stacked (s ∷ ss) st (below s o)
-    go none h = tt
-    go (some os) h = more s (os .trees) (os .rest) h
+    rw (← add-one, ← drop-drop 1 (length ss) (map codeOf (onto ss (ts .1) st′)), onto-below ss (ts .1) st′)
 
 -- ---- 7, and what is pushed
 
@@ -150,7 +128,7 @@ record Told (K : Kind) (f : Fields K) (ts : Trees (line K .operands)) (st : List
   empty : emptyUnder (line K .number) (codeAt st 1) (codeAt st 0) ≡ holdsEmptyUnder (line K .completes) (node K f ts)
   code : completed (line K .number) (codeAt st 1) (codeAt st 0) ≡ codeOf (operand (line K .completes) (node K f ts))
 
-told : (K : Kind) (f : Fields K) (ts : Trees (line K .operands)) (st : List Operand) → Told K f ts (stacked (line K .operands) ts st)
+told : (K : Kind) (f : Fields K) (ts : Trees (line K .operands)) (st : List Operand) → Told K f ts (onto (line K .operands) ts st)
 unfolding emptyUnder completed node holdsEmpty
 told duty f ts st = record { empty = refl; code = refl }
 told ban f ts st = record { empty = refl; code = refl }
@@ -199,51 +177,50 @@ module _ (k : ℕ) (st : List Operand) where
   agrees-unless true f r s h = refl
   agrees-unless false f r s h = h
 
-  agrees-demand : {A : Type 0} (P : Option A → Type 0) (o : Option A) (f : Fault) (g : A → Result (List Operand)) (s : Step) → P o
-      → ((x : A) → P (some x) → Agrees k st (g x) s) → Agrees k st (demand o f k g) (cond (present o) s (Bad f))
-  agrees-demand P none f g s h each = refl
-  agrees-demand P (some x) f g s h each = each x h
+  agrees-demand : {A : Type 0} (o : Option A) (f : Fault) (g : A → Result (List Operand)) (s : Step)
+      → ((x : A) → o ≡ some x → Agrees k st (g x) s) → Agrees k st (demand o f k g) (cond (present o) s (Bad f))
+  agrees-demand none f g s each = refl
+  agrees-demand (some x) f g s each = each x refl
 
-  agrees-kind : (P : Option Kind → Type 0) (o : Option Kind) (g : Kind → Result (List Operand)) (l : List ℕ) (b t : ℕ) → P o
-      → ((K : Kind) → P (some K) → Agrees k st (g K) (stepFound (Found (entryOf K)) l b t))
+  agrees-kind : (o : Option Kind) (g : Kind → Result (List Operand)) (l : List ℕ) (b t : ℕ)
+      → ((K : Kind) → o ≡ some K → Agrees k st (g K) (stepFound (Found (entryOf K)) l b t))
       → Agrees k st (demand o UnknownKind k g) (stepFound (lookupOf o) l b t)
-  agrees-kind P none g l b t h each = refl
-  agrees-kind P (some K) g l b t h each = each K h
+  agrees-kind none g l b t each = refl
+  agrees-kind (some K) g l b t each = each K refl
 
 -- where the operands are there: the tree is pushed or refused as the codes say
 agrees-push : (k : ℕ) (K : Kind) (f : Fields K) (ts : Trees (line K .operands)) (rest : List Operand)
-    → let st = stacked (line K .operands) ts rest in
+    → let st = onto (line K .operands) ts rest in
     Agrees k st (push k (line K .completes) (node K f ts) rest)
     (cond (emptyUnder (line K .number) (codeAt st 1) (codeAt st 0)) (Bad EmptyList)
     (Completed (length (line K .operands)) (completed (line K .number) (codeAt st 1) (codeAt st 0))))
 agrees-push k K f ts rest =
-    let st = stacked (line K .operands) ts rest in
+    let st = onto (line K .operands) ts rest in
     let w = told K f ts rest in
     rw (w .empty, w .code)
     (agrees-unless k st (holdsEmptyUnder (line K .completes) (node K f ts)) EmptyList _ _
     record {
       after = operand (line K .completes) (node K f ts) ∷ rest;
       is = refl;
-      codes = rw (stacked-below (line K .operands) ts rest);
-      enough = omega (arith, stacked-length (line K .operands) ts rest);
+      codes = rw (onto-below (line K .operands) ts rest);
+      enough = omega (arith, onto-length (line K .operands) ts rest);
     })
 
 -- the tests of a record, in their order
 agrees : (k : ℕ) (st : List Operand) (l : List ℕ) → Agrees k st (readRecord k st l) (stepOf l (codeAt st 1) (codeAt st 0))
-unfolding readRecord stepOf kindOf
+unfolding readRecord stepOf
 agrees k st l =
     let n = getD l 2 0 in
     let p = getD l 3 0 in
     let a = getD l 4 0 in
     let z = getD l 5 0 in
-    let few : Kind → Bool = λ K. leb (length (line K .operands)) 2 in
     agrees-require k st (marked l 0 contractMark) BadMark _ _
-    (agrees-kind k st (Listed few n) (kindOf n) _ l (codeAt st 1) (codeAt st 0) (listed few n kinds refl)
-    (λ K h. rw (fields-present K p a z)
-    (agrees-demand k st (λ o. Unit {0}) (fieldsOf K p a z) BadField _ _ tt
-    (λ f u. rw (operands-present (line K .operands) (line K .usesParty) (line K .usesAction) st (leb-true _ 2 (h .1)))
-    (agrees-demand k st (Stacked (line K .operands) st) (operandsOf (line K .operands) st) BadOperands _ _ (stack-is (line K .operands) st)
-    (λ os e. rw (e, ← h .0) (agrees-push k K f (os .trees) (os .rest))))))))
+    (agrees-kind k st (kindOf n) _ l (codeAt st 1) (codeAt st 0)
+    (λ K e. rw (fields-present K p a z)
+    (agrees-demand k st (fieldsOf K p a z) BadField _ _
+    (λ f e₂. rw (operands-present (line K .operands) (line K .usesParty) (line K .usesAction) st (few-operands K))
+    (agrees-demand k st (operandsOf (line K .operands) st) BadOperands _ _
+    (λ os e₃. rw (onto-operands (line K .operands) st os e₃, ← number-kind n K e) (agrees-push k K f (os .trees) (os .rest))))))))
 
 pub step-bad : (k : ℕ) (st : List Operand) (l : List ℕ) (f : Fault) → stepOf l (codeAt st 1) (codeAt st 0) ≡ Bad f → readRecord k st l ≡ refused f k
 step-bad k st l f e = subst (Agrees k st (readRecord k st l)) e (agrees k st l)

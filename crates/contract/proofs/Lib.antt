@@ -5,6 +5,11 @@ pub mod Meaning
 pub mod Verdicts
 pub mod Examples
 pub mod Table
+pub mod Spelling
+pub mod Nodes
+pub mod Reader
+pub mod Answers
+pub mod Places
 pub mod Codes
 pub mod Tests
 pub mod Stack

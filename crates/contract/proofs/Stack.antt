@@ -18,8 +18,8 @@ use Rattle.contract.specs.declared.Fault.the-variants.{NotOneClause}
 use Rattle.contract.specs.declared.Step.{Step}
 use Rattle.contract.specs.declared.Step.the-variants.{Bad, Completed}
 use Rattle.contract.specs.Limits.{maxRecords, recordBytes}
-use Rattle.contract.specs.Reader.{Operand, refused, taken, next, readRecord, readRecords, justOne}
-use Rattle.contract.specs.Codes.{codeOf, codeAt, stepOf, answerOf}
+use Rattle.contract.specs.Reader.{Operand, refused, taken, next, readRecord, readRecords, justOne, answerOf}
+use Rattle.contract.specs.Codes.{codeOf, codeAt, stepOf}
 use Rattle.contract.proofs.Codes.{Pushed, step-bad, step-completed, just-one, not-one, not-clause}
 
 -- after k of n records

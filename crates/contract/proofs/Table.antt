@@ -42,12 +42,12 @@ every f [] = true
 every f (K ∷ Ks) = f K && every f Ks
 
 -- the kind has this number and passes this test
-abbrev pub Listed : (Kind → Bool) → ℕ → Option Kind → Type 0
+abbrev Listed : (Kind → Bool) → ℕ → Option Kind → Type 0
 Listed f n none = Unit {0}
 Listed f n (some K) = (line K .number ≡ n) × (f K ≡ true)
 
 -- a kind found by its number passes the test that all do
-pub listed : (f : Kind → Bool) (n : ℕ) (Ks : List Kind) → every f Ks ≡ true → Listed f n (numbered n Ks)
+listed : (f : Kind → Bool) (n : ℕ) (Ks : List Kind) → every f Ks ≡ true → Listed f n (numbered n Ks)
 unfolding numbered
 listed f n [] h = tt
 listed f n (K ∷ Ks) h = go (eqb (line K .number) n) refl (listed f n Ks (and-eq-true-iff (f K) (every f Ks) .0 h .1))
@@ -55,6 +55,11 @@ listed f n (K ∷ Ks) h = go (eqb (line K .number) n) refl (listed f n Ks (and-e
     go : (t : Bool) → eqb (line K .number) n ≡ t → Listed f n (numbered n Ks) → Listed f n (cond t (some K) (numbered n Ks))
     go true e rest = (eqb-true (line K .number) n e, and-eq-true-iff (f K) (every f Ks) .0 h .0)
     go false e rest = rest
+
+-- a test that all kinds of the table pass is passed by every kind
+pub of-all : (f : Kind → Bool) → every f kinds ≡ true → (k : Kind) → f k ≡ true
+unfolding kindOf
+of-all f h k = subst (Listed f (line k .number)) (kind-number k) (listed f (line k .number) kinds h) .1
 
 pub number-kind : (n : ℕ) (k : Kind) → kindOf n ≡ some k → line k .number ≡ n
 unfolding kindOf
@@ -98,14 +103,14 @@ module _ (d : Entry) where
 unknown-between : (a b n : ℕ) → every (λ K. not (leb a (line K .number) && ltb (line K .number) b)) kinds ≡ true → a ≤ n → n < b
     → lookupOf (kindOf n) ≡ Unknown
 unfolding kindOf
-unknown-between a b n none-there h l = go (kindOf n) (listed outside n kinds none-there)
+unknown-between a b n none-there h l = go (kindOf n) refl
   where
     outside : Kind → Bool
     outside K = not (leb a (line K .number) && ltb (line K .number) b)
 
-    go : (o : Option Kind) → Listed outside n o → lookupOf o ≡ Unknown
-    go none w = refl
-    go (some K) w = absurd (false≢true (rw (w .0, le-leb a n h, lt-ltb n b l) at (w .1)))
+    go : (o : Option Kind) → kindOf n ≡ o → lookupOf o ≡ Unknown
+    go none e = refl
+    go (some K) e = absurd (false≢true (rw (number-kind n K e, le-leb a n h, lt-ltb n b l) at (of-all outside none-there K)))
 
 pub unknown : (n : ℕ) → ¬ ((1 ≤ n) × (n ≤ 9)) → ¬ ((16 ≤ n) × (n ≤ 23)) → lookupOf (kindOf n) ≡ Unknown
 unknown n no-clause no-expression =

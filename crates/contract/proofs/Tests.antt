@@ -1,14 +1,14 @@
--- What the tests of the reader's program come to: of a party, of a record by the way it is left, of the length.
+-- What the tests of the reader's program come to: of a party, and of a record by the way it is left.
 -- Assumes nothing.
-use Prim.Native.Nat.{ℕ, _+_, _*_, _%_, _≤_, _<_}
+use Prim.Native.Nat.{ℕ, _+_, _≤_, _<_}
 use native.Mathlib.Nat.{add-zero}
 use native.Mathlib.Omega.{arith}
-use mathlib.Core.Bool.{Bool, true, false, not, cond, and-false}
+use mathlib.Core.Bool.{Bool, true, false, not, cond}
 use mathlib.Core.List.{List}
 use mathlib.Core.Path.{_≡_, refl}
-use borrow.Author.Tests.{eqb-false, eq-eqb, ne-eqb, lt-ltb, le-leb, lt-leb}
+use borrow.Author.Tests.{eqb-false, eq-eqb, ne-eqb}
 use lib.Dec.{eqb}
-use lib.ListN.{length, drop, getD}
+use lib.ListN.{drop, getD}
 use lib.Seq.{getD-drop}
 use Rattle.records.specs.Marks.{contractMark, marked}
 use Rattle.contract.specs.declared.Fault.the-variants.{BadMark, UnknownKind, BadField, BadOperands, EmptyList}
@@ -16,8 +16,6 @@ use Rattle.contract.specs.declared.Entry.{Entry}
 use Rattle.contract.specs.declared.Lookup.the-variants.{Found, Unknown}
 use Rattle.contract.specs.declared.Step.the-variants.{Bad, Completed}
 use Rattle.contract.specs.Table.{kindOf}
-use Rattle.contract.specs.Limits.{maxRecords, recordBytes}
-use Rattle.contract.specs.Reader.{goodLength}
 use Rattle.contract.specs.Codes.{lookupOf, goodParty, goodFields, goodOperands, emptyUnder, completed, stepOf}
 
 pub party-zero : (used : Bool) → goodParty used 0 ≡ not used
@@ -73,26 +71,7 @@ module _ (l : List ℕ) (at b t : ℕ) where
         step-operands o = rw (marked-drop, h, getD-drop at l 2 0, f, getD-drop at l 3 0, getD-drop at l 4 0, getD-drop at l 5 0, g, o)
 
         pub step-last : goodOperands e b t ≡ true
-            → stepOf (drop at l) b t ≡ cond (emptyUnder kind b t) (Bad EmptyList) (Completed (e .operands) (completed kind b t))
+            → stepOf (drop at l) b t ≡ cond (emptyUnder kind b t) (Bad EmptyList) (Completed (e .0) (completed kind b t))
         unfolding stepOf
         step-last o =
             rw (marked-drop, h, getD-drop at l 2 0, f, getD-drop at l 3 0, getD-drop at l 4 0, getD-drop at l 5 0, g, o, getD-drop at l 2 0)
-
--- ---- 1
-
-module _ (l : List ℕ) where
-  pub no-bytes : length l ≡ 0 → goodLength l ≡ false
-  unfolding goodLength
-  no-bytes e = rw e
-
-  pub uneven : (length l % recordBytes ≡ 0 → ⊥) → goodLength l ≡ false
-  unfolding goodLength
-  uneven h = rw (ne-eqb (length l % recordBytes) 0 h, and-false)
-
-  pub too-long : recordBytes * maxRecords < length l → goodLength l ≡ false
-  unfolding goodLength
-  too-long h = rw (lt-leb (length l) (recordBytes * maxRecords) h, and-false)
-
-  pub right-length : (length l ≡ 0 → ⊥) → length l % recordBytes ≡ 0 → length l ≤ recordBytes * maxRecords → goodLength l ≡ true
-  unfolding goodLength
-  right-length z h i = rw (lt-ltb 0 (length l) (omega arith), eq-eqb (length l % recordBytes) 0 h, le-leb (length l) (recordBytes * maxRecords) i)

@@ -14,23 +14,10 @@ use Rattle.contract.specs.declared.Lookup.{Lookup}
 use Rattle.contract.specs.declared.Lookup.the-variants.{Found, Unknown}
 use Rattle.contract.specs.declared.Step.{Step}
 use Rattle.contract.specs.declared.Step.the-variants.{Bad, Completed}
-use Rattle.contract.specs.declared.Answer.{Answer}
-use Rattle.contract.specs.declared.Answer.the-variants.{Refused, Taken}
 use Rattle.contract.specs.Limits.{maxRecords, recordBytes}
 use Rattle.contract.specs.Table.{Sort, clause, expression, Kind, kindOf, line}
 use Rattle.contract.specs.Expressions.{holdsEmpty}
-use Rattle.contract.specs.Meaning.{Clause}
-use Rattle.contract.specs.Reader.{Result, refused, taken, Operand, operand, recordCount, read}
-
--- ---- the answer
-
--- a refusal with its place, or the number of records taken
-abbrev pub answerOf : ℕ → Result Clause → Answer
-answerOf n (refused f k) = Refused f k
-answerOf n (taken c) = Taken n
-
-unfoldable pub answer : List ℕ → Answer
-answer l = answerOf (recordCount l) (read l)
+use Rattle.contract.specs.Reader.{Operand, operand}
 
 -- ---- the table in numbers
 
@@ -43,14 +30,7 @@ abbrev pub operandSort : Kind → ℕ → ℕ
 operandSort k i = getD (map sortNumber (line k .operands)) i 0
 
 abbrev pub entryOf : Kind → Entry
-entryOf k =
-    record {
-      operands = length (line k .operands);
-      first = operandSort k 0;
-      second = operandSort k 1;
-      party = line k .usesParty;
-      action = line k .usesAction;
-    }
+entryOf k = record { 0 = length (line k .operands); 1 = operandSort k 0; 2 = operandSort k 1; 3 = line k .usesParty; 4 = line k .usesAction }
 
 abbrev pub lookupOf : Option Kind → Lookup
 lookupOf none = Unknown
@@ -67,7 +47,7 @@ goodAction true n = ltb n actions
 goodAction false n = eqb n 0
 
 unfoldable pub goodFields : Entry → (party action last : ℕ) → Bool
-goodFields e p a z = goodParty (e .party) p && goodAction (e .action) a && eqb z 0
+goodFields e p a z = goodParty (e .3) p && goodAction (e .4) a && eqb z 0
 
 -- ---- the operands
 
@@ -91,8 +71,8 @@ sortOf c = cond (eqb c 3) 2 c
 -- 5: of the two operands on top
 unfoldable pub goodOperands : Entry → (below top : ℕ) → Bool
 goodOperands e b t =
-    cond (eqb (e .operands) 0) true
-    (cond (eqb (e .operands) 1) (eqb (sortOf t) (e .first)) (eqb (sortOf b) (e .first) && eqb (sortOf t) (e .second)))
+    cond (eqb (e .0) 0) true
+    (cond (eqb (e .0) 1) (eqb (sortOf t) (e .1)) (eqb (sortOf b) (e .1) && eqb (sortOf t) (e .2)))
 
 -- 7: under `when` the expression is the first operand, under `until` the second
 unfoldable pub emptyUnder : (kind below top : ℕ) → Bool
@@ -113,7 +93,7 @@ stepFound Unknown l b t = Bad UnknownKind
 stepFound (Found e) l b t =
     cond (goodFields e (getD l 3 0) (getD l 4 0) (getD l 5 0))
     (cond (goodOperands e b t)
-    (cond (emptyUnder (getD l 2 0) b t) (Bad EmptyList) (Completed (e .operands) (completed (getD l 2 0) b t)))
+    (cond (emptyUnder (getD l 2 0) b t) (Bad EmptyList) (Completed (e .0) (completed (getD l 2 0) b t)))
     (Bad BadOperands))
     (Bad BadField)
 

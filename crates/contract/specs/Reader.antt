@@ -12,6 +12,8 @@ use Rattle.records.specs.Marks.{contractMark, marked}
 use Rattle.records.specs.Periods.{Party, partyOf}
 use Rattle.contract.specs.declared.Fault.{Fault}
 use Rattle.contract.specs.declared.Fault.the-variants.{BadLength, BadMark, UnknownKind, BadField, BadOperands, NotOneClause, EmptyList}
+use Rattle.contract.specs.declared.Answer.{Answer}
+use Rattle.contract.specs.declared.Answer.the-variants.{Refused, Taken}
 use Rattle.contract.specs.Limits.{maxRecords, recordBytes}
 use Rattle.contract.specs.Table.{Sort, clause, expression, Kind, kindOf, line}
 use Rattle.contract.specs.Expressions.{holdsEmpty}
@@ -149,6 +151,16 @@ goodLength l = ltb 0 (length l) && eqb (length l % recordBytes) 0 && leb (length
 -- "A contract means what the clause that its last record completes means."
 unfoldable pub read : List ℕ → Result Clause
 read l = require (goodLength l) BadLength 0 (next (readRecords 0 (recordCount l) [] l) (justOne (recordCount l)))
+
+-- ---- the answer
+
+-- what the program answers: a refusal with its place, or the number of records taken
+abbrev pub answerOf : ℕ → Result Clause → Answer
+answerOf n (refused f k) = Refused f k
+answerOf n (taken c) = Taken n
+
+unfoldable pub answer : List ℕ → Answer
+answer l = answerOf (recordCount l) (read l)
 
 -- ---- the place of a refusal
 

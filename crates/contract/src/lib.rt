@@ -1,12 +1,12 @@
 // Contracts: what they mean, and the reader that takes their bytes or refuses them. Document 01, "Records" and "Replies that refuse".
 ghost use mathlib.Core.Path.{_≡_};
 ghost use mathlib.Core.List.{[]};
-ghost use Prim.Native.Nat.{_+_, _*_, _≤_};
+ghost use Prim.Native.Nat.{_+_, _≤_};
 ghost use lib.ListN.{length, drop, getD};
-ghost use Rattle.contract.specs.Limits.{maxRecords, recordBytes};
+ghost use Rattle.contract.specs.Limits.{recordBytes};
 ghost use Rattle.contract.specs.Table.{kindOf};
-ghost use Rattle.contract.specs.Reader.{numberOf, next, readRecords, justOne};
-ghost use Rattle.contract.specs.Codes.{answerOf, answer, lookupOf, goodParty, goodAction, goodFields, expressionCode, sortOf, goodOperands, emptyUnder, completed, stepOf, HasRecords};
+ghost use Rattle.contract.specs.Reader.{numberOf, next, readRecords, justOne, answerOf, answer};
+ghost use Rattle.contract.specs.Codes.{lookupOf, goodParty, goodAction, goodFields, expressionCode, sortOf, goodOperands, emptyUnder, completed, stepOf, HasRecords};
 
 // The most records of a contract.
 pub const MAX_RECORDS: usize = 64;
@@ -58,136 +58,29 @@ const EXPRESSION: u8 = 2;
 // An expression that holds the empty list.
 const EMPTY: u8 = 3;
 
-// A line of the table: how many operands, their sorts in the order in which they are read, and whether party and action are used.
-pub struct Entry {
-    pub operands: u8,
-    pub first: u8,
-    pub second: u8,
-    pub party: bool,
-    pub action: bool,
-}
+// A line of the table: how many operands, the sorts of the first and the second in the order in which they are read, whether the party is
+// used, and whether the action is.
+pub struct Entry(pub u8, pub u8, pub u8, pub bool, pub bool);
 
 // A line for each of the kinds 1 to 9, then 16 to 23.
 const TABLE: [Entry; 17] = [
-    Entry {
-        operands: 0,
-        first: NONE,
-        second: NONE,
-        party: true,
-        action: true,
-    },
-    Entry {
-        operands: 0,
-        first: NONE,
-        second: NONE,
-        party: true,
-        action: true,
-    },
-    Entry {
-        operands: 0,
-        first: NONE,
-        second: NONE,
-        party: true,
-        action: true,
-    },
-    Entry {
-        operands: 2,
-        first: CLAUSE,
-        second: CLAUSE,
-        party: false,
-        action: false,
-    },
-    Entry {
-        operands: 2,
-        first: CLAUSE,
-        second: CLAUSE,
-        party: false,
-        action: false,
-    },
-    Entry {
-        operands: 2,
-        first: CLAUSE,
-        second: CLAUSE,
-        party: false,
-        action: false,
-    },
-    Entry {
-        operands: 1,
-        first: CLAUSE,
-        second: NONE,
-        party: false,
-        action: false,
-    },
-    Entry {
-        operands: 2,
-        first: EXPRESSION,
-        second: CLAUSE,
-        party: false,
-        action: false,
-    },
-    Entry {
-        operands: 2,
-        first: CLAUSE,
-        second: EXPRESSION,
-        party: false,
-        action: false,
-    },
-    Entry {
-        operands: 0,
-        first: NONE,
-        second: NONE,
-        party: false,
-        action: false,
-    },
-    Entry {
-        operands: 0,
-        first: NONE,
-        second: NONE,
-        party: true,
-        action: true,
-    },
-    Entry {
-        operands: 0,
-        first: NONE,
-        second: NONE,
-        party: true,
-        action: true,
-    },
-    Entry {
-        operands: 0,
-        first: NONE,
-        second: NONE,
-        party: false,
-        action: true,
-    },
-    Entry {
-        operands: 0,
-        first: NONE,
-        second: NONE,
-        party: false,
-        action: true,
-    },
-    Entry {
-        operands: 2,
-        first: EXPRESSION,
-        second: EXPRESSION,
-        party: false,
-        action: false,
-    },
-    Entry {
-        operands: 2,
-        first: EXPRESSION,
-        second: EXPRESSION,
-        party: false,
-        action: false,
-    },
-    Entry {
-        operands: 1,
-        first: EXPRESSION,
-        second: NONE,
-        party: false,
-        action: false,
-    },
+    Entry(0, NONE, NONE, true, true), // 1 duty
+    Entry(0, NONE, NONE, true, true), // 2 ban
+    Entry(0, NONE, NONE, true, true), // 3 power
+    Entry(2, CLAUSE, CLAUSE, false, false), // 4 both
+    Entry(2, CLAUSE, CLAUSE, false, false), // 5 then
+    Entry(2, CLAUSE, CLAUSE, false, false), // 6 repair
+    Entry(1, CLAUSE, NONE, false, false), // 7 repeat
+    Entry(2, EXPRESSION, CLAUSE, false, false), // 8 when
+    Entry(2, CLAUSE, EXPRESSION, false, false), // 9 until
+    Entry(0, NONE, NONE, false, false), // 16 any
+    Entry(0, NONE, NONE, true, true), // 17 tries
+    Entry(0, NONE, NONE, true, true), // 18 idle
+    Entry(0, NONE, NONE, false, true), // 19 succeeds
+    Entry(0, NONE, NONE, false, true), // 20 fails
+    Entry(2, EXPRESSION, EXPRESSION, false, false), // 21 seq
+    Entry(2, EXPRESSION, EXPRESSION, false, false), // 22 or
+    Entry(1, EXPRESSION, NONE, false, false), // 23 star
 ];
 
 // What the table has for a kind's number.
@@ -232,10 +125,10 @@ fn good_action(used: bool, action: u8) -> bool
 fn good_fields(e: Entry, party: u8, action: u8, last: u8) -> bool
     ensures { λ r. ⌜ r ≡ goodFields e party action last ⌝ }
 {
-    if !good_party(e.party, party) {
+    if !good_party(e.3, party) {
         return false;
     }
-    if !good_action(e.action, action) {
+    if !good_action(e.4, action) {
         return false;
     }
     last == 0
@@ -252,11 +145,11 @@ fn sort(code: u8) -> u8
 fn good_operands(e: Entry, below: u8, top: u8) -> bool
     ensures { λ r. ⌜ r ≡ goodOperands e below top ⌝ }
 {
-    let operands = e.operands;
+    let operands = e.0;
     match operands {
         0 => true,
-        1 => sort(top) == e.first,
-        _ => sort(below) == e.first && sort(top) == e.second,
+        1 => sort(top) == e.1,
+        _ => sort(below) == e.1 && sort(top) == e.2,
     }
 }
 
@@ -319,7 +212,7 @@ fn read_record(contract: &[u8], at: usize, below: u8, top: u8) -> Step
     if empty_under(kind, below, top) {
         return Step::Bad(Fault::EmptyList);
     }
-    Step::Completed(e.operands, completed(kind, below, top))
+    Step::Completed(e.0, completed(kind, below, top))
 }
 
 // ---- the contract

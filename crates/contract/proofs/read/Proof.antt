@@ -2,13 +2,14 @@
 -- Assumes nothing.
 use borrow.Author.Needs.{needs}
 use borrow.Author.Tests.{eqb-true, eqb-false, ltb-true, ltb-false, not-true, not-false}
+use Prim.Native.Nat.{_*_, _/_, _%_, _≤_, _<_}
 use native.Mathlib.Omega.{arith}
-use mathlib.Core.Bool.{false}
 use mathlib.Core.Logic.{⊎-elim}
 use mathlib.Core.Path.{_≡_}
-use Rattle.contract.specs.Reader.{recordCount, goodLength, read}
-use Rattle.contract.specs.Codes.{answer}
-use Rattle.contract.proofs.Tests.{no-bytes, uneven, too-long, right-length}
+use lib.ListN.{length}
+use Rattle.contract.specs.Limits.{recordBytes, maxRecords}
+use Rattle.contract.specs.Reader.{recordCount, read, answer}
+use Rattle.contract.proofs.Reader.{WholeRecords, good-length, not-whole}
 use Rattle.contract.proofs.read.Statement.{statement}
 use Rattle.contract.proofs.read.Tie as tie
 
@@ -16,15 +17,18 @@ mul-if3 : tie.Need-mul-if3
 mul-if3 c = search needs
 
 returns : tie.Need-returns
-unfolding answer read
+unfolding answer read recordCount
 returns c =
     let l = c .before .before .args .contract .now in
-    let e : goodLength l ≡ false =
+    let bad : ¬ WholeRecords l = λ w.
+    let whole : length l ≡ recordBytes * (length l / recordBytes) = w .whole in
     ⊎-elim
-    (λ w. no-bytes l (w .taken))
-    (⊎-elim (λ w. uneven l (eqb-false _ _ (not-true _ (w .1 .taken)))) (λ w. too-long l (ltb-true _ _ (w .2 .taken))))
+    (λ h. omega (arith, h .taken, w .some-records))
+    (⊎-elim
+    (λ h. let even : length l % recordBytes ≡ 0 = omega arith in eqb-false _ _ (not-true _ (h .1 .taken)) even)
+    (λ h. let long : recordBytes * maxRecords < length l = ltb-true _ _ (h .2 .taken) in omega (arith, w .few-records)))
     (c .if1 .came) in
-    rw e
+    rw (not-whole l bad)
 
 read-records-requires : tie.Need-read-records-requires
 read-records-requires c κs = record { whole = omega arith; few = omega (arith, ltb-false) }
@@ -34,8 +38,11 @@ unfolding answer read recordCount
 returns-2 c =
     let d = c .before in
     let e = d .before .before in
-    let g = right-length (e .before .before .args .contract .now) (e .if1 .left) (eqb-true _ _ (not-false _ (d .before .if2 .left))) (ltb-false _ _ (d .if3 .left)) in
-    rw g (c .read-records .ensures)
+    let l = e .before .before .args .contract .now in
+    let some : length l ≡ 0 → ⊥ = e .if1 .left in
+    let even : length l % recordBytes ≡ 0 = eqb-true _ _ (not-false _ (d .before .if2 .left)) in
+    let few : length l ≤ recordBytes * maxRecords = ltb-false _ _ (d .if3 .left) in
+    rw (good-length l .1 (record { some-records = omega arith; few-records = omega arith; whole = omega arith })) (c .read-records .ensures)
 
 pub read-spec : {M : Type 1} → statement M
 read-spec = tie.close (tie.spec mul-if3 returns read-records-requires returns-2)
