@@ -81,7 +81,7 @@ emptyUnder k b t = cond (eqb k 8) (eqb b 3) (cond (eqb k 9) (eqb t 3) false)
 -- the code of what a record completes
 unfoldable pub completed : (kind below top : ℕ) → ℕ
 completed k b t =
-    cond (leb k 9) 1
+    cond (leb 1 k && leb k 9) 1
     (cond (eqb k 21) (expressionCode (eqb b 3 && eqb t 3))
     (cond (eqb k 22) (expressionCode (eqb b 3 || eqb t 3))
     (cond (eqb k 23) 3 2)))

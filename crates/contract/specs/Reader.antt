@@ -21,14 +21,14 @@ use Rattle.contract.specs.Meaning.{Clause, literal, both, then, repair, 
 use Rattle.contract.specs.Trees.{Tree, Trees, Used, Fields, node}
 
 -- a fault's number among the refusals
-abbrev pub numberOf : Fault → ℕ
-numberOf BadLength = 1
-numberOf BadMark = 2
-numberOf UnknownKind = 3
-numberOf BadField = 4
-numberOf BadOperands = 5
-numberOf NotOneClause = 6
-numberOf EmptyList = 7
+abbrev pub faultNumber : Fault → ℕ
+faultNumber BadLength = 1
+faultNumber BadMark = 2
+faultNumber UnknownKind = 3
+faultNumber BadField = 4
+faultNumber BadOperands = 5
+faultNumber NotOneClause = 6
+faultNumber EmptyList = 7
 
 -- refused for a fault at a place, or taken
 pub data Result (A : Type 0) : Type 0 where
@@ -98,7 +98,8 @@ unfoldable pub operandsOf : (ss : List Sort) → List Operand → Option (Operan
 operandsOf [] st = some (record { trees = tt; rest = st })
 operandsOf (s ∷ ss) st = below s (operandsOf ss st)
 
--- ---- 7: "An expression under `when` or `until` must not hold the empty list."
+-- ---- 7: "An expression under `when` or `until` must not hold the empty list." The test `holdsEmpty` decides whether the empty list is in the
+-- expression's set.
 
 abbrev pub clauseHoldsEmpty : Clause → Bool
 clauseHoldsEmpty (literal l p a) = false
@@ -161,6 +162,16 @@ answerOf n (taken c) = Taken n
 
 unfoldable pub answer : List ℕ → Answer
 answer l = answerOf (recordCount l) (read l)
+
+-- its number in replies: a contract that is taken has number 0 and place 0
+abbrev pub numberOf : Answer → ℕ
+numberOf (Refused f k) = faultNumber f
+numberOf (Taken n) = 0
+
+-- its place
+abbrev pub placeOf : Answer → ℕ
+placeOf (Refused f k) = k
+placeOf (Taken n) = 0
 
 -- ---- the place of a refusal
 

@@ -5,7 +5,7 @@ ghost use Prim.Native.Nat.{_+_, _≤_};
 ghost use lib.ListN.{length, drop, getD};
 ghost use Rattle.contract.specs.Limits.{recordBytes};
 ghost use Rattle.contract.specs.Table.{kindOf};
-ghost use Rattle.contract.specs.Reader.{numberOf, next, readRecords, justOne, answerOf, answer};
+ghost use Rattle.contract.specs.Reader.{faultNumber, numberOf, placeOf, next, readRecords, justOne, answerOf, answer};
 ghost use Rattle.contract.specs.Codes.{lookupOf, goodParty, goodAction, goodFields, expressionCode, sortOf, goodOperands, emptyUnder, completed, stepOf, HasRecords};
 
 // The most records of a contract.
@@ -25,9 +25,15 @@ pub enum Fault {
     EmptyList,
 }
 
+// A contract is refused for a fault at a place, or taken with so many records.
+pub enum Answer {
+    Refused(Fault, usize),
+    Taken(usize),
+}
+
 // A fault's number among the refusals.
-pub fn number(f: Fault) -> u32
-    ensures { λ r. ⌜ r ≡ numberOf f ⌝ }
+fn fault_number(f: Fault) -> u32
+    ensures { λ r. ⌜ r ≡ faultNumber f ⌝ }
 {
     match f {
         Fault::BadLength => 1,
@@ -40,10 +46,24 @@ pub fn number(f: Fault) -> u32
     }
 }
 
-// A contract is refused for a fault at a place, or taken with so many records.
-pub enum Answer {
-    Refused(Fault, usize),
-    Taken(usize),
+// An answer's number in replies, 0 for a contract that is taken.
+pub fn number(a: Answer) -> u32
+    ensures { λ r. ⌜ r ≡ numberOf a ⌝ }
+{
+    match a {
+        Answer::Refused(f, _) => fault_number(f),
+        Answer::Taken(_) => 0,
+    }
+}
+
+// Its place, 0 for a contract that is taken.
+pub fn place(a: Answer) -> u64
+    ensures { λ r. ⌜ r ≡ placeOf a ⌝ }
+{
+    match a {
+        Answer::Refused(_, k) => k as u64,
+        Answer::Taken(_) => 0,
+    }
 }
 
 // ---- the table
@@ -176,7 +196,7 @@ fn completed(kind: u8, below: u8, top: u8) -> u8
     ensures { λ r. ⌜ r ≡ completed kind below top ⌝ }
 {
     match kind {
-        0..=9 => CLAUSE,
+        1..=9 => CLAUSE,
         21 => expression(below == EMPTY && top == EMPTY),
         22 => expression(below == EMPTY || top == EMPTY),
         23 => EMPTY,

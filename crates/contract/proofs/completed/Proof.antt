@@ -5,7 +5,7 @@ use borrow.Author.Tests.{eq-eqb, ne-eqb, le-leb, lt-leb}
 use native.Mathlib.Omega.{arith}
 use mathlib.Core.Path.{_≡_, _∙_}
 use mathlib.Core.Logic.{⊎-elim}
-use mathlib.Core.Bool.{_&&_, _||_}
+use mathlib.Core.Bool.{_&&_, _||_, and-false}
 use lib.Dec.{eqb}
 use Rattle.contract.specs.Codes.{completed}
 use Rattle.contract.proofs.completed.Statement.{statement}
@@ -52,15 +52,27 @@ returns-3 c = rw (c .match .keys3)
 returns-4 : tie.Need-returns-4
 unfolding completed
 returns-4 c =
-    let h = c .if3 .taken in
-    rw (le-leb (c .before .before .args .kind) 9 (omega arith))
+    let h = c .if4 .taken in
+    rw (le-leb 1 (c .before .before .before .args .kind) (c .before .if3 .left), le-leb (c .before .before .before .args .kind) 9 (omega arith))
 
 returns-5 : tie.Need-returns-5
 unfolding completed
 returns-5 c =
-    let h = c .if3 .left in
     let r = c .before .match .rest in
-    rw (lt-leb (c .before .before .args .kind) 9 (omega arith), ne-eqb _ _ (r .0 .0 .1), ne-eqb _ _ (r .0 .1), ne-eqb _ _ (r .1))
+    rw (lt-leb 1 (c .before .before .args .kind) (c .if3 .taken), ne-eqb _ _ (r .0 .0 .1), ne-eqb _ _ (r .0 .1), ne-eqb _ _ (r .1))
+
+returns-6 : tie.Need-returns-6
+unfolding completed
+returns-6 c =
+    let h = c .if4 .left in
+    let r = c .before .before .match .rest in
+    rw (
+      lt-leb (c .before .before .before .args .kind) 9 (omega arith),
+      and-false,
+      ne-eqb _ _ (r .0 .0 .1),
+      ne-eqb _ _ (r .0 .1),
+      ne-eqb _ _ (r .1),
+    )
 
 pub completed-spec : {M : Type 1} → statement M
 completed-spec =
@@ -72,4 +84,5 @@ completed-spec =
     returns-2
     returns-3
     returns-4
-    returns-5)
+    returns-5
+    returns-6)
