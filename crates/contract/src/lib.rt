@@ -68,14 +68,14 @@ pub fn place(a: Answer) -> u64
 
 // ---- the table
 
-// Sorts of operands. A stack's operand has one of these codes, and CLAUSE, EXPRESSION are also the table's sorts.
+// No operand, a clause, an expression: the sorts in the table, and the codes of operands on the stack.
 const NONE: u8 = 0;
 
 const CLAUSE: u8 = 1;
 
 const EXPRESSION: u8 = 2;
 
-// An expression that holds the empty list.
+// The code of an expression that holds the empty list.
 const EMPTY: u8 = 3;
 
 // A line of the table: how many operands, the sorts of the first and the second in the order in which they are read, whether the party is
