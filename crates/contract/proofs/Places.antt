@@ -97,6 +97,21 @@ fewer-passed k (suc m) zero st l st′ b h = absurd (not-suc-le-zero b)
 fewer-passed k (suc m) (suc n) st l st′ b h = followed (readRecord k st l) h λ st₂ e h₂.
     let t = fewer-passed (suc k) m n st₂ (drop recordBytes l) st′ (le-of-suc-le-suc b) h₂ in (t .0, rw e (t .1))
 
+-- where some records are refused, so are more
+still-refused : (k m n : ℕ) (st : List Operand) (l : List ℕ) (f : Fault) (j : ℕ) → m ≤ n → readRecords k m st l ≡ refused f j
+    → readRecords k n st l ≡ refused f j
+unfolding readRecords
+still-refused k zero n st l f j b h = absurd (refused-taken (sym h))
+still-refused k (suc m) zero st l f j b h = absurd (not-suc-le-zero b)
+still-refused k (suc m) (suc n) st l f j b h = go (readRecord k st l) refl (λ st′. still-refused (suc k) m n st′ (drop recordBytes l) f j (le-of-suc-le-suc b))
+  where
+    go : (r : Result (List Operand)) → readRecord k st l ≡ r
+        → ((st′ : List Operand) → readRecords (suc k) m st′ (drop recordBytes l) ≡ refused f j
+        → readRecords (suc k) n st′ (drop recordBytes l) ≡ refused f j)
+        → readRecords k (suc n) st l ≡ refused f j
+    go (refused g i) e further = rw e (rw e at h)
+    go (taken st′) e further = rw e (further st′ (rw e at h))
+
 -- ---- a beginning of the bytes
 
 record-take : (k : ℕ) (st : List Operand) (n : ℕ) (l : List ℕ) → recordBytes ≤ n → readRecord k st (take n l) ≡ readRecord k st l
@@ -196,6 +211,20 @@ first-fault l f k h o = go (refusal l f k h)
           here = rw (read-front l (suc k) c w (omega arith), here);
           before = faultless-fronts l k (s .stack) (omega arith) (rw p at (s .before));
         }
+
+-- and a fault that is met where the bytes end with record k is met whatever whole records come after it, as far as there are not too many
+pub fault-stays : (l : List ℕ) (f : Fault) (k : ℕ) → goodLength l ≡ true → k < recordCount l → ofRecord f ≡ true
+    → read (take (recordBytes * suc k) l) ≡ refused f k → read l ≡ refused f k
+unfolding read
+fault-stays l f k g c o h = go (refusal (take (recordBytes * suc k) l) f k h)
+  where
+    go : Refusal (take (recordBytes * suc k) l) f k → read l ≡ refused f k
+    go (at-length e b i) = absurd (false≢true (rw (← b) at o))
+    go (at-end st e b i) = absurd (false≢true (rw (← b) at o))
+    go (at-record w r) =
+        let here : readRecords 0 (suc k) [] l ≡ refused f k =
+        rw (count-front l (suc k) c, records-take 0 (suc k) (suc k) [] l (le-refl (suc k))) at r in
+        rw (g, still-refused 0 (suc k) (recordCount l) [] l f k c here)
 
 pub refused-length : (l : List ℕ) (k : ℕ) → read l ≡ refused BadLength k → (goodLength l ≡ false) × (k ≡ 0)
 refused-length l k h = go (refusal l BadLength k h)

@@ -40,7 +40,7 @@ party-above false n h = ne-eqb n 0 (omega arith)
 -- ---- the ways out of a record that stands from byte `at` on
 
 module _ (l : List ℕ) (at b t : ℕ) where
-  -- the number and the fields
+  -- its kind's number
   abbrev kind : ℕ
   kind = getD l (at + 2) 0
 

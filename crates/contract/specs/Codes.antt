@@ -36,7 +36,7 @@ abbrev pub lookupOf : Option Kind → Lookup
 lookupOf none = Unknown
 lookupOf (some k) = Found (entryOf k)
 
--- ---- 4
+-- ---- 4: the fields
 
 abbrev pub goodParty : Bool → ℕ → Bool
 goodParty true n = eqb n 1 || eqb n 2

@@ -149,7 +149,7 @@ recordCount l = length l / recordBytes
 unfoldable pub goodLength : List ℕ → Bool
 goodLength l = ltb 0 (length l) && eqb (length l % recordBytes) 0 && leb (length l) (recordBytes * maxRecords)
 
--- "A contract means what the clause that its last record completes means."
+-- the clause that a contract's records spell, or the first refusal: "A contract means what the clause that its last record completes means."
 unfoldable pub read : List ℕ → Result Clause
 read l = require (goodLength l) BadLength 0 (next (readRecords 0 (recordCount l) [] l) (justOne (recordCount l)))
 
