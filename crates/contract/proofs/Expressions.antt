@@ -13,19 +13,19 @@ use Rattle.records.proofs.Periods.{bit-own, bit-zero}
 use Rattle.contract.specs.Expressions.{Atom, any, tries, idle, succeeds, fails, holds, Expression, atom, seq, or, star}
 use Rattle.contract.specs.Expressions.{Holds, one, join, left, right, none, more, splits, joins, member, begins, holdsEmpty}
 
-or-true : (a b : Bool) → (a || b ≡ true) ↔ ((a ≡ true) ⊎ (b ≡ true))
+pub or-true : (a b : Bool) → (a || b ≡ true) ↔ ((a ≡ true) ⊎ (b ≡ true))
 or-true true b = (λ h. inl refl, λ h. refl)
 or-true false b = (inr, ⊎-elim (λ h. cc) (λ h. h))
 
 -- a split that passes two tests
-record Split (f g : List Period → Bool) (w : List Period) : Type 0 where
-  front : List Period
-  rest : List Period
-  whole : front ++ rest ≡ w
-  passes : f front ≡ true
-  passes-rest : g rest ≡ true
+pub record Split (f g : List Period → Bool) (w : List Period) : Type 0 where
+  pub front : List Period
+  pub rest : List Period
+  pub whole : front ++ rest ≡ w
+  pub passes : f front ≡ true
+  pub passes-rest : g rest ≡ true
 
-split : (f g : List Period → Bool) (w : List Period) → splits f g w ≡ true → Split f g w
+pub split : (f g : List Period → Bool) (w : List Period) → splits f g w ≡ true → Split f g w
 unfolding splits
 split f g [] h =
     let b = and-eq-true-iff (f []) (g []) .0 h in
@@ -138,19 +138,19 @@ some-list (or l r) = (some-list l .0, left (some-list l .1))
 some-list (star e) = ([], none)
 
 -- lists of a star join
-star-join : {e : Expression} {u v : List Period} → Holds (star e) u → Holds (star e) v → Holds (star e) (u ++ v)
+pub star-join : {e : Expression} {u v : List Period} → Holds (star e) u → Holds (star e) v → Holds (star e) (u ++ v)
 star-join none q = q
 star-join (more {u = u} {v = t} p s) q = rw append-assoc (more p (star-join s q))
 
-star-one : {e : Expression} {w : List Period} → Holds e w → Holds (star e) w
+pub star-one : {e : Expression} {w : List Period} → Holds e w → Holds (star e) w
 star-one {w = w} p = rw append-nil at (more p none)
 
 -- two ways to cut one list: one of the fronts goes on from the other
-data Cuts (s t u v : List Period) : Type 0 where
+pub data Cuts (s t u v : List Period) : Type 0 where
   within : (m : List Period) → s ≡ u ++ m → Cuts s t u v
   past : (m : List Period) → u ≡ s ++ m → t ≡ m ++ v → Cuts s t u v
 
-cuts : (s t u v : List Period) → s ++ t ≡ u ++ v → Cuts s t u v
+pub cuts : (s t u v : List Period) → s ++ t ≡ u ++ v → Cuts s t u v
 cuts s t [] v h = within s refl
 cuts [] t (y ∷ u) v h = past (y ∷ u) refl h
 cuts (x ∷ s) t (y ∷ u) v h = longer (cuts s t u v (cc))
@@ -194,7 +194,7 @@ record Joined (l r : Expression) (w : List Period) : Type 0 where
 joined-seq : {l r : Expression} {w : List Period} → Holds (seq l r) w → Joined l r w
 joined-seq (join {u = u} {v = v} p q) = record { front = u; rest = v; whole = refl; held = p; held-rest = q }
 
-held-or : {l r : Expression} {w : List Period} → Holds (or l r) w → Holds l w ⊎ Holds r w
+pub held-or : {l r : Expression} {w : List Period} → Holds (or l r) w → Holds l w ⊎ Holds r w
 held-or (left p) = inl p
 held-or (right p) = inr p
 

@@ -89,12 +89,12 @@ within-none (satisfied k) p = absurd (omega arith)
 within-none (violated k b) p = absurd (omega arith)
 
 -- the same of readings
-abbrev ReadWithin : ℕ → Reading → Type 0
+abbrev pub ReadWithin : ℕ → Reading → Type 0
 ReadWithin n pending = Unit {0}
 ReadWithin n (accepted k) = (1 ≤ k) × (k ≤ n)
 ReadWithin n (rejected k) = (1 ≤ k) × (k ≤ n)
 
-within-reading : (e : Expression) (w : List Period) → ¬ Holds e [] → ReadWithin (length w) (reading e w)
+pub within-reading : (e : Expression) (w : List Period) → ¬ Holds e [] → ReadWithin (length w) (reading e w)
 within-reading e w guarded = go (reading e w) refl
   where
     go : (r : Reading) → reading e w ≡ r → ReadWithin (length w) r
@@ -161,7 +161,7 @@ not-at-start n undecided p = refl
 not-at-start n (satisfied k) p = not-yet 0 (satisfied k) (p .0)
 not-at-start n (violated k b) p = not-yet 0 (violated k b) (p .0)
 
-within-period : (n : ℕ) (d : Decision) → Within n d → decisionPeriod d ≤ n
+pub within-period : (n : ℕ) (d : Decision) → Within n d → decisionPeriod d ≤ n
 within-period n undecided p = zero-le
 within-period n (satisfied k) p = p .1
 within-period n (violated k b) p = p .1
@@ -334,7 +334,7 @@ module _ (m : List Period → Decision) (bounded : (w : List Period) → Within 
         rw (length-take, length-drop) (omega (arith, rw length-take at q)),
       )
 
-  by-repeat : (f g n : ℕ) (w : List Period) → length w ≤ f → length (take n w) ≤ g
+  pub by-repeat : (f g n : ℕ) (w : List Period) → length w ≤ f → length (take n w) ≤ g
       → repeatMeaning m g (take n w) ≡ decidedBy n (repeatMeaning m f w)
   unfolding repeatMeaning
   by-repeat zero g n w p q = repeat-none g (take n w) (rw length-take (omega arith))

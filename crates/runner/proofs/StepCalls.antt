@@ -153,7 +153,7 @@ zeros-at zero i = refl
 zeros-at (suc n) zero = refl
 zeros-at (suc n) (suc i) = zeros-at n i
 
-fresh-sound : (n : ℕ) → Sound n (freshState n)
+pub fresh-sound : (n : ℕ) → Sound n (freshState n)
 fresh-sound n =
     record {
       long = length-replicate n 0;

@@ -1,0 +1,59 @@
+-- The image of a clause, and the image of a contract: it follows from the contract's bytes alone. Document 01, "Image and row machine".
+use Prim.Native.Nat.{ℕ, _+_, _*_, _≤_}
+use mathlib.Core.List.{List, [], _∷_}
+use mathlib.Core.Path.{_≡_}
+use lib.ListN.{replicate}
+use Rattle.records.specs.Periods.{Period}
+use Rattle.runner.specs.declared.Test.the-variants.{Passed}
+use Rattle.runner.specs.Limits.{headBytes}
+use Rattle.runner.specs.Rows.{Row, never, initial, negation}
+use Rattle.runner.specs.Images.{Image, imageBytes, rowCount, imageOf}
+use Rattle.runner.specs.States.{State, stateOf}
+use Rattle.runner.specs.Machine.{afterPeriods}
+use Rattle.runner.specs.Refusals.{imageTest}
+use Rattle.contract.specs.Meaning.{Clause, Decision, undecided, satisfied, violated, meaning}
+use Rattle.contract.specs.Verdicts.{decisionPeriod, blame}
+use Rattle.contract.specs.Reader.{Result, refused, taken, read, recordCount}
+use Rattle.compiler.specs.Widths.{fixedRows, clauseSize}
+use Rattle.compiler.specs.Blocks.{firstRow, laterRow, outputsOf, clauseRows}
+
+-- the clause's block after the fixed rows: it begins to read in period 1 and goes on in every later one
+unfoldable pub rowsFor : Clause → List Row
+rowsFor c = never ∷ initial ∷ negation firstRow ∷ clauseRows c fixedRows firstRow laterRow []
+
+unfoldable pub image : Clause → Image
+image c =
+    let out = outputsOf c fixedRows in
+    record { rows = rowsFor c; S = out .sat; V1 = out .one; V2 = out .two }
+
+-- the bytes of the image of a contract that is taken
+abbrev pub imageOfResult : Result Clause → List ℕ
+imageOfResult (refused f k) = []
+imageOfResult (taken c) = imageBytes (image c)
+
+unfoldable pub imageFor : (contract : List ℕ) → List ℕ
+imageFor contract = imageOfResult (read contract)
+
+-- ---- what is right of an image
+
+-- a state shows a decision: "outcome (0 undecided, 1 satisfied, 2 violated); blame; .. decision period (.. 0 for none)"
+abbrev pub outcome : Decision → ℕ
+outcome undecided = 0
+outcome (satisfied k) = 1
+outcome (violated k b) = 2
+
+pub record Shows (d : Decision) (s : State) : Type 0 where
+  pub outcome-is : s .outcome ≡ outcome d
+  pub blame-is : s .blame ≡ blame d
+  pub decision-is : s .decision ≡ decisionPeriod d
+
+-- The image is right for a contract that means this clause: no test refuses it; its rows are as many as the widths of the contract's records
+-- and the fixed rows add up to, and within the bounds; and the row machine on it, begun with a state of zeros, shows after every list of
+-- periods what the clause means on it.
+pub record RightFor (contract : List ℕ) (clause : Clause) (image : List ℕ) : Type 0 where
+  pub good : imageTest image ≡ Passed
+  pub rows-are : rowCount image ≡ clauseSize clause + fixedRows
+  pub rows-most : rowCount image ≤ 14 * recordCount contract + 3
+  pub rows-allowed : rowCount image ≤ 32 * recordCount contract + 64
+  pub shows : (w : List Period)
+      → Shows (meaning clause w) (afterPeriods (imageOf image) (stateOf (replicate (headBytes + rowCount image) 0)) w)

@@ -1,0 +1,5 @@
+-- The image of a contract, and what it is that an image monitors a contract. Document 01, "Image and row machine" and "Calls".
+pub mod Widths
+pub mod Blocks
+pub mod Images
+pub mod Monitors

@@ -1,0 +1,96 @@
+-- How many rows a contract's image has. Which rows they are is free: "they follow from the contract's bytes alone, form a good image
+-- and meet demand 3" (Document 01, "Contracts and examples").
+use Prim.Native.Nat.{ℕ, zero, suc, _+_}
+use Rattle.contract.specs.Table.{Kind, duty, ban, power, both, then, repair, repeat, when, until, any, tries, idle, succeeds, fails, seq, or, star}
+use Rattle.contract.specs.Expressions as E
+use Rattle.contract.specs.Expressions.{Atom, Expression, atom}
+use Rattle.contract.specs.Meaning as M
+use Rattle.contract.specs.Meaning.{Clause, literal}
+use Rattle.contract.specs.Spelling.{literalKind}
+
+-- A record's own rows: so many stand before its operands' rows, and so many after them.
+pub record Width : Type 0 where
+  pub before : ℕ
+  pub behind : ℕ
+
+abbrev rows : ℕ → ℕ → Width
+rows m n = record { before = m; behind = n }
+
+abbrev pub width : Kind → Width
+width duty = rows 8 0
+width ban = rows 6 0
+width power = rows 7 0
+width both = rows 3 11
+width then = rows 4 2
+width repair = rows 4 2
+width repeat = rows 5 0
+width when = rows 4 7
+width until = rows 3 5
+width any = rows 0 0
+width tries = rows 2 0
+width idle = rows 3 0
+width succeeds = rows 4 0
+width fails = rows 5 0
+width seq = rows 3 3
+width or = rows 0 2
+width star = rows 3 1
+
+-- all of them
+abbrev pub size : Kind → ℕ
+size k = width k .before + width k .behind
+
+-- an atom's kind
+abbrev pub atomKind : Atom → Kind
+atomKind E.any = any
+atomKind (E.tries p a) = tries
+atomKind (E.idle p a) = idle
+atomKind (E.succeeds a) = succeeds
+atomKind (E.fails a) = fails
+
+-- the rows of a tree: the sum of the widths of its records
+unfoldable pub expressionSize : Expression → ℕ
+expressionSize (atom x) = size (atomKind x)
+expressionSize (E.seq l r) = expressionSize l + expressionSize r + size seq
+expressionSize (E.or l r) = expressionSize l + expressionSize r + size or
+expressionSize (E.star e) = expressionSize e + size star
+
+unfoldable pub clauseSize : Clause → ℕ
+clauseSize (literal l p a) = size (literalKind l)
+clauseSize (M.both l r) = clauseSize l + clauseSize r + size both
+clauseSize (M.then l r) = clauseSize l + clauseSize r + size then
+clauseSize (M.repair l r) = clauseSize l + clauseSize r + size repair
+clauseSize (M.repeat c) = clauseSize c + size repeat
+clauseSize (M.when e c) = expressionSize e + clauseSize c + size when
+clauseSize (M.until c e) = clauseSize c + expressionSize e + size until
+
+-- the rows of every image that no record has: `never`, `first` and `later` of Blocks
+abbrev pub fixedRows : ℕ
+fixedRows = 3
+
+-- ---- row numbers
+
+-- the row k rows on from row b: b + k, as a number that computes
+infixl 20 _⊹_
+abbrev pub _⊹_ : ℕ → ℕ → ℕ
+b ⊹ zero = b
+b ⊹ suc k = suc (b ⊹ k)
+
+-- the first row after a record's own rows and those of its operands, where m gives the row after the operands' rows
+abbrev pub past : Kind → (ℕ → ℕ) → ℕ → ℕ
+past k m b = m (b ⊹ width k .before) ⊹ width k .behind
+
+-- The first row after the rows of a tree that start at row b. The right operand's rows stand before the left operand's.
+unfoldable pub afterExpression : Expression → ℕ → ℕ
+afterExpression (atom x) b = b ⊹ width (atomKind x) .before
+afterExpression (E.seq l r) b = past seq (λ n. afterExpression l (afterExpression r n)) b
+afterExpression (E.or l r) b = past or (λ n. afterExpression l (afterExpression r n)) b
+afterExpression (E.star e) b = past star (afterExpression e) b
+
+unfoldable pub afterClause : Clause → ℕ → ℕ
+afterClause (literal l p a) b = b ⊹ width (literalKind l) .before
+afterClause (M.both l r) b = past both (λ n. afterClause l (afterClause r n)) b
+afterClause (M.then l r) b = past then (λ n. afterClause l (afterClause r n)) b
+afterClause (M.repair l r) b = past repair (λ n. afterClause l (afterClause r n)) b
+afterClause (M.repeat c) b = past repeat (afterClause c) b
+afterClause (M.when e c) b = past when (λ n. afterExpression e (afterClause c n)) b
+afterClause (M.until c e) b = past until (λ n. afterClause c (afterExpression e n)) b

@@ -1,0 +1,1 @@
+// The image of a contract, and the theorem that it monitors the contract.
