@@ -13,10 +13,12 @@ use Rattle.records.specs.Periods.{Party, party1, party2}
 use Rattle.runner.specs.Rows.{Row, never, initial, attempt, negation, conjunction, disjunction, previous, Fits, namesRows}
 use Rattle.runner.proofs.Images.{Writable}
 use Rattle.contract.specs.Limits.{maxRecords}
+use Rattle.contract.specs.Table
+use Rattle.contract.specs.Table.{Kind}
 use Rattle.contract.specs.Expressions.{any, tries, idle, succeeds, fails, Expression, atom, seq, or, star, holdsEmpty}
 use Rattle.contract.specs.Meaning.{duty, ban, power, Clause, literal, both, then, repair, repeat, when, until}
 use Rattle.contract.specs.Spelling.{expressionRecords, records, ExpressionInRange, InRange}
-use Rattle.compiler.specs.Widths.{_⊹_, expressionSize, clauseSize, fixedRows, afterExpression, afterClause}
+use Rattle.compiler.specs.Widths.{width, _⊹_, inside, expressionSize, clauseSize, fixedRows, afterExpression, afterClause}
 use Rattle.compiler.specs.Blocks.{endRow, liveRow, ifEmpty, expressionRows, Outputs, blaming, outputsOf, clauseRows}
 use Rattle.compiler.specs.Images.{rowsFor, image}
 
@@ -119,9 +121,9 @@ inside-expression (atom (tries p a)) b S h = omega arith
 inside-expression (atom (idle p a)) b S h = omega arith
 inside-expression (atom (succeeds a)) b S h = omega arith
 inside-expression (atom (fails a)) b S h = omega arith
-inside-expression (seq l r) b S h = omega (arith, after-expression l (afterExpression r (b ⊹ 3)), after-expression r (b ⊹ 3))
+inside-expression (seq l r) b S h = omega (arith, after-expression l (afterExpression r (inside Table.seq b)), after-expression r (inside Table.seq b))
 inside-expression (or l r) b S h = omega (arith, after-expression l (afterExpression r b), after-expression r b)
-inside-expression (star e) b S h = omega (arith, inside-expression e (b ⊹ 3) (b ⊹ 2) (omega arith))
+inside-expression (star e) b S h = omega (arith, inside-expression e (inside Table.star b) (b ⊹ 2) (omega arith))
 
 inside-ifEmpty : (e : Expression) (x m : ℕ) → x < m → ifEmpty e x < m
 inside-ifEmpty e x m h = each (holdsEmpty e)
@@ -146,14 +148,14 @@ unfolding outputsOf afterClause
 inside-clause (literal duty p a) b h = inside-literal p (omega arith) (omega arith)
 inside-clause (literal ban p a) b h = inside-literal p (omega arith) (omega arith)
 inside-clause (literal power p a) b h = inside-literal p (omega arith) (omega arith)
-inside-clause (both l r) b h = omega (arith, after-clause l (afterClause r (b ⊹ 3)), after-clause r (b ⊹ 3))
-inside-clause (then l r) b h = omega (arith, inside-clause r (b ⊹ 4) (omega arith), after-clause l (afterClause r (b ⊹ 4)))
-inside-clause (repair l r) b h = omega (arith, inside-clause r (b ⊹ 4) (omega arith), after-clause l (afterClause r (b ⊹ 4)))
-inside-clause (repeat c) b h = omega (arith, inside-clause c (b ⊹ 5) (omega arith))
-inside-clause (when e c) b h = omega (arith, inside-clause c (b ⊹ 4) (omega arith), after-expression e (afterClause c (b ⊹ 4)))
+inside-clause (both l r) b h = omega (arith, after-clause l (afterClause r (inside Table.both b)), after-clause r (inside Table.both b))
+inside-clause (then l r) b h = omega (arith, inside-clause r (inside Table.then b) (omega arith), after-clause l (afterClause r (inside Table.then b)))
+inside-clause (repair l r) b h = omega (arith, inside-clause r (inside Table.repair b) (omega arith), after-clause l (afterClause r (inside Table.repair b)))
+inside-clause (repeat c) b h = omega (arith, inside-clause c (inside Table.repeat b) (omega arith))
+inside-clause (when e c) b h = omega (arith, inside-clause c (inside Table.when b) (omega arith), after-expression e (afterClause c (inside Table.when b)))
 inside-clause (until c e) b h =
-    let p = after-expression e (b ⊹ 3) in
-    omega (arith, inside-clause c (afterExpression e (b ⊹ 3)) (omega arith))
+    let p = after-expression e (inside Table.until b) in
+    omega (arith, inside-clause c (afterExpression e (inside Table.until b)) (omega arith))
 
 -- of two clauses, the right one's rows first
 inside-two : {A : Type 0} (l r : Clause) (b : ℕ) → 0 < b
@@ -220,6 +222,13 @@ first zero f g = g
 first {rs = []} (suc m) f g = end
 first {rs = r ∷ rs} (suc m) f g = next (f .0) (first m (f .1) g)
 
+-- a record's own rows, before and after those of its operands
+before : (k : Kind) {n b : ℕ} {rs : List Row} → First n b (width k .before) rs → Rest n b (width k .before) rs → GoodFrom n b rs
+before k = first (width k .before)
+
+behind : (k : Kind) {n b : ℕ} {rs : List Row} → First n b (width k .behind) rs → Rest n b (width k .behind) rs → GoodFrom n b rs
+behind k = first (width k .behind)
+
 -- the rows that tell a block when it reads stand before it, and the block stands in the image
 record Within (n b S K after : ℕ) : Type 0 where
   begins : S < b
@@ -229,53 +238,53 @@ record Within (n b S K after : ℕ) : Type 0 where
 module _ (n : ℕ) where
   good-expression : (e : Expression) {b S K : ℕ} {rest : List Row} → ExpressionInRange e → Within n b S K (afterExpression e b)
       → GoodFrom n (afterExpression e b) rest → GoodFrom n b (expressionRows e b S K rest)
-  unfolding ExpressionInRange afterExpression expressionRows
+  unfolding ExpressionInRange afterExpression endRow expressionRows
   good-expression (atom any) i h g = g
-  good-expression (atom (tries p a)) i h g = first 2 (omega arith) g
-  good-expression (atom (idle p a)) i h g = first 3 (omega arith) g
-  good-expression (atom (succeeds a)) i h g = first 4 (omega arith) g
-  good-expression (atom (fails a)) i h g = first 5 (omega arith) g
+  good-expression (atom (tries p a)) i h g = before Table.tries (omega arith) g
+  good-expression (atom (idle p a)) i h g = before Table.idle (omega arith) g
+  good-expression (atom (succeeds a)) i h g = before Table.succeeds (omega arith) g
+  good-expression (atom (fails a)) i h g = before Table.fails (omega arith) g
   good-expression (seq l r) {b} {S} i h g =
-      let inR = inside-expression r (b ⊹ 3) (b ⊹ 2) (omega arith) in
-      let inL = inside-expression l (afterExpression r (b ⊹ 3)) S (omega arith) in
+      let inR = inside-expression r (inside Table.seq b) (b ⊹ 2) (omega arith) in
+      let inL = inside-expression l (afterExpression r (inside Table.seq b)) S (omega arith) in
       let whole = inside-ifEmpty l S b (h .begins) in
       let ended = inside-ifEmpty r _ _ (inL .end-inside) in
-      first 3 (omega arith) (good-expression r (i .1) (omega arith) (good-expression l (i .0) (omega arith) (first 3 (omega arith) g)))
+      before Table.seq (omega arith) (good-expression r (i .1) (omega arith) (good-expression l (i .0) (omega arith) (behind Table.seq (omega arith) g)))
   good-expression (or l r) {b} {S} i h g =
       let inR = inside-expression r b S (h .begins) in
       let inL = inside-expression l (afterExpression r b) S (omega arith) in
-      good-expression r (i .1) (omega arith) (good-expression l (i .0) (omega arith) (first 2 (omega arith) g))
+      good-expression r (i .1) (omega arith) (good-expression l (i .0) (omega arith) (behind Table.or (omega arith) g))
   good-expression (star e) {b} i h g =
-      let inside = inside-expression e (b ⊹ 3) (b ⊹ 2) (omega arith) in
-      first 3 (omega arith) (good-expression e i (omega arith) (first 1 (omega arith) g))
+      let parts = inside-expression e (inside Table.star b) (b ⊹ 2) (omega arith) in
+      before Table.star (omega arith) (good-expression e i (omega arith) (behind Table.star (omega arith) g))
 
   good-clause : (c : Clause) {b S K : ℕ} {rest : List Row} → InRange c → Within n b S K (afterClause c b)
       → GoodFrom n (afterClause c b) rest → GoodFrom n b (clauseRows c b S K rest)
-  unfolding InRange afterClause clauseRows
-  good-clause (literal duty p a) i h g = first 8 (omega arith) g
-  good-clause (literal ban p a) i h g = first 6 (omega arith) g
-  good-clause (literal power p a) i h g = first 7 (omega arith) g
+  unfolding InRange afterClause outputsOf clauseRows
+  good-clause (literal duty p a) i h g = before Table.duty (omega arith) g
+  good-clause (literal ban p a) i h g = before Table.ban (omega arith) g
+  good-clause (literal power p a) i h g = before Table.power (omega arith) g
   good-clause (both l r) {b} i h g =
-      inside-two l r (b ⊹ 3) (omega arith) (λ inR inL.
-      first 3 (omega arith) (good-clause r (i .1) (omega arith) (good-clause l (i .0) (omega arith) (first 11 (omega arith) g))))
+      inside-two l r (inside Table.both b) (omega arith) (λ inR inL.
+      before Table.both (omega arith) (good-clause r (i .1) (omega arith) (good-clause l (i .0) (omega arith) (behind Table.both (omega arith) g))))
   good-clause (then l r) {b} i h g =
-      inside-two l r (b ⊹ 4) (omega arith) (λ inR inL.
-      first 4 (omega arith) (good-clause r (i .1) (omega arith) (good-clause l (i .0) (omega arith) (first 2 (omega arith) g))))
+      inside-two l r (inside Table.then b) (omega arith) (λ inR inL.
+      before Table.then (omega arith) (good-clause r (i .1) (omega arith) (good-clause l (i .0) (omega arith) (behind Table.then (omega arith) g))))
   good-clause (repair l r) {b} i h g =
-      inside-two l r (b ⊹ 4) (omega arith) (λ inR inL.
-      first 4 (omega arith) (good-clause r (i .1) (omega arith) (good-clause l (i .0) (omega arith) (first 2 (omega arith) g))))
+      inside-two l r (inside Table.repair b) (omega arith) (λ inR inL.
+      before Table.repair (omega arith) (good-clause r (i .1) (omega arith) (good-clause l (i .0) (omega arith) (behind Table.repair (omega arith) g))))
   good-clause (repeat c) {b} i h g =
-      let inside = inside-clause c (b ⊹ 5) (omega arith) in
-      first 5 (omega arith) (good-clause c i (omega arith) g)
+      let parts = inside-clause c (inside Table.repeat b) (omega arith) in
+      before Table.repeat (omega arith) (good-clause c i (omega arith) g)
   good-clause (when e c) {b} {S} i h g =
-      let inR = inside-clause c (b ⊹ 4) (omega arith) in
-      let inL = inside-expression e (afterClause c (b ⊹ 4)) S (omega arith) in
-      first 4 (omega arith) (good-clause c (i .1) (omega arith) (good-expression e (i .0) (omega arith) (first 7 (omega arith) g)))
+      let inR = inside-clause c (inside Table.when b) (omega arith) in
+      let inL = inside-expression e (afterClause c (inside Table.when b)) S (omega arith) in
+      before Table.when (omega arith) (good-clause c (i .1) (omega arith) (good-expression e (i .0) (omega arith) (behind Table.when (omega arith) g)))
   good-clause (until c e) {b} {S} i h g =
-      let inR = inside-expression e (b ⊹ 3) S (omega arith) in
-      let inL = inside-clause c (afterExpression e (b ⊹ 3)) (omega arith) in
-      first 3 (omega arith)
-      (good-expression e {b = b ⊹ 3} {S = S} {K = b ⊹ 2} (i .1) (omega arith) (good-clause c (i .0) (omega arith) (first 5 (omega arith) g)))
+      let inR = inside-expression e (inside Table.until b) S (omega arith) in
+      let inL = inside-clause c (afterExpression e (inside Table.until b)) (omega arith) in
+      before Table.until (omega arith)
+      (good-expression e {b = inside Table.until b} {S = S} {K = b ⊹ 2} (i .1) (omega arith) (good-clause c (i .0) (omega arith) (behind Table.until (omega arith) g)))
 
 -- ---- the image
 
@@ -285,7 +294,7 @@ module _ (c : Clause) (i : InRange c) where
   good-rows =
       let l = length-rows c in
       let a = after-clause c fixedRows in
-      first 3 (omega arith) (good-clause _ c i (omega arith) end)
+      first fixedRows (omega arith) (good-clause _ c i (omega arith) end)
 
   good-row : (k : ℕ) → k < length (rowsFor c) → Good (length (rowsFor c)) k (getD (rowsFor c) k never)
   good-row k h = rw zero-add at (good-at good-rows k h)

@@ -23,23 +23,23 @@ record Gives (v : ℕ → Signal) (b : ℕ) (rows : List Row) : Type 0 where
 -- ---- rows that several kinds have
 
 module _ {v : ℕ → Signal} {b : ℕ} {rest : List Row} {G : Type 0} where
-  until-done : {done K : ℕ} → Gives v b (untilDone done K b rest) → (UntilDone (v done) (v K) (v (b ⊹ 2)) → Gives v (b ⊹ 3) rest → G) → G
+  until-done : {done K : ℕ} → Gives v b (untilDone done K b λ go. rest) → (UntilDone (v done) (v K) (v (b ⊹ 2)) → Gives v (b ⊹ 3) rest → G) → G
   until-done o k =
       let (was, (unless, (goes, o′))) = o .signals in
       k (record { goes = λ p h. goes p h ∙ rw (unless p h, was p h) }) (record { signals = o′ })
 
-  hand-over : {fired K : ℕ} → Gives v b (handOver fired K b rest)
+  hand-over : {fired K : ℕ} → Gives v b (handOver fired K b λ start go. rest)
       → (HandsOver (v fired) (v K) (v (b ⊹ 1)) (v (b ⊹ 3)) → Gives v (b ⊹ 4) rest → G) → G
   hand-over o k =
       let (was, (starts, (unless, (goes, o′)))) = o .signals in
       k (record { starts = λ p h. starts p h ∙ rw (was p h); goes = λ p h. goes p h ∙ rw (unless p h, was p h) }) (record { signals = o′ })
 
-  join-on : {ended S K : ℕ} → Gives v b (joinOn ended S K b rest) → (JoinsOn (v ended) (v S) (v K) (v (b ⊹ 2)) → Gives v (b ⊹ 3) rest → G) → G
+  join-on : {ended S K : ℕ} → Gives v b (joinOn ended S K b λ start. rest) → (JoinsOn (v ended) (v S) (v K) (v (b ⊹ 2)) → Gives v (b ⊹ 3) rest → G) → G
   join-on o k =
       let (was, (again, (starts, o′))) = o .signals in
       k (record { starts = λ p h. starts p h ∙ rw (again p h, was p h) }) (record { signals = o′ })
 
-  remembers : {now go : ℕ} → Gives v b (remember now go b rest) → (Remembers (v now) (v go) (v (b ⊹ 2)) → Gives v (b ⊹ 3) rest → G) → G
+  remembers : {now go : ℕ} → Gives v b (remember now go b λ kept. rest) → (Remembers (v now) (v go) (v (b ⊹ 2)) → Gives v (b ⊹ 3) rest → G) → G
   remembers o k =
       let (was, (again, (stays, o′))) = o .signals in
       k (record { stays = λ p h. stays p h ∙ rw (again p h, was p h) }) (record { signals = o′ })

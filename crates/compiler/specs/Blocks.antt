@@ -8,9 +8,10 @@ use mathlib.Core.Bool.{cond}
 use mathlib.Core.List.{List, _∷_}
 use Rattle.records.specs.Periods.{Party, party1, party2, other}
 use Rattle.runner.specs.Rows.{Row, attempt, negation, conjunction, disjunction, previous}
+use Rattle.contract.specs.Table
 use Rattle.contract.specs.Expressions.{Atom, any, tries, idle, succeeds, fails, Expression, atom, seq, or, star, holdsEmpty}
 use Rattle.contract.specs.Meaning.{Literal, duty, ban, power, Clause, literal, both, then, repair, repeat, when, until}
-use Rattle.compiler.specs.Widths.{_⊹_, afterExpression, afterClause}
+use Rattle.compiler.specs.Widths.{_⊹_, inside, afterExpression, afterClause}
 
 -- the first rows of every image: one that is never true, one true in period 1 only, and one true in all the others
 abbrev pub neverRow : ℕ
@@ -22,24 +23,24 @@ firstRow = 1
 abbrev pub laterRow : ℕ
 laterRow = 2
 
--- ---- rows that several kinds have, from row b on, with `rest` after them
+-- ---- rows that several kinds have, from row b on; what follows them is told where the rows stand that it needs
 
--- Once `done` was true nothing goes on: row b ⊹ 2 is K unless `done` was true in the period before.
-abbrev pub untilDone : (done K b : ℕ) → List Row → List Row
-untilDone done K b rest = previous done ∷ negation b ∷ conjunction K (b ⊹ 1) ∷ rest
+-- What goes on goes on until `done`: row `go` is K unless `done` was true in the period before.
+abbrev pub untilDone : (done K b : ℕ) → (rest : (go : ℕ) → List Row) → List Row
+untilDone done K b rest = previous done ∷ negation b ∷ conjunction K (b ⊹ 1) ∷ rest (b ⊹ 2)
 
--- One part hands over to another in the period after `fired`: row b ⊹ 1 is K where `fired` was true in the period before, row b ⊹ 3 is K
+-- One part hands over to another in the period after `fired`: row `start` is K where `fired` was true in the period before, row `go` is K
 -- where it was not.
-abbrev pub handOver : (fired K b : ℕ) → List Row → List Row
-handOver fired K b rest = previous fired ∷ conjunction K b ∷ negation b ∷ conjunction K (b ⊹ 2) ∷ rest
+abbrev pub handOver : (fired K b : ℕ) → (rest : (start go : ℕ) → List Row) → List Row
+handOver fired K b rest = previous fired ∷ conjunction K b ∷ negation b ∷ conjunction K (b ⊹ 2) ∷ rest (b ⊹ 1) (b ⊹ 3)
 
--- A list goes on with another list: row b ⊹ 2 is true where S is, and where K is and `ended` was true in the period before.
-abbrev pub joinOn : (ended S K b : ℕ) → List Row → List Row
-joinOn ended S K b rest = previous ended ∷ conjunction K b ∷ disjunction (b ⊹ 1) S ∷ rest
+-- Where a list has ended another may follow: row `start` is true where S is, and where K is and `ended` was true in the period before.
+abbrev pub joinOn : (ended S K b : ℕ) → (rest : (start : ℕ) → List Row) → List Row
+joinOn ended S K b rest = previous ended ∷ conjunction K b ∷ disjunction (b ⊹ 1) S ∷ rest (b ⊹ 2)
 
--- What was true stays true: row b ⊹ 2 is true where `now` is, and where `go` is and row b ⊹ 2 was in the period before.
-abbrev pub remember : (now go b : ℕ) → List Row → List Row
-remember now go b rest = previous (b ⊹ 2) ∷ conjunction go b ∷ disjunction (b ⊹ 1) now ∷ rest
+-- What was true stays true: row `kept` is true where `now` is, and where `go` is and `kept` was in the period before.
+abbrev pub remember : (now go b : ℕ) → (rest : (kept : ℕ) → List Row) → List Row
+remember now go b rest = previous (b ⊹ 2) ∷ conjunction go b ∷ disjunction (b ⊹ 1) now ∷ rest (b ⊹ 2)
 
 -- ---- expressions
 
@@ -50,16 +51,16 @@ endRow (atom (tries p a)) b S = b ⊹ 1
 endRow (atom (idle p a)) b S = b ⊹ 2
 endRow (atom (succeeds a)) b S = b ⊹ 3
 endRow (atom (fails a)) b S = b ⊹ 4
-endRow (seq l r) b S = afterExpression l (afterExpression r (b ⊹ 3))
-endRow (or l r) b S = afterExpression l (afterExpression r b)
-endRow (star e) b S = endRow e (b ⊹ 3) (b ⊹ 2)
+endRow (seq l r) b S = afterExpression l (afterExpression r (inside Table.seq b))
+endRow (or l r) b S = afterExpression l (afterExpression r (inside Table.or b))
+endRow (star e) b S = endRow e (inside Table.star b) (b ⊹ 2)
 
 -- the row that tells that a list which has begun may still go on
 unfoldable pub liveRow : Expression → (b : ℕ) → ℕ
 liveRow (atom x) b = neverRow
-liveRow (seq l r) b = afterExpression l (afterExpression r (b ⊹ 3)) ⊹ 2
-liveRow (or l r) b = afterExpression l (afterExpression r b) ⊹ 1
-liveRow (star e) b = afterExpression e (b ⊹ 3)
+liveRow (seq l r) b = afterExpression l (afterExpression r (inside Table.seq b)) ⊹ 2
+liveRow (or l r) b = afterExpression l (afterExpression r (inside Table.or b)) ⊹ 1
+liveRow (star e) b = afterExpression e (inside Table.star b)
 
 abbrev pub atomRows : Atom → (b S : ℕ) → List Row → List Row
 atomRows any b S rest = rest
@@ -77,26 +78,27 @@ ifEmpty e x = cond (holdsEmpty e) x neverRow
 unfoldable pub expressionRows : Expression → (b S K : ℕ) → List Row → List Row
 expressionRows (atom x) b S K rest = atomRows x b S rest
 expressionRows (seq l r) b S K rest =
-    let right = b ⊹ 3 in
+    let right = inside Table.seq b in
     let left = afterExpression r right in
     let n = afterExpression l left in
     let endL = endRow l left S in
-    let endR = endRow r right (b ⊹ 2) in
-    joinOn endL (ifEmpty l S) K b
-    (expressionRows r right (b ⊹ 2) K
+    joinOn endL (ifEmpty l S) K b λ start.
+    expressionRows r right start K
     (expressionRows l left S K
-    (disjunction endR (ifEmpty r endL) ∷ disjunction (liveRow l left) (liveRow r right) ∷ disjunction (n ⊹ 1) endL ∷ rest)))
+    (disjunction (endRow r right start) (ifEmpty r endL)
+    ∷ disjunction (liveRow l left) (liveRow r right) ∷ disjunction (n ⊹ 1) endL ∷ rest))
 expressionRows (or l r) b S K rest =
-    let left = afterExpression r b in
-    expressionRows r b S K
+    let right = inside Table.or b in
+    let left = afterExpression r right in
+    expressionRows r right S K
     (expressionRows l left S K
-    (disjunction (endRow l left S) (endRow r b S) ∷ disjunction (liveRow l left) (liveRow r b) ∷ rest))
+    (disjunction (endRow l left S) (endRow r right S) ∷ disjunction (liveRow l left) (liveRow r right) ∷ rest))
 expressionRows (star e) b S K rest =
-    let part = b ⊹ 3 in
-    let end = endRow e part (b ⊹ 2) in
-    joinOn end S K b
-    (expressionRows e part (b ⊹ 2) K
-    (disjunction (liveRow e part) end ∷ rest))
+    let part = inside Table.star b in
+    let end = endRow (star e) b S in
+    joinOn end S K b λ start.
+    expressionRows e part start K
+    (disjunction (liveRow e part) end ∷ rest)
 
 -- ---- clauses
 
@@ -123,21 +125,26 @@ literalOutputs power p b = blaming p (b ⊹ 6) neverRow (b ⊹ 4)
 unfoldable pub outputsOf : Clause → (b : ℕ) → Outputs
 outputsOf (literal l p a) b = literalOutputs l p b
 outputsOf (both l r) b =
-    let n = afterClause l (afterClause r (b ⊹ 3)) in
+    let n = afterClause l (afterClause r (inside Table.both b)) in
     outputs (n ⊹ 6) (n ⊹ 7) (n ⊹ 8)
 outputsOf (then l r) b =
-    let n = afterClause l (afterClause r (b ⊹ 4)) in
-    outputs (outputsOf r (b ⊹ 4) .sat) n (n ⊹ 1)
+    let right = inside Table.then b in
+    let n = afterClause l (afterClause r right) in
+    outputs (outputsOf r right .sat) n (n ⊹ 1)
 outputsOf (repair l r) b =
-    let n = afterClause l (afterClause r (b ⊹ 4)) in
-    outputs (n ⊹ 1) (outputsOf r (b ⊹ 4) .one) (outputsOf r (b ⊹ 4) .two)
-outputsOf (repeat c) b = outputs neverRow (outputsOf c (b ⊹ 5) .one) (outputsOf c (b ⊹ 5) .two)
+    let right = inside Table.repair b in
+    let n = afterClause l (afterClause r right) in
+    outputs (n ⊹ 1) (outputsOf r right .one) (outputsOf r right .two)
+outputsOf (repeat c) b =
+    let part = inside Table.repeat b in
+    outputs neverRow (outputsOf c part .one) (outputsOf c part .two)
 outputsOf (when e c) b =
-    let n = afterExpression e (afterClause c (b ⊹ 4)) in
-    outputs (n ⊹ 6) (outputsOf c (b ⊹ 4) .one) (outputsOf c (b ⊹ 4) .two)
+    let right = inside Table.when b in
+    let n = afterExpression e (afterClause c right) in
+    outputs (n ⊹ 6) (outputsOf c right .one) (outputsOf c right .two)
 outputsOf (until c e) b =
-    let part = afterExpression e (b ⊹ 3) in
-    outputs (afterClause c part ⊹ 3) (outputsOf c part .one) (outputsOf c part .two)
+    let left = afterExpression e (inside Table.until b) in
+    outputs (afterClause c left ⊹ 3) (outputsOf c left .one) (outputsOf c left .two)
 
 abbrev pub literalRows : Literal → Party → ℕ → (b S : ℕ) → List Row → List Row
 literalRows duty p a b S rest =
@@ -153,62 +160,67 @@ literalRows power p a b S rest =
 unfoldable pub clauseRows : Clause → (b S K : ℕ) → List Row → List Row
 clauseRows (literal l p a) b S K rest = literalRows l p a b S rest
 clauseRows (both l r) b S K rest =
-    let right = b ⊹ 3 in
+    let right = inside Table.both b in
     let left = afterClause r right in
     let n = afterClause l left in
-    let go = b ⊹ 2 in
     let outL = outputsOf l left in
     let outR = outputsOf r right in
-    untilDone (n ⊹ 10) K b
-    (clauseRows r right S go
+    let out = outputsOf (both l r) b in
+    let broken = n ⊹ 9 in
+    let done = n ⊹ 10 in
+    untilDone done K b λ go.
+    clauseRows r right S go
     (clauseRows l left S go
-    (remember (outL .sat) go n
-    (remember (outR .sat) go (n ⊹ 3)
-    (conjunction (n ⊹ 2) (n ⊹ 5) ∷ disjunction (outL .one) (outR .one) ∷ disjunction (outL .two) (outR .two)
-    ∷ disjunction (n ⊹ 7) (n ⊹ 8) ∷ disjunction (n ⊹ 6) (n ⊹ 9) ∷ rest)))))
+    (remember (outL .sat) go n λ metL.
+    remember (outR .sat) go (n ⊹ 3) λ metR.
+    conjunction metL metR ∷ disjunction (outL .one) (outR .one) ∷ disjunction (outL .two) (outR .two)
+    ∷ disjunction (out .one) (out .two) ∷ disjunction (out .sat) broken ∷ rest))
 clauseRows (then l r) b S K rest =
-    let right = b ⊹ 4 in
+    let right = inside Table.then b in
     let left = afterClause r right in
     let outL = outputsOf l left in
     let outR = outputsOf r right in
-    handOver (outL .sat) K b
-    (clauseRows r right (b ⊹ 1) (b ⊹ 3)
+    handOver (outL .sat) K b λ start go. clauseRows r right start go
     (clauseRows l left S K
-    (disjunction (outL .one) (outR .one) ∷ disjunction (outL .two) (outR .two) ∷ rest)))
+    (disjunction (outL .one) (outR .one) ∷ disjunction (outL .two) (outR .two) ∷ rest))
 clauseRows (repair l r) b S K rest =
-    let right = b ⊹ 4 in
+    let right = inside Table.repair b in
     let left = afterClause r right in
-    let n = afterClause l left in
     let outL = outputsOf l left in
-    handOver n K b
-    (clauseRows r right (b ⊹ 1) (b ⊹ 3)
+    let outR = outputsOf r right in
+    let broken = afterClause l left in
+    handOver broken K b λ start go. clauseRows r right start go
     (clauseRows l left S K
-    (disjunction (outL .one) (outL .two) ∷ disjunction (outL .sat) (outputsOf r right .sat) ∷ rest)))
+    (disjunction (outL .one) (outL .two) ∷ disjunction (outL .sat) (outR .sat) ∷ rest))
 clauseRows (repeat c) b S K rest =
-    let part = b ⊹ 5 in
-    handOver (outputsOf c part .sat) K b
-    (disjunction S (b ⊹ 1)
-    ∷ clauseRows c part (b ⊹ 4) (b ⊹ 3) rest)
+    let part = inside Table.repeat b in
+    handOver (outputsOf c part .sat) K b λ again go.
+    disjunction S again ∷ clauseRows c part (b ⊹ 4) go rest
 clauseRows (when e c) b S K rest =
-    let right = b ⊹ 4 in
+    let right = inside Table.when b in
     let left = afterClause c right in
     let n = afterExpression e left in
-    let go = b ⊹ 3 in
     let end = endRow e left S in
     let live = liveRow e left in
-    handOver end K b
-    (clauseRows c right (b ⊹ 1) go
+    let reading = n ⊹ 2 in
+    let begun = n ⊹ 3 in
+    let rejected = n ⊹ 5 in
+    handOver end K b λ start go. clauseRows c right start go
     (expressionRows e left S go
     (previous live ∷ conjunction go n ∷ disjunction S (n ⊹ 1)
-    ∷ disjunction end live ∷ negation (n ⊹ 3) ∷ conjunction (n ⊹ 2) (n ⊹ 4) ∷ disjunction (outputsOf c right .sat) (n ⊹ 5) ∷ rest)))
+    ∷ disjunction end live ∷ negation begun ∷ conjunction reading (n ⊹ 4) ∷ disjunction (outputsOf c right .sat) rejected ∷ rest))
 clauseRows (until c e) b S K rest =
-    let right = b ⊹ 3 in
+    let right = inside Table.until b in
     let left = afterExpression e right in
     let n = afterClause c left in
-    let go = b ⊹ 2 in
-    let out = outputsOf c left in
-    untilDone (n ⊹ 4) K b
-    (expressionRows e right S go
+    let end = endRow e right S in
+    let outC = outputsOf c left in
+    let out = outputsOf (until c e) b in
+    let broken = n in
+    let accepted = n ⊹ 2 in
+    let done = n ⊹ 4 in
+    untilDone done K b λ go.
+    expressionRows e right S go
     (clauseRows c left S go
-    (disjunction (out .one) (out .two) ∷ negation n ∷ conjunction (endRow e right S) (n ⊹ 1)
-    ∷ disjunction (out .sat) (n ⊹ 2) ∷ disjunction (n ⊹ 3) n ∷ rest)))
+    (disjunction (outC .one) (outC .two) ∷ negation broken ∷ conjunction end (n ⊹ 1) ∷ disjunction (outC .sat) accepted
+    ∷ disjunction (out .sat) broken ∷ rest))

@@ -75,19 +75,23 @@ abbrev pub _⊹_ : ℕ → ℕ → ℕ
 b ⊹ zero = b
 b ⊹ suc k = suc (b ⊹ k)
 
--- the first row after a record's own rows and those of its operands, where m gives the row after the operands' rows
+-- the first row of the operands of a record whose rows start at row b
+abbrev pub inside : Kind → ℕ → ℕ
+inside k b = b ⊹ width k .before
+
+-- the first row after a record's rows and those of its operands, where m gives the row after the operands' rows
 abbrev pub past : Kind → (ℕ → ℕ) → ℕ → ℕ
-past k m b = m (b ⊹ width k .before) ⊹ width k .behind
+past k m b = m (inside k b) ⊹ width k .behind
 
 -- The first row after the rows of a tree that start at row b. The right operand's rows stand before the left operand's.
 unfoldable pub afterExpression : Expression → ℕ → ℕ
-afterExpression (atom x) b = b ⊹ width (atomKind x) .before
+afterExpression (atom x) b = past (atomKind x) (λ n. n) b
 afterExpression (E.seq l r) b = past seq (λ n. afterExpression l (afterExpression r n)) b
 afterExpression (E.or l r) b = past or (λ n. afterExpression l (afterExpression r n)) b
 afterExpression (E.star e) b = past star (afterExpression e) b
 
 unfoldable pub afterClause : Clause → ℕ → ℕ
-afterClause (literal l p a) b = b ⊹ width (literalKind l) .before
+afterClause (literal l p a) b = past (literalKind l) (λ n. n) b
 afterClause (M.both l r) b = past both (λ n. afterClause l (afterClause r n)) b
 afterClause (M.then l r) b = past then (λ n. afterClause l (afterClause r n)) b
 afterClause (M.repair l r) b = past repair (λ n. afterClause l (afterClause r n)) b
