@@ -1,4 +1,5 @@
 -- Why the image of a contract monitors it, layer by layer.
+pub mod Examples
 pub mod Signals
 pub mod RowLaws
 pub mod Goodness

@@ -3,3 +3,4 @@ pub mod Widths
 pub mod Blocks
 pub mod Images
 pub mod Monitors
+pub mod Examples
