@@ -2,12 +2,13 @@
 use Rattle.contract.specs.Meaning.{Clause, EmptyFree}
 use Rattle.compiler.proofs.Signals.{Signal, WiredClause, wired-literal, wired-both, wired-then, wired-repair, wired-repeat, wired-when, wired-until}
 use Rattle.compiler.proofs.Threads.{Exclusive, exclusive-hands-over, until-fired, exclusive-until-done}
-use Rattle.compiler.proofs.Sayings.{Behaves}
+use Rattle.compiler.proofs.Reports.{Behaves}
 use Rattle.compiler.proofs.Expressions.{reads-alone}
+use Rattle.compiler.proofs.Literals.{behaves-literal}
 use Rattle.compiler.proofs.Handing.{behaves-then, behaves-repair}
 use Rattle.compiler.proofs.When.{behaves-when}
 use Rattle.compiler.proofs.Ending.{behaves-both, behaves-until}
-use Rattle.compiler.proofs.Repeating.{behaves-literal, exclusive-repeat, behaves-repeat}
+use Rattle.compiler.proofs.Repeating.{exclusive-repeat, behaves-repeat}
 
 pub behaves : {c : Clause} {S K sat one two : Signal} → EmptyFree c → Exclusive S K → WiredClause c S K sat one two → Behaves c S K sat one two
 unfolding EmptyFree
@@ -22,4 +23,4 @@ behaves g x (wired-when e h c r s) =
     behaves-when g x (reads-alone (exclusive-until-done x (until-fired h)) e) h (behaves (g .1) (exclusive-hands-over h) c) r s
 behaves g x (wired-until u e c s d) =
     let y = exclusive-until-done x u in
-    behaves-until g x u (reads-alone y e) (behaves (g .0) y c) s d
+    behaves-until g u (reads-alone y e) (behaves (g .0) y c) s d

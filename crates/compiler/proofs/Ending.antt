@@ -9,7 +9,7 @@ use mathlib.Core.Option.{Option, none, some}
 use mathlib.Core.Path.{_≡_, refl, sym, ap, _∙_}
 use borrow.Author.Tests.{lt-ltb, le-ltb, lt-leb, le-leb, eq-eqb}
 use lib.Dec.{eqb, leb}
-use lib.ListN.{length, length-append}
+use lib.ListN.{length}
 use Rattle.records.specs.Periods.{Party, party1, party2, Period}
 use Rattle.records.proofs.Numbers.{lt-or-le}
 use Rattle.contract.specs.Expressions.{Expression, member}
@@ -18,15 +18,15 @@ use Rattle.contract.specs.Meaning.{Clause, both, until, Blame, only, bothPartie
 use Rattle.contract.specs.Meaning.{bothMeaning, untilMeaning, meaning, EmptyFree}
 use Rattle.contract.specs.Verdicts.{decisionPeriod}
 use Rattle.contract.proofs.Meaning.{Within, within}
-use Rattle.compiler.proofs.Signals.{Signal, at, _≐_, Saying, nothing, met, broken, isMet, blames, isBroken, sayingOf, Says}
+use Rattle.compiler.proofs.Signals.{Signal, at, _≐_, Report, nothing, met, broken, isMet, blames, isBroken, reportOf, Says}
 use Rattle.compiler.proofs.Signals.{UntilDone, Remembers}
-use Rattle.compiler.proofs.Threads.{Exclusive, exclusive-until-done, extend, thread, Once, happens, unlessPast, cut, cut-off}
-use Rattle.compiler.proofs.Sayings.{decidedAt, satisfiedAt, violatedAt, acceptedAt, once-decided, once-satisfied}
-use Rattle.compiler.proofs.Sayings.{now, said, saidBy, NotBefore, timely, past, someone-blamed, met-happens, decided-happens, Behaves}
+use Rattle.compiler.proofs.Threads.{Exclusive, exclusive-until-done, extend, thread, Once, happens, length-snoc, none-yet, unlessPast, cut, cut-off}
+use Rattle.compiler.proofs.Reports.{decidedAt, satisfiedAt, violatedAt, acceptedAt, once-decided, once-satisfied}
+use Rattle.compiler.proofs.Reports.{unbroken, now, said, saidBy, NotBefore, timely, past, someone-blamed, met-happens, decided-happens, Behaves}
 use Rattle.compiler.proofs.Expressions.{heldBy, ReadsAlone}
 use Rattle.compiler.proofs.Tested.{Tested, goes-on, accepted-last, accepted-before, rejected-by-now, tested}
 
-exactly : (s : Saying) → Says (isMet s) (isBroken party1 s) (isBroken party2 s) s
+exactly : (s : Report) → Says (isMet s) (isBroken party1 s) (isBroken party2 s) s
 exactly s = record { met-is = refl; one-is = refl; two-is = refl }
 
 -- ---- parts that stop when the whole has decided
@@ -60,12 +60,12 @@ unfolding thread
 nothing-read S K = refl
 
 -- it is enough that the signals say what the clause says on what its parts have read, as long as the clause is unfinished there
-stops : {c : Clause} {S K go done sat one two : Signal} → EmptyFree c → Exclusive S K → UntilDone done K go
+stops : {c : Clause} {S K go done sat one two : Signal} → EmptyFree c → UntilDone done K go
     → (done ≐ λ p h. sat p h || (one p h || two p h))
     → ((p : Period) (h : List Period) → Unfinished c (thread S go (p ∷ h))
     → Says (sat p h) (one p h) (two p h) (saidBy c (thread S go (p ∷ h))))
     → Behaves c S K sat one two
-stops {c} {S} {K} {go} {done} {sat} {one} {two} g x u done-is right =
+stops {c} {S} {K} {go} {done} {sat} {one} {two} g u done-is right =
     record { says = λ h. says-at h (cut-off (λ w. decidedAt (meaning c w)) (once-decided c g) S u done-at h) }
   where
     says-at : (h : List Period) → thread S go h ≡ cut (λ w. decidedAt (meaning c w)) (thread S K h)
@@ -100,7 +100,7 @@ module _ (f : List Period → Option ℕ) (o : Once f) where
       go (some k) e = rw (o .stays w p k e)
       go none e =
           ⊎-elim (λ i. rw i)
-          (λ i. rw i (eq-eqb (suc (length w)) (length (w ++ (p ∷ []))) (omega (arith, length-append w (p ∷ [])))))
+          (λ i. rw i (eq-eqb (suc (length w)) (length (w ++ (p ∷ []))) (sym (length-snoc w p))))
           (o .only-now w p e)
 
   remembered : {S go fired kept : Signal} → Exclusive S go → Remembers fired go kept
@@ -115,7 +115,7 @@ module _ (f : List Period → Option ℕ) (o : Once f) where
           → (k && happened f t || happens f (cond s (some (p ∷ [])) (cond k (extend p t) none)))
           ≡ happened f (cond s (some (p ∷ [])) (cond k (extend p t) none))
       step true true t e = absurd (false≢true (sym e))
-      step true false t e = rw (o .none-yet) at (happened-by [] p)
+      step true false t e = rw (none-yet f o) at (happened-by [] p)
       step false true none e = refl
       step false true (some w) e = happened-by w p
       step false false t e = refl
@@ -140,9 +140,9 @@ both-parts n (violated j b) (violated k c) h = go (lt-or-le j k) (lt-or-le k j)
     go (inr l) (inr m) = let e : n ≤ j = rw (le-ltb j k l, le-ltb k j m) at h in omega arith
 
 -- what a half blames in period n: a satisfied one nobody, whenever that was
-blamed : (q : Party) (n : ℕ) (d : Decision) → Within n d → NotBefore n (violatedAt d) → isBroken q (now n d) ≡ isBroken q (sayingOf d)
+blamed : (q : Party) (n : ℕ) (d : Decision) → Within n d → NotBefore n (violatedAt d) → isBroken q (now n d) ≡ isBroken q (reportOf d)
 blamed q n undecided p h = refl
-blamed q n (satisfied k) p h = elim (eqb k n) as (λ t. isBroken q (cond t met nothing) ≡ false) [ true ↦ refl | false ↦ refl ]
+blamed q n (satisfied k) p h = unbroken q (eqb k n)
 blamed q n (violated k b) p h = ap (isBroken q) (timely n (violated k b) p h)
 
 left-alone : (b : Blame) → Says false (blames party1 b || false) (blames party2 b || false) (broken b)
@@ -157,18 +157,18 @@ together (only party1) bothParties = exactly _
 together (only party2) bothParties = exactly _
 together bothParties c = exactly _
 
-both-saying : (n : ℕ) (a b : Decision) → Within n a → Within n b → NotBefore n (violatedAt a) → NotBefore n (violatedAt b)
-    → Says (isSome (satisfiedAt a) && isSome (satisfiedAt b)) (isBroken party1 (sayingOf a) || isBroken party1 (sayingOf b))
-    (isBroken party2 (sayingOf a) || isBroken party2 (sayingOf b)) (sayingOf (bothMeaning a b))
-both-saying n undecided undecided p q s t = exactly nothing
-both-saying n undecided (satisfied k) p q s t = exactly nothing
-both-saying n undecided (violated k c) p q s t = exactly (broken c)
-both-saying n (satisfied j) undecided p q s t = exactly nothing
-both-saying n (satisfied j) (satisfied k) p q s t = exactly met
-both-saying n (satisfied j) (violated k c) p q s t = exactly (broken c)
-both-saying n (violated j b) undecided p q s t = left-alone b
-both-saying n (violated j b) (satisfied k) p q s t = left-alone b
-both-saying n (violated j b) (violated k c) p q s t = rw (le-ltb j k (omega arith), le-ltb k j (omega arith)) (together b c)
+both-report : (n : ℕ) (a b : Decision) → Within n a → Within n b → NotBefore n (violatedAt a) → NotBefore n (violatedAt b)
+    → Says (isSome (satisfiedAt a) && isSome (satisfiedAt b)) (isBroken party1 (reportOf a) || isBroken party1 (reportOf b))
+    (isBroken party2 (reportOf a) || isBroken party2 (reportOf b)) (reportOf (bothMeaning a b))
+both-report n undecided undecided p q s t = exactly nothing
+both-report n undecided (satisfied k) p q s t = exactly nothing
+both-report n undecided (violated k c) p q s t = exactly (broken c)
+both-report n (satisfied j) undecided p q s t = exactly nothing
+both-report n (satisfied j) (satisfied k) p q s t = exactly met
+both-report n (satisfied j) (violated k c) p q s t = exactly (broken c)
+both-report n (violated j b) undecided p q s t = left-alone b
+both-report n (violated j b) (satisfied k) p q s t = left-alone b
+both-report n (violated j b) (violated k c) p q s t = rw (le-ltb j k (omega arith), le-ltb k j (omega arith)) (together b c)
 
 both-said : (l r : Clause) → EmptyFree (both l r) → (v : Option (List Period)) → Unfinished (both l r) v
     → Says (happened (λ w. satisfiedAt (meaning l w)) v && happened (λ w. satisfiedAt (meaning r w)) v)
@@ -187,7 +187,7 @@ both-said l r g (some w) u =
       blamed party1 n (meaning r w) q (o .1),
       blamed party2 n (meaning r w) q (o .1),
       timely n (bothMeaning (meaning l w) (meaning r w)) (within (both l r) g w) u,
-    ) (both-saying n (meaning l w) (meaning r w) p q (o .0) (o .1))
+    ) (both-report n (meaning l w) (meaning r w) p q (o .0) (o .1))
 
 met-by-now : {c : Clause} {S go sat one two kept : Signal} → EmptyFree c → Exclusive S go → Behaves c S go sat one two → Remembers sat go kept
     → (h : List Period) → at kept h ≡ happened (λ w. satisfiedAt (meaning c w)) (thread S go h)
@@ -205,7 +205,7 @@ pub behaves-both : {l r : Clause} {S K go done satL oneL twoL satR oneR twoR met
 unfolding EmptyFree
 behaves-both {l} {r} {S} {go = go} g x u bl br rl rr sat-is one-is two-is done-is =
     let y = exclusive-until-done x u in
-    stops g x u done-is λ p h o.
+    stops g u done-is λ p h o.
     let sl = bl .says (p ∷ h) in
     let sr = br .says (p ∷ h) in
     rw (
@@ -222,20 +222,20 @@ behaves-both {l} {r} {S} {go = go} g x u bl br rl rr sat-is one-is two-is done-i
 
 -- ---- until
 
-accepted-last-or-not : {n : ℕ} {r : Reading} {m b : Bool} → Tested n r m b → NotBefore n (acceptedAt r) → m ≡ isSome (acceptedAt r)
-accepted-last-or-not goes-on h = refl
-accepted-last-or-not accepted-last h = refl
-accepted-last-or-not (accepted-before l) h = absurd (omega arith)
-accepted-last-or-not (rejected-by-now l) h = refl
+held-if-accepted : {n : ℕ} {r : Reading} {m b : Bool} → Tested n r m b → NotBefore n (acceptedAt r) → m ≡ isSome (acceptedAt r)
+held-if-accepted goes-on h = refl
+held-if-accepted accepted-last h = refl
+held-if-accepted (accepted-before l) h = absurd (omega arith)
+held-if-accepted (rejected-by-now l) h = refl
 
 not-past : (o : Option ℕ) (w : List Period) → NotBefore (length w) o → unlessPast o w ≡ some w
 not-past none w h = refl
 not-past (some k) w h = rw (le-ltb k (length w) h)
 
 -- an expression that was not accepted before the last period of a list is accepted there if the list is in its set
-accepted-now : (e : Expression) (w : List Period) → NotBefore (length w) (acceptedAt (reading e w))
+held-accepted : (e : Expression) (w : List Period) → NotBefore (length w) (acceptedAt (reading e w))
     → member e w ≡ isSome (acceptedAt (reading e w))
-accepted-now e w h = rw (not-past (acceptedAt (reading e w)) w h) at (accepted-last-or-not (tested e w) h)
+held-accepted e w h = rw (not-past (acceptedAt (reading e w)) w h) at (held-if-accepted (tested e w) h)
 
 -- of a decision in period j and an acceptance in period k, the one that counts is the earlier
 either : (n j k : ℕ) (d : Decision) → decidedAt d ≡ some j → NotBefore n (decidedAt (cond (leb j k) d (satisfied k))) → (n ≤ j) × (n ≤ k)
@@ -254,14 +254,14 @@ until-parts n undecided (accepted k) h = (tt, h)
 until-parts n (satisfied j) (accepted k) h = either n j k (satisfied j) refl h
 until-parts n (violated j b) (accepted k) h = either n j k (violated j b) refl h
 
-until-saying : (n : ℕ) (d : Decision) (r : Reading) → Within n d → NotBefore n (acceptedAt r)
-    → Says (isMet (sayingOf d) || (isSome (acceptedAt r) && not (isBroken party1 (sayingOf d) || isBroken party2 (sayingOf d))))
-    (isBroken party1 (sayingOf d)) (isBroken party2 (sayingOf d)) (sayingOf (untilMeaning d r))
-until-saying n d pending p h = rw (or-false (isMet (sayingOf d))) (exactly (sayingOf d))
-until-saying n d (rejected k) p h = rw (or-false (isMet (sayingOf d))) (exactly (sayingOf d))
-until-saying n undecided (accepted k) p h = exactly met
-until-saying n (satisfied j) (accepted k) p h = rw (le-leb j k (omega arith)) (exactly met)
-until-saying n (violated j b) (accepted k) p h = rw (le-leb j k (omega arith), someone-blamed b) (exactly (broken b))
+until-report : (n : ℕ) (d : Decision) (r : Reading) → Within n d → NotBefore n (acceptedAt r)
+    → Says (isMet (reportOf d) || (isSome (acceptedAt r) && not (isBroken party1 (reportOf d) || isBroken party2 (reportOf d))))
+    (isBroken party1 (reportOf d)) (isBroken party2 (reportOf d)) (reportOf (untilMeaning d r))
+until-report n d pending p h = rw (or-false (isMet (reportOf d))) (exactly (reportOf d))
+until-report n d (rejected k) p h = rw (or-false (isMet (reportOf d))) (exactly (reportOf d))
+until-report n undecided (accepted k) p h = exactly met
+until-report n (satisfied j) (accepted k) p h = rw (le-leb j k (omega arith)) (exactly met)
+until-report n (violated j b) (accepted k) p h = rw (le-leb j k (omega arith), someone-blamed b) (exactly (broken b))
 
 until-said : (c : Clause) (e : Expression) → EmptyFree (until c e) → (v : Option (List Period)) → Unfinished (until c e) v
     → Says (isMet (saidBy c v) || (heldBy e v && not (isBroken party1 (saidBy c v) || isBroken party2 (saidBy c v))))
@@ -274,16 +274,16 @@ until-said c e g (some w) u =
     let o = until-parts n (meaning c w) (reading e w) u in
     rw (
       timely n (meaning c w) p (o .0),
-      accepted-now e w (o .1),
+      held-accepted e w (o .1),
       timely n (untilMeaning (meaning c w) (reading e w)) (within (until c e) g w) u,
-    ) (until-saying n (meaning c w) (reading e w) p (o .1))
+    ) (until-report n (meaning c w) (reading e w) p (o .1))
 
 pub behaves-until : {c : Clause} {e : Expression} {S K go done end live satC one two sat : Signal}
-    → EmptyFree (until c e) → Exclusive S K → UntilDone done K go → ReadsAlone e S go end live → Behaves c S go satC one two
+    → EmptyFree (until c e) → UntilDone done K go → ReadsAlone e S go end live → Behaves c S go satC one two
     → (sat ≐ λ p h. satC p h || (end p h && not (one p h || two p h)))
     → (done ≐ λ p h. sat p h || (one p h || two p h))
     → Behaves (until c e) S K sat one two
-behaves-until {c} {e} {S} {go = go} g x u reads b sat-is done-is =
-    stops g x u done-is λ p h o.
+behaves-until {c} {e} {S} {go = go} g u reads b sat-is done-is =
+    stops g u done-is λ p h o.
     let s = b .says (p ∷ h) in
     rw (sat-is p h, reads .ends (p ∷ h), s .met-is, s .one-is, s .two-is) (until-said c e g (thread S go (p ∷ h)) o)

@@ -38,7 +38,7 @@ unfolding
     lines linesFrom image rowsFor clauseRows expressionRows outputsOf endRow liveRow holdsEmpty afterClause afterExpression stateOf afterPeriod
     valuesAfter newValues computed counted tries bit field value
 kind-vectors =
-    record { powers-and-duties = refl; accepted-idle = refl; rejected-fails = refl; accepted-odd = refl; rejected-until = refl }
+    record { powers-and-duties = refl; accepted-second = refl; rejected-fails = refl; accepted-odd = refl; rejected-until = refl }
 
 pub watch-vector : WatchVector
 unfolding

@@ -23,7 +23,7 @@ or-iff a b f g = (
 and-iff : (a b : Bool) {A B : Type 0} → ((a ≡ true) ↔ A) → ((b ≡ true) ↔ B) → (a && b ≡ true) ↔ (A × B)
 and-iff a b f g = Iff·trans (and-eq-true-iff a b) (Iff·and f g)
 
--- true at once
+-- two values that are true together are equal
 same : (a b : Bool) → ((a ≡ true) ↔ (b ≡ true)) → a ≡ b
 same true b h = sym (h .0 refl)
 same false true h = h .1 refl
@@ -32,7 +32,7 @@ same false false h = refl
 -- ---- what has been read
 
 -- a list of the set has been read up to now
-abbrev pub Read : (S K : Signal) → List Period → Language → Type 0
+abbrev Read : (S K : Signal) → List Period → Language → Type 0
 Read S K h L = (w : List Period) × (Active S K h w × L w)
 
 not-empty : {S K : Signal} {h w : List Period} → Active S K h w → (h ≢ []) × (w ≢ [])
@@ -98,9 +98,9 @@ going-on L S {ended} {S₀} {K} {start} j empty tells (p ∷ h) M =
 -- ---- the blocks of expressions
 
 -- with threads that may overlap
-pub record Reads (e : Expression) (S K end live : Signal) : Type 0 where
-  pub ends : (h : List Period) → (at end h ≡ true) ↔ Read S K h (Holds e)
-  pub lives : (h : List Period) → (at live h ≡ true) ↔ Read S K h (GoesOn (Holds e))
+record Reads (e : Expression) (S K end live : Signal) : Type 0 where
+  ends : (h : List Period) → (at end h ≡ true) ↔ Read S K h (Holds e)
+  lives : (h : List Period) → (at live h ≡ true) ↔ Read S K h (GoesOn (Holds e))
 
 reads-atom : {a : Atom} {S K end live : Signal} → (end ≐ λ p h. S p h && holds a p) → (live ≐ λ p h. false) → Reads (atom a) S K end live
 unfolding member
@@ -184,7 +184,7 @@ reads-star {e} {S} {K} {start} {end} {liveE} {live} a j v = record {
     rest : (h : List Period) → ReadsRest (Holds (star e)) S K start h
     rest = going-on (Holds (star e)) S j (λ p h. (λ s. (Expressions.none, s), λ b. b .1)) tells
 
-pub reads : {e : Expression} {S K end live : Signal} → WiredExpression e S K end live → Reads e S K end live
+reads : {e : Expression} {S K end live : Signal} → WiredExpression e S K end live → Reads e S K end live
 reads (wired-atom e v) = reads-atom e v
 reads (wired-seq l r j e v) = reads-seq (reads l) (reads r) j e v
 reads (wired-or l r e v) = reads-or (reads l) (reads r) e v

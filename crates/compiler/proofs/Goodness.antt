@@ -18,8 +18,8 @@ use Rattle.contract.specs.Table.{Kind}
 use Rattle.contract.specs.Expressions.{any, tries, idle, succeeds, fails, Expression, atom, seq, or, star, holdsEmpty}
 use Rattle.contract.specs.Meaning.{duty, ban, power, Clause, literal, both, then, repair, repeat, when, until}
 use Rattle.contract.specs.Spelling.{expressionRecords, records, ExpressionInRange, InRange}
-use Rattle.compiler.specs.Widths.{width, _⊹_, inside, expressionSize, clauseSize, fixedRows, afterExpression, afterClause}
-use Rattle.compiler.specs.Blocks.{endRow, liveRow, ifEmpty, expressionRows, Outputs, blaming, outputsOf, clauseRows}
+use Rattle.compiler.specs.Widths.{width, neverRow, mostRows, allowedRows, inside, expressionSize, clauseSize, fixedRows, afterExpression, afterClause}
+use Rattle.compiler.specs.Blocks.{joinRow, endRow, liveRow, ifEmpty, expressionRows, Outputs, blaming, outputsOf, clauseRows}
 use Rattle.compiler.specs.Images.{rowsFor, image}
 
 -- ---- how many rows
@@ -88,7 +88,7 @@ expression-most (seq l r) = omega (arith, expression-most l, expression-most r)
 expression-most (or l r) = omega (arith, expression-most l, expression-most r)
 expression-most (star e) = omega (arith, expression-most e)
 
-pub size-most : (c : Clause) → clauseSize c ≤ 14 * records c
+size-most : (c : Clause) → clauseSize c ≤ 14 * records c
 unfolding clauseSize records
 size-most (literal duty p a) = omega arith
 size-most (literal ban p a) = omega arith
@@ -100,11 +100,11 @@ size-most (repeat c) = omega (arith, size-most c)
 size-most (when e c) = omega (arith, expression-most e, size-most c)
 size-most (until c e) = omega (arith, size-most c, expression-most e)
 
-pub rows-most : (c : Clause) → length (rowsFor c) ≤ 14 * records c + 3
+pub rows-most : (c : Clause) → length (rowsFor c) ≤ mostRows (records c)
 rows-most c = omega (arith, length-rows c, size-most c)
 
--- as many as every image buffer has room for: 8 × (32 × records + 65) bytes, the end record's among them
-pub rows-allowed : (c : Clause) → length (rowsFor c) ≤ 32 * records c + 64
+-- no more than every image buffer has room for
+pub rows-allowed : (c : Clause) → length (rowsFor c) ≤ allowedRows (records c)
 rows-allowed c = omega (arith, rows-most c)
 
 -- ---- the rows that a block gives out stand before its end
@@ -122,13 +122,13 @@ inside-expression (atom (idle p a)) b S h = omega arith
 inside-expression (atom (succeeds a)) b S h = omega arith
 inside-expression (atom (fails a)) b S h = omega arith
 inside-expression (seq l r) b S h = omega (arith, after-expression l (afterExpression r (inside Table.seq b)), after-expression r (inside Table.seq b))
-inside-expression (or l r) b S h = omega (arith, after-expression l (afterExpression r b), after-expression r b)
-inside-expression (star e) b S h = omega (arith, inside-expression e (inside Table.star b) (b ⊹ 2) (omega arith))
+inside-expression (or l r) b S h = omega (arith, after-expression l (afterExpression r (inside Table.or b)), after-expression r (inside Table.or b))
+inside-expression (star e) b S h = omega (arith, inside-expression e (inside Table.star b) (joinRow b) (omega arith))
 
 inside-ifEmpty : (e : Expression) (x m : ℕ) → x < m → ifEmpty e x < m
 inside-ifEmpty e x m h = each (holdsEmpty e)
   where
-    each : (t : Bool) → cond t x 0 < m
+    each : (t : Bool) → cond t x neverRow < m
     each true = h
     each false = omega arith
 
@@ -226,8 +226,8 @@ first {rs = r ∷ rs} (suc m) f g = next (f .0) (first m (f .1) g)
 before : (k : Kind) {n b : ℕ} {rs : List Row} → First n b (width k .before) rs → Rest n b (width k .before) rs → GoodFrom n b rs
 before k = first (width k .before)
 
-behind : (k : Kind) {n b : ℕ} {rs : List Row} → First n b (width k .behind) rs → Rest n b (width k .behind) rs → GoodFrom n b rs
-behind k = first (width k .behind)
+after : (k : Kind) {n b : ℕ} {rs : List Row} → First n b (width k .after) rs → Rest n b (width k .after) rs → GoodFrom n b rs
+after k = first (width k .after)
 
 -- the rows that tell a block when it reads stand before it, and the block stands in the image
 record Within (n b S K after : ℕ) : Type 0 where
@@ -245,18 +245,18 @@ module _ (n : ℕ) where
   good-expression (atom (succeeds a)) i h g = before Table.succeeds (omega arith) g
   good-expression (atom (fails a)) i h g = before Table.fails (omega arith) g
   good-expression (seq l r) {b} {S} i h g =
-      let inR = inside-expression r (inside Table.seq b) (b ⊹ 2) (omega arith) in
+      let inR = inside-expression r (inside Table.seq b) (joinRow b) (omega arith) in
       let inL = inside-expression l (afterExpression r (inside Table.seq b)) S (omega arith) in
       let whole = inside-ifEmpty l S b (h .begins) in
       let ended = inside-ifEmpty r _ _ (inL .end-inside) in
-      before Table.seq (omega arith) (good-expression r (i .1) (omega arith) (good-expression l (i .0) (omega arith) (behind Table.seq (omega arith) g)))
+      before Table.seq (omega arith) (good-expression r (i .1) (omega arith) (good-expression l (i .0) (omega arith) (after Table.seq (omega arith) g)))
   good-expression (or l r) {b} {S} i h g =
-      let inR = inside-expression r b S (h .begins) in
-      let inL = inside-expression l (afterExpression r b) S (omega arith) in
-      good-expression r (i .1) (omega arith) (good-expression l (i .0) (omega arith) (behind Table.or (omega arith) g))
+      let inR = inside-expression r (inside Table.or b) S (h .begins) in
+      let inL = inside-expression l (afterExpression r (inside Table.or b)) S (omega arith) in
+      good-expression r (i .1) (omega arith) (good-expression l (i .0) (omega arith) (after Table.or (omega arith) g))
   good-expression (star e) {b} i h g =
-      let parts = inside-expression e (inside Table.star b) (b ⊹ 2) (omega arith) in
-      before Table.star (omega arith) (good-expression e i (omega arith) (behind Table.star (omega arith) g))
+      let parts = inside-expression e (inside Table.star b) (joinRow b) (omega arith) in
+      before Table.star (omega arith) (good-expression e i (omega arith) (after Table.star (omega arith) g))
 
   good-clause : (c : Clause) {b S K : ℕ} {rest : List Row} → InRange c → Within n b S K (afterClause c b)
       → GoodFrom n (afterClause c b) rest → GoodFrom n b (clauseRows c b S K rest)
@@ -266,25 +266,25 @@ module _ (n : ℕ) where
   good-clause (literal power p a) i h g = before Table.power (omega arith) g
   good-clause (both l r) {b} i h g =
       inside-two l r (inside Table.both b) (omega arith) (λ inR inL.
-      before Table.both (omega arith) (good-clause r (i .1) (omega arith) (good-clause l (i .0) (omega arith) (behind Table.both (omega arith) g))))
+      before Table.both (omega arith) (good-clause r (i .1) (omega arith) (good-clause l (i .0) (omega arith) (after Table.both (omega arith) g))))
   good-clause (then l r) {b} i h g =
       inside-two l r (inside Table.then b) (omega arith) (λ inR inL.
-      before Table.then (omega arith) (good-clause r (i .1) (omega arith) (good-clause l (i .0) (omega arith) (behind Table.then (omega arith) g))))
+      before Table.then (omega arith) (good-clause r (i .1) (omega arith) (good-clause l (i .0) (omega arith) (after Table.then (omega arith) g))))
   good-clause (repair l r) {b} i h g =
       inside-two l r (inside Table.repair b) (omega arith) (λ inR inL.
-      before Table.repair (omega arith) (good-clause r (i .1) (omega arith) (good-clause l (i .0) (omega arith) (behind Table.repair (omega arith) g))))
+      before Table.repair (omega arith) (good-clause r (i .1) (omega arith) (good-clause l (i .0) (omega arith) (after Table.repair (omega arith) g))))
   good-clause (repeat c) {b} i h g =
       let parts = inside-clause c (inside Table.repeat b) (omega arith) in
       before Table.repeat (omega arith) (good-clause c i (omega arith) g)
   good-clause (when e c) {b} {S} i h g =
       let inR = inside-clause c (inside Table.when b) (omega arith) in
       let inL = inside-expression e (afterClause c (inside Table.when b)) S (omega arith) in
-      before Table.when (omega arith) (good-clause c (i .1) (omega arith) (good-expression e (i .0) (omega arith) (behind Table.when (omega arith) g)))
+      before Table.when (omega arith) (good-clause c (i .1) (omega arith) (good-expression e (i .0) (omega arith) (after Table.when (omega arith) g)))
   good-clause (until c e) {b} {S} i h g =
       let inR = inside-expression e (inside Table.until b) S (omega arith) in
       let inL = inside-clause c (afterExpression e (inside Table.until b)) (omega arith) in
       before Table.until (omega arith)
-      (good-expression e {b = inside Table.until b} {S = S} {K = b ⊹ 2} (i .1) (omega arith) (good-clause c (i .0) (omega arith) (behind Table.until (omega arith) g)))
+      (good-expression e (i .1) (omega arith) (good-clause c (i .0) (omega arith) (after Table.until (omega arith) g)))
 
 -- ---- the image
 

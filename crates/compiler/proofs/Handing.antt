@@ -10,15 +10,15 @@ use mathlib.Core.Path.{_≡_, refl, sym, _∙_}
 use borrow.Author.Tests.{lt-ltb, le-ltb}
 use lib.Dec.{eqb}
 use lib.ListN.{length, drop, length-drop, drop-of-length-le}
-use Rattle.records.specs.Periods.{Party, party1, party2, Period}
+use Rattle.records.specs.Periods.{party1, party2, Period}
 use Rattle.records.proofs.Numbers.{lt-or-le}
 use Rattle.contract.specs.Meaning.{Clause, then, repair, Blame, Decision, undecided, satisfied, violated, after, thenMeaning, repairMeaning}
 use Rattle.contract.specs.Meaning.{meaning, EmptyFree}
 use Rattle.contract.proofs.Meaning.{within, within-none}
-use Rattle.compiler.proofs.Signals.{Signal, at, _≐_, at-or, Saying, nothing, met, broken, isMet, isBroken, Says, HandsOver}
+use Rattle.compiler.proofs.Signals.{Signal, at, _≐_, at-or, Report, nothing, broken, isMet, Says, HandsOver}
 use Rattle.compiler.proofs.Threads.{Exclusive, thread, Once, happens, restAfter, handed, handed-over}
-use Rattle.compiler.proofs.Sayings.{satisfiedAt, violatedAt, once-satisfied, once-violated, now, said, saidBy, now-later, Behaves}
-use Rattle.compiler.proofs.Sayings.{met-happens, broken-happens}
+use Rattle.compiler.proofs.Reports.{unbroken, satisfiedAt, violatedAt, once-satisfied, once-violated, now, said, saidBy, now-later, Behaves}
+use Rattle.compiler.proofs.Reports.{met-happens, broken-happens}
 
 -- ---- the shared law
 
@@ -29,7 +29,7 @@ pub data Hands (second : ℕ → Decision) : Option ℕ → (own whole : Decisio
   passes : {k : ℕ} → Hands second (some k) undecided (second k)
 
 -- a decision in the last period of what has been read
-abbrev pub nowBy : (List Period → Decision) → Option (List Period) → Saying
+abbrev pub nowBy : (List Period → Decision) → Option (List Period) → Report
 nowBy m none = nothing
 nowBy m (some w) = now (length w) (m w)
 
@@ -76,11 +76,7 @@ module _ (f : List Period → Option ℕ) (once : Once f) (own : List Period →
 
 -- ---- `then` and `repair`
 
--- a satisfaction is no violation, and a violation no satisfaction
-pub unbroken : (q : Party) (t : Bool) → isBroken q (cond t met nothing) ≡ false
-unbroken q true = refl
-unbroken q false = refl
-
+-- a violation is no satisfaction
 unmet : (b : Blame) (t : Bool) → isMet (cond t (broken b) nothing) ≡ false
 unmet b true = refl
 unmet b false = refl

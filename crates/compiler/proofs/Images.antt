@@ -1,23 +1,15 @@
 -- The image of every contract that is taken is right for it.
-use Prim.Native.Nat.{ℕ, _+_}
-use native.Mathlib.Omega.{arith}
+use Prim.Native.Nat.{ℕ}
 use mathlib.Core.List.{List}
 use mathlib.Core.Path.{_≡_}
-use lib.ListN.{replicate}
-use Rattle.runner.specs.Limits.{headBytes}
 use Rattle.runner.proofs.Images.{imageTest-imageBytes, imageOf-imageBytes, rowCount-imageBytes}
-use Rattle.runner.proofs.Steps.{read-back}
-use Rattle.runner.proofs.StepCalls.{freshState, fresh-bytes, fresh-sound}
-use Rattle.runner.specs.States.{stateOf}
+use Rattle.runner.proofs.StepCalls.{fresh-read}
 use Rattle.contract.specs.Meaning.{Clause}
 use Rattle.contract.specs.Reader.{taken, read}
 use Rattle.contract.proofs.Reader.{taken-spells, taken-count}
 use Rattle.compiler.specs.Images.{image, imageFor, RightFor}
 use Rattle.compiler.proofs.Goodness.{length-rows, rows-most, rows-allowed, writable}
 use Rattle.compiler.proofs.Root.{shows}
-
-fresh-read : (n : ℕ) → stateOf (replicate (headBytes + n) 0) ≡ freshState n
-fresh-read n = rw (fresh-bytes n) (read-back n (freshState n) (fresh-sound n) (omega arith))
 
 -- document 01 leaves the rows open; these are good and few enough, and decide as the contract means
 pub right-for : (contract : List ℕ) (c : Clause) → read contract ≡ taken c → RightFor contract c (imageFor contract)

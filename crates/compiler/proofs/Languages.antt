@@ -1,5 +1,5 @@
--- Sets of lists of periods, the sets of expressions among them: joining a list of one set and a list of another, going on from a list to a
--- longer one, and how both look with one period more.
+-- Sets of lists of periods, the sets of expressions among them: joining a list of one set and a list of another, how joining looks with one
+-- period more, and going on from a list to a longer one.
 use mathlib.Core.List.{List, [], _∷_, _++_, append-assoc, append-nil, append-eq-nil-iff, cons-ne-nil}
 use mathlib.Core.Logic.{_↔_, _≢_, _⊎_, inl, inr, ⊎-elim}
 use mathlib.Core.Path.{_≡_, refl, sym, _∙_, subst}
@@ -76,7 +76,7 @@ concat-empty L M w = (λ c. apart (c .rest) (c .front) (c .whole) (c .held) (c .
     no-rest b = record { front = w; rest = []; whole = sym (append-nil w); held = b .1; held-rest = b .0 }
 
 -- what goes on in the rest goes on as a whole
-pub concat-goes : {L M N : Language} {w : List Period} → ((v : List Period) → Concat L M v → N v) → Concat L (GoesOn M) w → GoesOn N w
+concat-goes : {L M N : Language} {w : List Period} → ((v : List Period) → Concat L M v → N v) → Concat L (GoesOn M) w → GoesOn N w
 concat-goes f c =
     let (p, (u, m)) = c .held-rest in
     (p, (u, f _ (record { front = c .front; rest = c .rest ++ (p ∷ u); whole = rw (← append-assoc, c .whole); held = c .held; held-rest = m })))

@@ -1,6 +1,5 @@
--- The blocks of a literal and of `repeat` behave.
--- A literal decides on the first period that it reads. A repeated clause reads run after run: each run ends where the clause is satisfied on it,
--- and the next begins in the period after.
+-- The block of `repeat` behaves. A repeated clause reads run after run: each run ends where the clause is satisfied on it, and the next begins in
+-- the period after.
 use Prim.Native.Nat.{ℕ, suc, _≤_}
 use native.Mathlib.Nat.{le-refl}
 use native.Mathlib.Omega.{arith}
@@ -13,89 +12,27 @@ use borrow.Author.Tests.{eqb-true, eq-eqb}
 use lib.Dec.{eqb}
 use lib.ListN.{length, drop, length-append, length-drop}
 use lib.Seq.{take-length, drop-length, drop-append-seam}
-use Rattle.records.specs.Periods.{Party, party1, party2, other, Period, tries}
-use Rattle.contract.specs.Meaning.{Literal, Clause, literal, repeat, Blame, Decision, undecided, satisfied, violated, literalDecision}
+use Rattle.records.specs.Periods.{Party, party1, party2, Period}
+use Rattle.contract.specs.Meaning.{Clause, repeat, Blame, Decision, undecided, satisfied, violated}
 use Rattle.contract.specs.Meaning.{later, after, thenMeaning, repeatMeaning, meaning, EmptyFree}
-use Rattle.contract.proofs.Meaning.{decidedBy, Within, within, within-period, stable, by-repeat}
+use Rattle.contract.proofs.Meaning.{decidedBy, within, stable, by-repeat}
 use Rattle.contract.proofs.Verdicts.{stands}
-use Rattle.compiler.proofs.Signals.{Signal, at, _≐_, Saying, nothing, met, broken, isMet, isBroken, sayingOf, Says, HandsOver}
+use Rattle.compiler.proofs.Signals.{Signal, at, _≐_, Report, nothing, met, broken, isMet, isBroken, Says, HandsOver}
 use Rattle.compiler.proofs.Threads.{Exclusive, extend, thread, length-snoc, is, first-period}
-use Rattle.compiler.proofs.Sayings.{decidedAt, satisfiedAt, once-satisfied, met-happens, now, said, saidBy, now-later, NotBefore, timely, past, Behaves}
-
--- ---- literals
-
--- a decision in period 1 is not before it
-not-before-first : (d : Decision) → Within 1 d → NotBefore 1 (decidedAt d)
-not-before-first undecided b = tt
-not-before-first (satisfied k) b = b .0
-not-before-first (violated k x) b = b .0
-
--- what has been read is not empty
-abbrev Begun : Option (List Period) → Type 0
-Begun none = Unit {0}
-Begun (some w) = 1 ≤ length w
-
-thread-begun : (S K : Signal) (h : List Period) → Begun (thread S K h)
-unfolding thread
-thread-begun S K [] = tt
-thread-begun S K (p ∷ h) = go (S p h) (K p h) (thread S K h)
-  where
-    go : (s k : Bool) (t : Option (List Period)) → Begun (cond s (some (p ∷ [])) (cond k (extend p t) none))
-    go true k t = le-refl 1
-    go false false t = tt
-    go false true none = tt
-    go false true (some w) = rw (length-snoc w p) (omega arith)
-
-module _ (l : Literal) (q : Party) (a : ℕ) where
-  one-period : (p : Period) → Within 1 (meaning (literal l q a) (p ∷ []))
-  unfolding EmptyFree
-  one-period p = within (literal l q a) tt (p ∷ [])
-
-  said-by-literal : (S K : Signal) (p : Period) (h : List Period)
-      → saidBy (literal l q a) (thread S K (p ∷ h)) ≡ cond (S p h) (sayingOf (meaning (literal l q a) (p ∷ []))) nothing
-  unfolding thread said meaning
-  said-by-literal S K p h = go (S p h) (K p h) (thread S K h) (thread-begun S K h)
-    where
-      go : (s k : Bool) (t : Option (List Period)) → Begun t
-          → saidBy (literal l q a) (cond s (some (p ∷ [])) (cond k (extend p t) none)) ≡ cond s (sayingOf (meaning (literal l q a) (p ∷ []))) nothing
-      go true k t b = timely 1 (meaning (literal l q a) (p ∷ [])) (one-period p) (not-before-first (meaning (literal l q a) (p ∷ [])) (one-period p))
-      go false false t b = refl
-      go false true none b = refl
-      go false true (some []) b = absurd (omega arith)
-      go false true (some (x ∷ w)) b =
-          past (suc (length (w ++ (p ∷ [])))) (meaning (literal l q a) (x ∷ []))
-          (omega (arith, length-snoc w p, within-period 1 (meaning (literal l q a) (x ∷ [])) (one-period x)))
-
-says-if : (b : Bool) (s : Saying) → Says (b && isMet s) (b && isBroken party1 s) (b && isBroken party2 s) (cond b s nothing)
-says-if true s = record { met-is = refl; one-is = refl; two-is = refl }
-says-if false s = record { met-is = refl; one-is = refl; two-is = refl }
-
-pub behaves-literal : {l : Literal} {q : Party} {a : ℕ} {S K sat one two : Signal}
-    → ((p : Period) (h : List Period) → let s = sayingOf (literalDecision l q (tries p q a) (tries p (other q) a)) in
-    (sat p h ≡ (S p h && isMet s)) × (one p h ≡ (S p h && isBroken party1 s)) × (two p h ≡ (S p h && isBroken party2 s)))
-    → Behaves (literal l q a) S K sat one two
-unfolding thread meaning
-behaves-literal {l} {q} {a} {S} {K} {sat} {one} {two} e = record { says = says }
-  where
-    says : (h : List Period) → Says (at sat h) (at one h) (at two h) (saidBy (literal l q a) (thread S K h))
-    says [] = record { met-is = refl; one-is = refl; two-is = refl }
-    says (p ∷ h) =
-        rw (e p h .0, e p h .1, e p h .2, said-by-literal l q a S K p h) (says-if (S p h) (sayingOf (meaning (literal l q a) (p ∷ []))))
-
--- ---- repeat
+use Rattle.compiler.proofs.Reports.{satisfiedAt, once-satisfied, met-happens, now, said, saidBy, now-later, Behaves}
 
 -- what a repeated clause says of a run: never that it is satisfied
-abbrev unmet : Saying → Saying
+abbrev unmet : Report → Report
 unmet nothing = nothing
 unmet met = nothing
 unmet (broken b) = broken b
 
-not-met : (s : Saying) → isMet (unmet s) ≡ false
+not-met : (s : Report) → isMet (unmet s) ≡ false
 not-met nothing = refl
 not-met met = refl
 not-met (broken b) = refl
 
-same-blame : (q : Party) (s : Saying) → isBroken q (unmet s) ≡ isBroken q s
+same-blame : (q : Party) (s : Report) → isBroken q (unmet s) ≡ isBroken q s
 same-blame q nothing = refl
 same-blame q met = refl
 same-blame q (broken b) = refl
@@ -220,7 +157,7 @@ unfolding thread
 behaves-repeat {c} {S} {K} {again} {start} {go} {satC} {one} {two} {sat} g x w e b never =
     record { says = λ h. rw (said-running c g (running h)) (says h (saidBy c (thread start go h)) (b .says h)) }
   where
-    says : (h : List Period) (s : Saying) → Says (at satC h) (at one h) (at two h) s → Says (at sat h) (at one h) (at two h) (unmet s)
+    says : (h : List Period) (s : Report) → Says (at satC h) (at one h) (at two h) s → Says (at sat h) (at one h) (at two h) (unmet s)
     says h s b =
         record { met-is = silent h ∙ sym (not-met s); one-is = b .one-is ∙ sym (same-blame party1 s); two-is = b .two-is ∙ sym (same-blame party2 s) }
       where

@@ -13,8 +13,7 @@ use Rattle.records.specs.Periods.{party1, party2, Period}
 use Rattle.runner.specs.Rows.{Row, never, initial, attempt, negation, conjunction, disjunction, previous}
 use Rattle.runner.specs.States.{State}
 use Rattle.runner.specs.Machine.{byteOf, isTrue, value, newValues, valuesAfter, outcomeOf, blameOf, computed, counted, afterPeriod, afterPeriods}
-use Rattle.runner.proofs.Computing.{isTrue-byteOf}
-use Rattle.runner.proofs.Machine.{after-undecided, after-decided, after-snoc}
+use Rattle.runner.proofs.Machine.{isTrue-byteOf, after-undecided, after-decided, after-snoc}
 use Rattle.runner.proofs.StepCalls.{freshState}
 use Rattle.contract.specs.Limits.{maxRecords}
 use Rattle.contract.specs.Meaning.{Clause, Blame, only, bothParties, Decision, undecided, satisfied, violated, meaning, EmptyFree}
@@ -22,15 +21,14 @@ use Rattle.contract.specs.Spelling.{records, InRange}
 use Rattle.contract.specs.Verdicts.{decisionPeriod, blame, blameNumber}
 use Rattle.contract.proofs.Meaning.{within, within-none}
 use Rattle.contract.proofs.Verdicts.{stands}
-use Rattle.compiler.specs.Widths.{fixedRows}
-use Rattle.compiler.specs.Blocks.{firstRow, laterRow}
+use Rattle.compiler.specs.Widths.{firstRow, laterRow, fixedRows}
 use Rattle.compiler.specs.Images.{rowsFor, image, outcome, Shows}
 use Rattle.compiler.proofs.Signals.{Signal, at, isFirst, _≐_, Obeys, isMet, blames, isBroken, Says}
 use Rattle.compiler.proofs.RowLaws.{values, signal, obeys}
 use Rattle.compiler.proofs.Goodness.{writable}
 use Rattle.compiler.proofs.Wiring.{wired-clause}
 use Rattle.compiler.proofs.Threads.{Exclusive, extend, thread, length-snoc}
-use Rattle.compiler.proofs.Sayings.{decidedAt, someone-blamed, once-decided, now, said, Behaves}
+use Rattle.compiler.proofs.Reports.{decidedAt, someone-blamed, once-decided, now, said, Behaves}
 use Rattle.compiler.proofs.Clauses.{behaves}
 
 -- ---- histories and lists
@@ -97,7 +95,7 @@ bits-back : (new : List Bool) → map isTrue (map byteOf new) ≡ new
 bits-back [] = refl
 bits-back (v ∷ new) = rw (isTrue-byteOf v, bits-back new)
 
--- ---- what the machine makes of a saying
+-- ---- what the machine makes of a report
 
 blame-number : (b : Blame) → blameOf (blames party1 b) (blames party2 b) ≡ blameNumber b
 blame-number (only party1) = refl

@@ -12,7 +12,7 @@ use lib.Seq.{getD-at}
 use Rattle.records.specs.Periods.{Period}
 use Rattle.runner.specs.Rows.{Row, never, initial, attempt, negation, conjunction, disjunction, previous, namesRows}
 use Rattle.runner.specs.Machine.{value, newValues}
-use Rattle.runner.proofs.Computing.{length-newValues}
+use Rattle.runner.proofs.Machine.{length-newValues}
 use Rattle.compiler.proofs.Signals.{Signal, isFirst, rowSignal, _≐_, Obeys}
 
 -- the values of the rows in the last period of a history, the latest period first; none where there is no period

@@ -1,4 +1,5 @@
--- The vocabulary of the layers above: signals, what it is that signals obey rows, and the equations between the signals of each kind's block.
+-- The vocabulary of the layers above: signals, what it means that they obey rows, what a decision reports, and the equations between the signals
+-- of each kind's block.
 use Prim.Native.Nat.{ℕ, suc}
 use mathlib.Core.Bool.{Bool, true, false, not, _&&_, _||_}
 use mathlib.Core.List.{List, [], _∷_}
@@ -40,7 +41,7 @@ infixl 10 _≐_
 abbrev pub _≐_ : Signal → Signal → Type 0
 x ≐ y = (p : Period) (h : List Period) → x p h ≡ y p h
 
--- so also at the end of a history
+-- an equation with `or` holds at the end of a history too
 pub at-or : (x y z : Signal) → (x ≐ λ p h. y p h || z p h) → (h : List Period) → at x h ≡ (at y h || at z h)
 at-or x y z e [] = refl
 at-or x y z e (p ∷ h) = e p h
@@ -52,11 +53,11 @@ Obeys v b (r ∷ rs) = (v b ≐ rowSignal v r) × Obeys v (suc b) rs
 
 -- ---- what a decision says in the period in which it falls
 
-pub data Saying : Type 0 where
-  nothing met : Saying
-  broken : Blame → Saying
+pub data Report : Type 0 where
+  nothing met : Report
+  broken : Blame → Report
 
-abbrev pub isMet : Saying → Bool
+abbrev pub isMet : Report → Bool
 isMet nothing = false
 isMet met = true
 isMet (broken b) = false
@@ -68,19 +69,19 @@ blames party2 (only party1) = false
 blames party2 (only party2) = true
 blames p bothParties = true
 
-abbrev pub isBroken : Party → Saying → Bool
+abbrev pub isBroken : Party → Report → Bool
 isBroken q nothing = false
 isBroken q met = false
 isBroken q (broken b) = blames q b
 
 -- the kind of a decision, whatever its period
-abbrev pub sayingOf : Decision → Saying
-sayingOf undecided = nothing
-sayingOf (satisfied k) = met
-sayingOf (violated k b) = broken b
+abbrev pub reportOf : Decision → Report
+reportOf undecided = nothing
+reportOf (satisfied k) = met
+reportOf (violated k b) = broken b
 
 -- three values say that
-pub record Says (sat one two : Bool) (s : Saying) : Type 0 where
+pub record Says (sat one two : Bool) (s : Report) : Type 0 where
   pub met-is : sat ≡ isMet s
   pub one-is : one ≡ isBroken party1 s
   pub two-is : two ≡ isBroken party2 s
@@ -136,7 +137,7 @@ pub data WiredExpression : Expression → (S K end live : Signal) → Type 0 whe
 -- the signals of a clause's block: begins to read, goes on; satisfied now, violated now with party 1, with party 2 to blame
 pub data WiredClause : Clause → (S K sat one two : Signal) → Type 0 where
   wired-literal : {l : Literal} {q : Party} {a : ℕ} {S K sat one two : Signal}
-      → ((p : Period) (h : List Period) → let s = sayingOf (literalDecision l q (tries p q a) (tries p (other q) a)) in
+      → ((p : Period) (h : List Period) → let s = reportOf (literalDecision l q (tries p q a) (tries p (other q) a)) in
       (sat p h ≡ (S p h && isMet s)) × (one p h ≡ (S p h && isBroken party1 s)) × (two p h ≡ (S p h && isBroken party2 s)))
       → WiredClause (literal l q a) S K sat one two
   wired-both : {l r : Clause} {S K go done satL oneL twoL satR oneR twoR metL metR sat one two : Signal}

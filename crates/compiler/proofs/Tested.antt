@@ -1,4 +1,5 @@
--- What the tests of an expression, "in the set" and "begins a list of the set", tell of a list by what it shows.
+-- How the tests of an expression, "in the set" and "begins a list of the set", come out on a list by its reading, where the list is read only
+-- until acceptance.
 use Prim.Native.Nat.{ℕ, _≤_, _<_}
 use native.Mathlib.Omega.{arith}
 use mathlib.Core.Bool.{Bool, true, false, not, _&&_, false≢true, not-eq-not}
@@ -15,7 +16,7 @@ use Rattle.contract.specs.Readings.{AcceptedAt, RejectedAt, Reading, pending, a
 use Rattle.contract.proofs.Expressions.{member-iff, begins-iff}
 use Rattle.contract.proofs.Readings.{accepted-iff, rejected-iff}
 use Rattle.compiler.proofs.Threads.{is, unlessPast}
-use Rattle.compiler.proofs.Sayings.{acceptedAt}
+use Rattle.compiler.proofs.Reports.{acceptedAt}
 use Rattle.compiler.proofs.Expressions.{heldBy, begunBy}
 
 abbrev pub isPending : Reading → Bool

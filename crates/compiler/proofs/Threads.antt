@@ -5,14 +5,14 @@ use Prim.Native.Nat.{ℕ, suc, _≤_, _<_}
 use native.Mathlib.Nat.{le-refl}
 use native.Mathlib.Omega.{arith}
 use mathlib.Core.Bool.{Bool, true, false, not, _&&_, cond, false≢true}
-use mathlib.Core.List.{List, [], _∷_, _++_, append-nil}
+use mathlib.Core.List.{List, [], _∷_, _++_}
 use mathlib.Core.Logic.{_↔_, _⊎_, ⊎-elim}
 use mathlib.Core.Option.{Option, none, some, Option·none-ne-some, Option·some-injective}
 use mathlib.Core.Path.{_≡_, refl, sym, _∙_, subst}
 use borrow.Author.Tests.{lt-ltb, le-ltb, eq-eqb, ne-eqb}
 use lib.Dec.{eqb, ltb}
 use lib.ListN.{length, drop, length-append}
-use lib.Seq.{append-snoc, drop-append-seam, drop-append-le}
+use lib.Seq.{drop-append-seam, drop-append-le}
 use Rattle.records.specs.Periods.{Period}
 use Rattle.records.proofs.Numbers.{lt-or-le}
 use Rattle.compiler.proofs.Signals.{Signal, at, UntilDone, HandsOver}
@@ -37,7 +37,7 @@ exclusive-hands-over {fired} {K} w =
     one-of true false = refl
     one-of true true = refl
 
--- what is handed over has read until then
+-- what reads by `go` reads until `fired`
 pub until-fired : {fired K start go : Signal} → HandsOver fired K start go → UntilDone fired K go
 until-fired w = record { goes = w .goes }
 
@@ -86,9 +86,14 @@ thread-active S K x h w = (active-thread x, thread-is-active S K h w)
 
 -- ---- what happens at one period of a list
 
+-- between period 1 and period n, or not at all
+abbrev pub Between : ℕ → Option ℕ → Type 0
+Between n none = Unit {0}
+Between n (some k) = (1 ≤ k) × (k ≤ n)
+
 -- f is a period of the list at which something happens: none so far, or one that stays when the list grows
 pub record Once (f : List Period → Option ℕ) : Type 0 where
-  pub none-yet : f [] ≡ none
+  pub between : (w : List Period) → Between (length w) (f w)
   pub stays : (w : List Period) (p : Period) (k : ℕ) → f w ≡ some k → f (w ++ (p ∷ [])) ≡ some k
   pub only-now : (w : List Period) (p : Period) → f w ≡ none → (f (w ++ (p ∷ [])) ≡ none) ⊎ (f (w ++ (p ∷ [])) ≡ some (suc (length w)))
 
@@ -119,21 +124,8 @@ abbrev pub cut : (List Period → Option ℕ) → Option (List Period) → Optio
 cut f none = none
 cut f (some w) = unlessPast (f w) w
 
--- what holds of no periods, and of one period more, holds of every list
-snoc-induction : (P : List Period → Type 0) → P [] → ((w : List Period) (p : Period) → P w → P (w ++ (p ∷ []))) → (w : List Period) → P w
-snoc-induction P z s w = go [] w z
-  where
-    go : (u v : List Period) → P u → P (u ++ v)
-    go u [] h = rw (append-nil u) h
-    go u (p ∷ v) h = rw (← append-snoc u p v) (go (u ++ (p ∷ [])) v (s u p h))
-
 pub length-snoc : (w : List Period) (p : Period) → length (w ++ (p ∷ [])) ≡ suc (length w)
 length-snoc w p = rw (length-append w (p ∷ [])) (omega arith)
-
--- between period 1 and period n, or not at all
-abbrev pub Between : ℕ → Option ℕ → Type 0
-Between n none = Unit {0}
-Between n (some k) = (1 ≤ k) × (k ≤ n)
 
 -- before and after the period that follows n others: it has not happened, happens now, has just happened, or is past
 data Grown (n : ℕ) : (before after : Option ℕ) → Type 0 where
@@ -142,15 +134,13 @@ data Grown (n : ℕ) : (before after : Option ℕ) → Type 0 where
   just : Grown n (some n) (some n)
   past : {k : ℕ} → k < n → Grown n (some k) (some k)
 
-between-grown : {n : ℕ} {r r′ : Option ℕ} → Grown n r r′ → Between n r → Between (suc n) r′
-between-grown never b = tt
-between-grown now b = omega arith
-between-grown just b = omega arith
-between-grown (past l) b = omega arith
+not-at-start : (r : Option ℕ) → Between 0 r → r ≡ none
+not-at-start none b = refl
+not-at-start (some k) b = absurd (omega arith)
 
 module _ (f : List Period → Option ℕ) (o : Once f) where
-  grown-within : (w : List Period) (p : Period) → Between (length w) (f w) → Grown (length w) (f w) (f (w ++ (p ∷ [])))
-  grown-within w p b = go (f w) refl b
+  grown : (w : List Period) (p : Period) → Grown (length w) (f w) (f (w ++ (p ∷ [])))
+  grown w p = go (f w) refl (o .between w)
     where
       go : (r : Option ℕ) → f w ≡ r → Between (length w) r → Grown (length w) r (f (w ++ (p ∷ [])))
       go none e b = ⊎-elim (λ i. rw i never) (λ i. rw i now) (o .only-now w p e)
@@ -159,17 +149,12 @@ module _ (f : List Period → Option ℕ) (o : Once f) where
           last : length w ≤ k → Grown (length w) (some k) (some k)
           last l = let same : length w ≡ k = omega arith in subst (λ (j : ℕ). Grown (length w) (some j) (some j)) same just
 
-  once-between : (w : List Period) → Between (length w) (f w)
-  once-between =
-      snoc-induction (λ w. Between (length w) (f w)) (rw (o .none-yet) tt)
-      (λ w p b. rw (length-snoc w p) (between-grown (grown-within w p b) b))
-
-  grown : (w : List Period) (p : Period) → Grown (length w) (f w) (f (w ++ (p ∷ [])))
-  grown w p = grown-within w p (once-between w)
+  pub none-yet : f [] ≡ none
+  none-yet = not-at-start (f []) (o .between [])
 
   -- nothing is past in the first period
   pub first-period : (p : Period) → (f (p ∷ []) ≡ none) ⊎ (f (p ∷ []) ≡ some 1)
-  first-period p = o .only-now [] p (o .none-yet)
+  first-period p = o .only-now [] p none-yet
 
 -- with one period more, what is handed over, and what is not cut off
 grows : (w : List Period) (p : Period) (r r′ : Option ℕ) → Grown (length w) r r′

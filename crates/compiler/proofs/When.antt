@@ -9,7 +9,7 @@ use mathlib.Core.Option.{Option, none, some}
 use mathlib.Core.Path.{_≡_, refl, sym, _∙_}
 use borrow.Author.Tests.{lt-ltb, le-ltb, eq-eqb, ne-eqb}
 use lib.Dec.{eqb}
-use lib.ListN.{length, length-append}
+use lib.ListN.{length}
 use lib.Seq.{take-append-seam}
 use Rattle.records.specs.Periods.{Party, party1, party2, Period}
 use Rattle.records.proofs.Numbers.{lt-or-le}
@@ -19,11 +19,11 @@ use Rattle.contract.specs.Meaning.{Clause, when, Decision, undecided, satisfied
 use Rattle.contract.proofs.Expressions.{member-iff, begins-iff, some-list}
 use Rattle.contract.proofs.Readings.{readingBy, reading-take}
 use Rattle.compiler.proofs.Signals.{Signal, at, _≐_, isMet, isBroken, Says, HandsOver}
-use Rattle.compiler.proofs.Threads.{Exclusive, until-fired, extend, thread, happens, cut, cut-off}
-use Rattle.compiler.proofs.Sayings.{acceptedAt, once-accepted, now, Behaves}
+use Rattle.compiler.proofs.Threads.{Exclusive, until-fired, extend, thread, happens, length-snoc, cut, cut-off}
+use Rattle.compiler.proofs.Reports.{unbroken, acceptedAt, once-accepted, now, Behaves}
 use Rattle.compiler.proofs.Expressions.{heldBy, begunBy, ReadsAlone}
 use Rattle.compiler.proofs.Tested.{isPending, Tested, goes-on, accepted-last, accepted-before, rejected-by-now, accepted-now, pending-now, tested}
-use Rattle.compiler.proofs.Handing.{Hands, keeps, passes, nowBy, handing, unbroken}
+use Rattle.compiler.proofs.Handing.{Hands, keeps, passes, nowBy, handing}
 
 -- what the expression of `when` decides for itself: it keeps its rejection, which satisfies the clause
 abbrev rejection : Reading → Decision
@@ -68,7 +68,7 @@ module _ (e : Expression) where
   rejected-next w p =
       let before : reading e w ≡ readingBy (length w) (reading e (w ++ (p ∷ []))) =
       rw (take-append-seam w (p ∷ [])) at (reading-take e (w ++ (p ∷ [])) (length w)) in
-      rw before (rejected-now (omega (arith, length-append w (p ∷ []))) (tested e (w ++ (p ∷ []))))
+      rw before (rejected-now (length-snoc w p) (tested e (w ++ (p ∷ []))))
 
   pending-first : ¬ Holds e [] → isPending (reading e []) ≡ true
   unfolding reading readingTo
@@ -84,7 +84,7 @@ module _ (e : Expression) where
 
 -- ---- the signals
 
-module _ (e : Expression) (guarded : ¬ Holds e []) {S K start go end live : Signal} (x : Exclusive S K) (w : HandsOver end K start go)
+module _ (e : Expression) (guarded : ¬ Holds e []) {S K start go end live : Signal} (w : HandsOver end K start go)
     (reader : ReadsAlone e S go end live) where
   ends-accepted : (h : List Period) → thread S go h ≡ cut (acceptance e) (thread S K h) → at end h ≡ happens (acceptance e) (thread S K h)
   ends-accepted h c = rw (reader .ends h, c) (accepted-by e (thread S K h))
@@ -143,8 +143,8 @@ behaves-when {e} {c} {S} {K} {end = end} {live} {reads} {satC} {sat = sat} g x r
   says = λ h. rw (sat-at h)
       (handing (acceptance e) (once-accepted e (g .0)) (λ v. rejection (reading e v)) (when e c) c (g .1)
       (λ v. hands-when (reading e v) (after (meaning c) v))
-      x w (λ i. ends-accepted e (g .0) x w reader i (reads-until e (g .0) x w reader i)) right h
-      (says-rejection e (thread S K h) (rejects e (g .0) x w reader reads-is h)));
+      x w (λ i. ends-accepted e (g .0) w reader i (reads-until e (g .0) w reader i)) right h
+      (says-rejection e (thread S K h) (rejects e (g .0) w reader reads-is h)));
 }
   where
     sat-at : (h : List Period) → at sat h ≡ (at (λ p i. reads p i && not (end p i || live p i)) h || at satC h)

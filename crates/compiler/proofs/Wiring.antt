@@ -9,37 +9,37 @@ use Rattle.runner.specs.Rows.{Row}
 use Rattle.contract.specs.Expressions.{Atom, any, tries, idle, succeeds, fails, holds, Expression, atom, seq, or, star, holdsEmpty}
 use Rattle.contract.specs.Meaning.{Literal, duty, ban, power, Clause, literal, both, then, repair, repeat, when, until}
 use Rattle.contract.specs.Meaning.{only, Decision, satisfied, violated, literalDecision}
-use Rattle.compiler.specs.Widths.{_⊹_, afterExpression, afterClause}
-use Rattle.compiler.specs.Blocks.{neverRow, untilDone, handOver, joinOn, remember}
+use Rattle.compiler.specs.Widths.{neverRow, _⊹_, afterExpression, afterClause}
+use Rattle.compiler.specs.Blocks.{untilDone, handOver, joinOn, remember}
 use Rattle.compiler.specs.Blocks.{endRow, liveRow, ifEmpty, expressionRows, blaming, outputsOf, clauseRows}
-use Rattle.compiler.proofs.Signals.{Signal, _≐_, Obeys, isMet, isBroken, sayingOf, UntilDone, HandsOver, JoinsOn, Remembers}
+use Rattle.compiler.proofs.Signals.{Signal, _≐_, Obeys, isMet, isBroken, reportOf, UntilDone, HandsOver, JoinsOn, Remembers}
 use Rattle.compiler.proofs.Signals.{whereEmpty, WiredExpression, wired-atom, wired-seq, wired-or, wired-star}
 use Rattle.compiler.proofs.Signals.{WiredClause, wired-literal, wired-both, wired-then, wired-repair, wired-repeat, wired-when, wired-until}
 
 -- that signals obey rows, as a type that shows the rows: each law below reads its own rows there and hands the rest on
-record Gives (v : ℕ → Signal) (b : ℕ) (rows : List Row) : Type 0 where
+record GivesRows (v : ℕ → Signal) (b : ℕ) (rows : List Row) : Type 0 where
   signals : Obeys v b rows
 
 -- ---- rows that several kinds have
 
 module _ {v : ℕ → Signal} {b : ℕ} {rest : List Row} {G : Type 0} where
-  until-done : {done K : ℕ} → Gives v b (untilDone done K b λ go. rest) → (UntilDone (v done) (v K) (v (b ⊹ 2)) → Gives v (b ⊹ 3) rest → G) → G
+  until-done : {done K : ℕ} → GivesRows v b (untilDone done K b λ go. rest) → (UntilDone (v done) (v K) (v (b ⊹ 2)) → GivesRows v (b ⊹ 3) rest → G) → G
   until-done o k =
       let (was, (unless, (goes, o′))) = o .signals in
       k (record { goes = λ p h. goes p h ∙ rw (unless p h, was p h) }) (record { signals = o′ })
 
-  hand-over : {fired K : ℕ} → Gives v b (handOver fired K b λ start go. rest)
-      → (HandsOver (v fired) (v K) (v (b ⊹ 1)) (v (b ⊹ 3)) → Gives v (b ⊹ 4) rest → G) → G
+  hand-over : {fired K : ℕ} → GivesRows v b (handOver fired K b λ start go. rest)
+      → (HandsOver (v fired) (v K) (v (b ⊹ 1)) (v (b ⊹ 3)) → GivesRows v (b ⊹ 4) rest → G) → G
   hand-over o k =
       let (was, (starts, (unless, (goes, o′)))) = o .signals in
       k (record { starts = λ p h. starts p h ∙ rw (was p h); goes = λ p h. goes p h ∙ rw (unless p h, was p h) }) (record { signals = o′ })
 
-  join-on : {ended S K : ℕ} → Gives v b (joinOn ended S K b λ start. rest) → (JoinsOn (v ended) (v S) (v K) (v (b ⊹ 2)) → Gives v (b ⊹ 3) rest → G) → G
+  join-on : {ended S K : ℕ} → GivesRows v b (joinOn ended S K b λ start. rest) → (JoinsOn (v ended) (v S) (v K) (v (b ⊹ 2)) → GivesRows v (b ⊹ 3) rest → G) → G
   join-on o k =
       let (was, (again, (starts, o′))) = o .signals in
       k (record { starts = λ p h. starts p h ∙ rw (again p h, was p h) }) (record { signals = o′ })
 
-  remembers : {now go : ℕ} → Gives v b (remember now go b λ kept. rest) → (Remembers (v now) (v go) (v (b ⊹ 2)) → Gives v (b ⊹ 3) rest → G) → G
+  remembers : {now go : ℕ} → GivesRows v b (remember now go b λ kept. rest) → (Remembers (v now) (v go) (v (b ⊹ 2)) → GivesRows v (b ⊹ 3) rest → G) → G
   remembers o k =
       let (was, (again, (stays, o′))) = o .signals in
       k (record { stays = λ p h. stays p h ∙ rw (again p h, was p h) }) (record { signals = o′ })
@@ -47,40 +47,40 @@ module _ {v : ℕ → Signal} {b : ℕ} {rest : List Row} {G : Type 0} where
 -- ---- literals
 
 -- three values tell what the decision of a literal of party q says, where s is true: one blames q, one the other party
-record Tells (q : Party) (d : Decision) (s sat own others : Bool) : Type 0 where
-  met-is : sat ≡ (s && isMet (sayingOf d))
-  own-is : own ≡ (s && isBroken q (sayingOf d))
-  others-is : others ≡ (s && isBroken (other q) (sayingOf d))
+record TellsOf (q : Party) (d : Decision) (s sat own others : Bool) : Type 0 where
+  met-is : sat ≡ (s && isMet (reportOf d))
+  own-is : own ≡ (s && isBroken q (reportOf d))
+  others-is : others ≡ (s && isBroken (other q) (reportOf d))
 
 -- it says nothing while S is false, and otherwise one of three things
-untold : {q : Party} {d : Decision} → Tells q d false false false false
+untold : {q : Party} {d : Decision} → TellsOf q d false false false false
 untold = record { met-is = refl; own-is = refl; others-is = refl }
 
-met : {q : Party} {k : ℕ} → Tells q (satisfied k) true true false false
+met : {q : Party} {k : ℕ} → TellsOf q (satisfied k) true true false false
 met = record { met-is = refl; own-is = refl; others-is = refl }
 
-blames-own : (q : Party) {k : ℕ} → Tells q (violated k (only q)) true false true false
+blames-own : (q : Party) {k : ℕ} → TellsOf q (violated k (only q)) true false true false
 blames-own party1 = record { met-is = refl; own-is = refl; others-is = refl }
 blames-own party2 = record { met-is = refl; own-is = refl; others-is = refl }
 
-blames-other : (q : Party) {k : ℕ} → Tells q (violated k (only (other q))) true false false true
+blames-other : (q : Party) {k : ℕ} → TellsOf q (violated k (only (other q))) true false false true
 blames-other party1 = record { met-is = refl; own-is = refl; others-is = refl }
 blames-other party2 = record { met-is = refl; own-is = refl; others-is = refl }
 
 -- what the rows of each kind compute from S and the two attempts
-duty-tells : (q : Party) (s t u : Bool) → Tells q (literalDecision duty q t u) s (s && t && u) (s && not t) (s && t && not u)
+duty-tells : (q : Party) (s t u : Bool) → TellsOf q (literalDecision duty q t u) s (s && t && u) (s && not t) (s && t && not u)
 duty-tells q false t u = untold
 duty-tells q true false u = blames-own q
 duty-tells q true true false = blames-other q
 duty-tells q true true true = met
 
-ban-tells : (q : Party) (s t u : Bool) → Tells q (literalDecision ban q t u) s (s && not (s && t && u)) (s && t && u) false
+ban-tells : (q : Party) (s t u : Bool) → TellsOf q (literalDecision ban q t u) s (s && not (s && t && u)) (s && t && u) false
 ban-tells q false t u = untold
 ban-tells q true false u = met
 ban-tells q true true false = met
 ban-tells q true true true = blames-own q
 
-power-tells : (q : Party) (s t u : Bool) → Tells q (literalDecision power q t u) s (s && not (s && t && not u)) false (s && t && not u)
+power-tells : (q : Party) (s t u : Bool) → TellsOf q (literalDecision power q t u) s (s && not (s && t && not u)) false (s && t && not u)
 power-tells q false t u = untold
 power-tells q true false u = met
 power-tells q true true false = blames-other q
@@ -88,7 +88,7 @@ power-tells q true true true = met
 
 wire-literal : (v : ℕ → Signal) (l : Literal) (q : Party) (a S K sat own others : ℕ)
     → ((p : Period) (h : List Period)
-    → Tells q (literalDecision l q (Periods.tries p q a) (Periods.tries p (other q) a)) (v S p h) (v sat p h) (v own p h) (v others p h))
+    → TellsOf q (literalDecision l q (Periods.tries p q a) (Periods.tries p (other q) a)) (v S p h) (v sat p h) (v own p h) (v others p h))
     → let out = blaming q sat own others in WiredClause (literal l q a) (v S) (v K) (v (out .sat)) (v (out .one)) (v (out .two))
 wire-literal v l party1 a S K sat own others t = wired-literal λ p h. (t p h .met-is, t p h .own-is, t p h .others-is)
 wire-literal v l party2 a S K sat own others t = wired-literal λ p h. (t p h .met-is, t p h .others-is, t p h .own-is)
@@ -108,8 +108,8 @@ module _ (v : ℕ → Signal) (never-is : v neverRow ≐ λ p h. false) where
       go true = refl
       go false = never-is p h
 
-  wire-expression : (e : Expression) {b S K : ℕ} {rest : List Row} {G : Type 0} → Gives v b (expressionRows e b S K rest)
-      → (WiredExpression e (v S) (v K) (v (endRow e b S)) (v (liveRow e b)) → Gives v (afterExpression e b) rest → G) → G
+  wire-expression : (e : Expression) {b S K : ℕ} {rest : List Row} {G : Type 0} → GivesRows v b (expressionRows e b S K rest)
+      → (WiredExpression e (v S) (v K) (v (endRow e b S)) (v (liveRow e b)) → GivesRows v (afterExpression e b) rest → G) → G
   unfolding expressionRows afterExpression endRow liveRow holds Periods.succeeds
   wire-expression (atom any) {S = S} o k = k (wired-atom (λ p h. sym (and-true (v S p h))) never-is) o
   wire-expression (atom (tries q a)) o k =
@@ -145,8 +145,8 @@ module _ (v : ℕ → Signal) (never-is : v neverRow ≐ λ p h. false) where
 
   -- ---- clauses
 
-  wire-clause : (c : Clause) {b S K : ℕ} {rest : List Row} {G : Type 0} → Gives v b (clauseRows c b S K rest)
-      → (WiredClause c (v S) (v K) (v (outputsOf c b .sat)) (v (outputsOf c b .one)) (v (outputsOf c b .two)) → Gives v (afterClause c b) rest → G)
+  wire-clause : (c : Clause) {b S K : ℕ} {rest : List Row} {G : Type 0} → GivesRows v b (clauseRows c b S K rest)
+      → (WiredClause c (v S) (v K) (v (outputsOf c b .sat)) (v (outputsOf c b .one)) (v (outputsOf c b .two)) → GivesRows v (afterClause c b) rest → G)
       → G
   unfolding clauseRows afterClause outputsOf
   wire-clause (literal duty q a) o k =

@@ -2,7 +2,8 @@
 -- The rows of a tree are a block from row b on. It is told by two rows when it reads: S is true in a period in which it begins to read,
 -- K in a period in which it goes on from the period before. S and K of a clause, and of an expression under `when` or `until`, are never both
 -- true. A block gives out rows: of a clause, whether it is satisfied in this very period, or violated with party 1, with party 2 to blame; of
--- an expression, whether a list of its set ends in this period, and whether one that has begun may still go on.
+-- an expression, whether a list of its set ends in this period, and whether one that has begun may still go on. (The image's own S is the row
+-- `sat` of the whole clause.)
 use Prim.Native.Nat.{ℕ}
 use mathlib.Core.Bool.{cond}
 use mathlib.Core.List.{List, _∷_}
@@ -11,17 +12,7 @@ use Rattle.runner.specs.Rows.{Row, attempt, negation, conjunction, disjunction,
 use Rattle.contract.specs.Table
 use Rattle.contract.specs.Expressions.{Atom, any, tries, idle, succeeds, fails, Expression, atom, seq, or, star, holdsEmpty}
 use Rattle.contract.specs.Meaning.{Literal, duty, ban, power, Clause, literal, both, then, repair, repeat, when, until}
-use Rattle.compiler.specs.Widths.{_⊹_, inside, afterExpression, afterClause}
-
--- the first rows of every image: one that is never true, one true in period 1 only, and one true in all the others
-abbrev pub neverRow : ℕ
-neverRow = 0
-
-abbrev pub firstRow : ℕ
-firstRow = 1
-
-abbrev pub laterRow : ℕ
-laterRow = 2
+use Rattle.compiler.specs.Widths.{neverRow, _⊹_, inside, afterExpression, afterClause}
 
 -- ---- rows that several kinds have, from row b on; what follows them is told where the rows stand that it needs
 
@@ -35,8 +26,11 @@ abbrev pub handOver : (fired K b : ℕ) → (rest : (start go : ℕ) → List Ro
 handOver fired K b rest = previous fired ∷ conjunction K b ∷ negation b ∷ conjunction K (b ⊹ 2) ∷ rest (b ⊹ 1) (b ⊹ 3)
 
 -- Where a list has ended another may follow: row `start` is true where S is, and where K is and `ended` was true in the period before.
+abbrev pub joinRow : ℕ → ℕ
+joinRow b = b ⊹ 2
+
 abbrev pub joinOn : (ended S K b : ℕ) → (rest : (start : ℕ) → List Row) → List Row
-joinOn ended S K b rest = previous ended ∷ conjunction K b ∷ disjunction (b ⊹ 1) S ∷ rest (b ⊹ 2)
+joinOn ended S K b rest = previous ended ∷ conjunction K b ∷ disjunction (b ⊹ 1) S ∷ rest (joinRow b)
 
 -- What was true stays true: row `kept` is true where `now` is, and where `go` is and `kept` was in the period before.
 abbrev pub remember : (now go b : ℕ) → (rest : (kept : ℕ) → List Row) → List Row
@@ -53,7 +47,7 @@ endRow (atom (succeeds a)) b S = b ⊹ 3
 endRow (atom (fails a)) b S = b ⊹ 4
 endRow (seq l r) b S = afterExpression l (afterExpression r (inside Table.seq b))
 endRow (or l r) b S = afterExpression l (afterExpression r (inside Table.or b))
-endRow (star e) b S = endRow e (inside Table.star b) (b ⊹ 2)
+endRow (star e) b S = endRow e (inside Table.star b) (joinRow b)
 
 -- the row that tells that a list which has begun may still go on
 unfoldable pub liveRow : Expression → (b : ℕ) → ℕ
@@ -74,7 +68,11 @@ atomRows (fails a) b S rest =
 abbrev pub ifEmpty : Expression → ℕ → ℕ
 ifEmpty e x = cond (holdsEmpty e) x neverRow
 
--- the block of an expression
+-- The block of an expression. `right`, `left` and `part` are the first rows of the operands' blocks, n is the first row after them; the right
+-- operand's rows stand first.
+-- seq: a list of r starts where one of l has ended, and at once where l holds the empty list. The whole may go on in l, in r, or from where l has
+-- ended, since every expression holds a list that is not empty.
+-- star: a list of e starts with the whole and wherever one has ended.
 unfoldable pub expressionRows : Expression → (b S K : ℕ) → List Row → List Row
 expressionRows (atom x) b S K rest = atomRows x b S rest
 expressionRows (seq l r) b S K rest =
@@ -111,7 +109,7 @@ pub record Outputs : Type 0 where
 abbrev outputs : (sat one two : ℕ) → Outputs
 outputs s x y = record { sat = s; one = x; two = y }
 
--- the rows of a literal of party p: one to blame p by, one to blame the other by
+-- a literal's outputs: its own party p to blame, or the other
 abbrev pub blaming : Party → (sat own others : ℕ) → Outputs
 blaming party1 s x y = outputs s x y
 blaming party2 s x y = outputs s y x
@@ -156,7 +154,13 @@ literalRows power p a b S rest =
     attempt p a ∷ attempt (other p) a ∷ conjunction S b ∷ negation (b ⊹ 1) ∷ conjunction (b ⊹ 2) (b ⊹ 3)
     ∷ negation (b ⊹ 4) ∷ conjunction S (b ⊹ 5) ∷ rest
 
--- the block of a clause
+-- The block of a clause.
+-- both: the halves read until the whole has decided; a satisfaction is remembered, a violation is the whole's at once.
+-- then, repair: the right starts in the period after the left was satisfied, was violated; the left says nothing more.
+-- repeat: the clause starts with the whole, and in the period after each of its satisfactions.
+-- when: the expression reads until it is accepted, and then the clause starts. `reading`: it was neither accepted nor rejected before this period.
+-- `begun`: what has been read is in the set, or begins a list of it. `rejected`: now.
+-- until: clause and expression read until the whole has decided. `accepted`: now, and the clause is not violated now.
 unfoldable pub clauseRows : Clause → (b S K : ℕ) → List Row → List Row
 clauseRows (literal l p a) b S K rest = literalRows l p a b S rest
 clauseRows (both l r) b S K rest =

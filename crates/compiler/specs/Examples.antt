@@ -36,10 +36,11 @@ lines c w = linesFrom (image c) (stateOf (replicate (headBytes + length (image c
 pub record KindVectors : Type 0 where
   -- both violated in one period: the blames are united
   pub powers-and-duties : lines (both (power party1 a) (duty party1 b)) (one-period just-a nothing ∷ []) ≡ (broken, 3, 1) ∷ []
-  -- accepted in period 1 because party 1 is idle; party 1 is barred from b in period 2
-  pub accepted-idle :
-      lines (when (or (atom (idle party1 b)) (atom (succeeds a))) (ban party1 b)) (one-period just-a nothing ∷ one-period just-b just-b ∷ [])
-      ≡ («open», 0, 0) ∷ (broken, 1, 2) ∷ []
+  -- accepted in period 2, by the second of the two that may follow; party 1 is barred from b in period 3
+  pub accepted-second :
+      lines (when (seq (atom (idle party1 b)) (or (atom (tries party2 b)) (atom (succeeds a)))) (ban party1 b))
+      (one-period just-a nothing ∷ one-period just-a just-a ∷ one-period just-b just-b ∷ [])
+      ≡ («open», 0, 0) ∷ («open», 0, 0) ∷ (broken, 1, 3) ∷ []
   -- a succeeds, so the expression is rejected
   pub rejected-fails : lines (when (atom (fails a)) (duty party2 a)) (one-period just-a just-a ∷ []) ≡ (met, 0, 1) ∷ []
   -- accepted in the first odd period in which party 1 tries a

@@ -1,5 +1,6 @@
--- The image of a clause, and the image of a contract: it follows from the contract's bytes alone. Document 01, "Image and row machine".
-use Prim.Native.Nat.{ℕ, _+_, _*_, _≤_}
+-- The image of a clause, and the image of a contract: it follows from the contract's bytes alone. When an image is right for a contract.
+-- Document 01, "Image and row machine".
+use Prim.Native.Nat.{ℕ, _+_, _≤_}
 use mathlib.Core.List.{List, [], _∷_}
 use mathlib.Core.Path.{_≡_}
 use lib.ListN.{replicate}
@@ -14,8 +15,8 @@ use Rattle.runner.specs.Refusals.{imageTest}
 use Rattle.contract.specs.Meaning.{Clause, Decision, undecided, satisfied, violated, meaning}
 use Rattle.contract.specs.Verdicts.{decisionPeriod, blame}
 use Rattle.contract.specs.Reader.{Result, refused, taken, read, recordCount}
-use Rattle.compiler.specs.Widths.{fixedRows, clauseSize}
-use Rattle.compiler.specs.Blocks.{firstRow, laterRow, outputsOf, clauseRows}
+use Rattle.compiler.specs.Widths.{clauseSize, firstRow, laterRow, fixedRows, mostRows, allowedRows}
+use Rattle.compiler.specs.Blocks.{outputsOf, clauseRows}
 
 -- the clause's block after the fixed rows: it begins to read in period 1 and goes on in every later one
 unfoldable pub rowsFor : Clause → List Row
@@ -34,7 +35,7 @@ imageOfResult (taken c) = imageBytes (image c)
 unfoldable pub imageFor : (contract : List ℕ) → List ℕ
 imageFor contract = imageOfResult (read contract)
 
--- ---- what is right of an image
+-- ---- when an image is right
 
 -- a state shows a decision: "outcome (0 undecided, 1 satisfied, 2 violated); blame; .. decision period (.. 0 for none)"
 abbrev pub outcome : Decision → ℕ
@@ -47,13 +48,13 @@ pub record Shows (d : Decision) (s : State) : Type 0 where
   pub blame-is : s .blame ≡ blame d
   pub decision-is : s .decision ≡ decisionPeriod d
 
--- The image is right for a contract that means this clause: no test refuses it; its rows are as many as the widths of the contract's records
--- and the fixed rows add up to, and within the bounds; and the row machine on it, begun with a state of zeros, shows after every list of
--- periods what the clause means on it.
+-- The image is right for a contract that means this clause: refusal 9 does not apply; its rows are as many as the widths of the contract's records
+-- and the fixed rows add up to, at most 14 × records + 3 and so within the 32 × records + 64 that refusal 8 makes room for; and the row machine
+-- on it, begun with a state of zeros, shows after every list of periods what the clause means on it.
 pub record RightFor (contract : List ℕ) (clause : Clause) (image : List ℕ) : Type 0 where
   pub good : imageTest image ≡ Passed
   pub rows-are : rowCount image ≡ clauseSize clause + fixedRows
-  pub rows-most : rowCount image ≤ 14 * recordCount contract + 3
-  pub rows-allowed : rowCount image ≤ 32 * recordCount contract + 64
+  pub rows-most : rowCount image ≤ mostRows (recordCount contract)
+  pub rows-allowed : rowCount image ≤ allowedRows (recordCount contract)
   pub shows : (w : List Period)
       → Shows (meaning clause w) (afterPeriods (imageOf image) (stateOf (replicate (headBytes + rowCount image) 0)) w)

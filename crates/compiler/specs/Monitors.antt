@@ -1,7 +1,8 @@
--- What it is that an image monitors a contract: demand 3, one claim about every list of step calls. Document 01, "Calls", from "The list in
--- demand 3". The calls are `begin` and `step` as the runner's own contracts have them.
+-- What it means for an image to monitor a contract: demand 3, one claim about every list of step calls. Document 01, "Calls", from "The list
+-- in demand 3". The calls are `begin` and `step` as the runner's own contracts have them. What document 01 says there of compile is for compile's
+-- own contract.
 use Prim.Native.Nat.{ℕ, _+_, _≤_, _<_}
-use mathlib.Core.Bool.{Bool, _&&_, cond}
+use mathlib.Core.Bool.{Bool, true, false, _&&_, cond}
 use mathlib.Core.List.{List, [], _∷_, _++_}
 use mathlib.Core.Path.{_≡_}
 use lib.Dec.{eqb, ltb, leb}
@@ -16,12 +17,13 @@ use Rattle.runner.specs.Images.{rowCount}
 use Rattle.runner.specs.States.{stateOf}
 use Rattle.runner.specs.Refusals.{numberOf, firstOf, require, recordTest}
 use Rattle.runner.specs.Calls.{beginReply, beginReplyBytes, stepReply, stepReplyBytes, refusal, unwritten, written, begin, step}
-use Rattle.runner.specs.StepCalls.{StepCall}
+use Rattle.runner.specs.StepCalls.{StepCall, stateAfterCall}
 use Rattle.contract.specs.Meaning.{Clause, meaning}
 use Rattle.contract.specs.Verdicts.{decisionPeriod, blame, verdict}
 use Rattle.contract.specs.Reader.{taken, read}
 
--- "refused exactly when its own record meets 11 or, that record being good, 4,294,967,295 steps before it were accepted (12)": n were
+-- "refused exactly when its own record meets 11 or, that record being good, 4,294,967,295 steps before it were accepted (12)", n being the
+-- number of those accepted before it
 unfoldable pub callTest : (n : ℕ) (period : List ℕ) → Test
 callTest n period = firstOf (recordTest period) (require (ltb n maxPeriods) (FullCount 0))
 
@@ -39,33 +41,32 @@ meantReply clause w =
     let d = meaning clause w in
     stepReply Passed (verdictNumber (verdict d (length w))) (blame d) (decisionPeriod d)
 
--- What a call gives that finds this state after the periods w.
+-- what a call gives when it finds this state, after the periods w
 pub record AnswersCall (clause : Clause) (image state : List ℕ) (w : List Period) (c : StepCall) : Type 0 where
-  -- periods taken is the number of the periods so far
-  pub counted : stateOf state .periods ≡ length w
   -- without room it changes nothing
   pub no-room : length (c .reply) < stepReplyBytes → step image state (c .period) (c .reply) ≡ unwritten state (c .reply)
   -- refused, it leaves the state as it was and replies with the refusal's number and place
-  pub refused : stepReplyBytes ≤ length (c .reply) → ¬ (callTest (length w) (c .period) ≡ Passed)
+  pub refused : stepReplyBytes ≤ length (c .reply) → accepts (length w) c ≡ false
       → step image state (c .period) (c .reply) ≡ written state (c .reply) (refusal (callTest (length w) (c .period)))
   -- accepted, it replies what the clause means on the periods so far, its own included
-  pub accepted : stepReplyBytes ≤ length (c .reply) → callTest (length w) (c .period) ≡ Passed
+  pub accepted : accepts (length w) c ≡ true
       → (step image state (c .period) (c .reply) .result ≡ 1)
       × (step image state (c .period) (c .reply) .reply ≡ sets (c .reply) 0 (meantReply clause (periodsAfter w c)))
 
--- Every call of a list is answered so, where the first finds this state after the periods w, and each later one what the last one left.
+-- Every call of a list is answered so, where the first finds this state after the periods w, and each later one what the last one left; and
+-- all along periods taken is the number of the periods so far.
 unfoldable pub AnswersCalls : Clause → (image state : List ℕ) → List Period → List StepCall → Type 0
 AnswersCalls clause image state w [] = stateOf state .periods ≡ length w
 AnswersCalls clause image state w (c ∷ cs) =
-    AnswersCall clause image state w c
-    × AnswersCalls clause image (step image state (c .period) (c .reply) .state) (periodsAfter w c) cs
+    (stateOf state .periods ≡ length w)
+    × AnswersCall clause image state w c
+    × AnswersCalls clause image (stateAfterCall image state c) (periodsAfter w c) cs
 
--- The image monitors the contract: the contract is taken; begin accepts the image with a state of 10 + rows bytes, whatever these held; and
--- from the state that begin leaves, every list of step calls is answered by what the contract's clause means.
+-- The image monitors the contract: the contract is taken; begin, given room for its reply, accepts the image with a state of 10 + rows bytes,
+-- whatever these held; and from the state that it leaves every list of step calls is answered by what the contract's clause means.
 pub record Monitors (contract image : List ℕ) : Type 0 where
   pub clause : Clause
   pub means : read contract ≡ taken clause
-  pub begins : (state reply : List ℕ) → length state ≡ headBytes + rowCount image → beginReplyBytes ≤ length reply
-      → begin image state reply ≡ written (replicate (length state) 0) reply (beginReply Passed)
   pub answers : (state reply : List ℕ) → length state ≡ headBytes + rowCount image → beginReplyBytes ≤ length reply
-      → (calls : List StepCall) → AnswersCalls clause image (begin image state reply .state) [] calls
+      → (begin image state reply ≡ written (replicate (length state) 0) reply (beginReply Passed))
+      × ((calls : List StepCall) → AnswersCalls clause image (begin image state reply .state) [] calls)

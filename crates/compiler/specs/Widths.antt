@@ -1,6 +1,6 @@
--- How many rows a contract's image has. Which rows they are is free: "they follow from the contract's bytes alone, form a good image
--- and meet demand 3" (Document 01, "Contracts and examples").
-use Prim.Native.Nat.{ℕ, zero, suc, _+_}
+-- How many rows each record has, and where the rows of a tree start and end. Which rows an image has is free: "they follow from the
+-- contract's bytes alone, form a good image and meet demand 3" (Document 01, "Contracts and examples").
+use Prim.Native.Nat.{ℕ, zero, suc, _+_, _*_}
 use Rattle.contract.specs.Table.{Kind, duty, ban, power, both, then, repair, repeat, when, until, any, tries, idle, succeeds, fails, seq, or, star}
 use Rattle.contract.specs.Expressions as E
 use Rattle.contract.specs.Expressions.{Atom, Expression, atom}
@@ -11,10 +11,10 @@ use Rattle.contract.specs.Spelling.{literalKind}
 -- A record's own rows: so many stand before its operands' rows, and so many after them.
 pub record Width : Type 0 where
   pub before : ℕ
-  pub behind : ℕ
+  pub after : ℕ
 
 abbrev rows : ℕ → ℕ → Width
-rows m n = record { before = m; behind = n }
+rows m n = record { before = m; after = n }
 
 abbrev pub width : Kind → Width
 width duty = rows 8 0
@@ -37,7 +37,7 @@ width star = rows 3 1
 
 -- all of them
 abbrev pub size : Kind → ℕ
-size k = width k .before + width k .behind
+size k = width k .before + width k .after
 
 -- an atom's kind
 abbrev pub atomKind : Atom → Kind
@@ -63,13 +63,30 @@ clauseSize (M.repeat c) = clauseSize c + size repeat
 clauseSize (M.when e c) = expressionSize e + clauseSize c + size when
 clauseSize (M.until c e) = clauseSize c + expressionSize e + size until
 
--- the rows of every image that no record has: `never`, `first` and `later` of Blocks
+-- the first rows of every image, which no record has: one that is never true, one true in period 1 only, and one true in all the others
+abbrev pub neverRow : ℕ
+neverRow = 0
+
+abbrev pub firstRow : ℕ
+firstRow = 1
+
+abbrev pub laterRow : ℕ
+laterRow = 2
+
 abbrev pub fixedRows : ℕ
 fixedRows = 3
 
+-- the most rows of a contract of n records, by the widths, and the most that an image buffer has room for: "8 × (32 × records + 65) bytes" with
+-- the end record's
+abbrev pub mostRows : ℕ → ℕ
+mostRows n = 14 * n + fixedRows
+
+abbrev pub allowedRows : ℕ → ℕ
+allowedRows n = 32 * n + 64
+
 -- ---- row numbers
 
--- the row k rows on from row b: b + k, as a number that computes
+-- the row k rows on from row b: b + k by recursion on k, so that row numbers agree by computation
 infixl 20 _⊹_
 abbrev pub _⊹_ : ℕ → ℕ → ℕ
 b ⊹ zero = b
@@ -81,7 +98,7 @@ inside k b = b ⊹ width k .before
 
 -- the first row after a record's rows and those of its operands, where m gives the row after the operands' rows
 abbrev pub past : Kind → (ℕ → ℕ) → ℕ → ℕ
-past k m b = m (inside k b) ⊹ width k .behind
+past k m b = m (inside k b) ⊹ width k .after
 
 -- The first row after the rows of a tree that start at row b. The right operand's rows stand before the left operand's.
 unfoldable pub afterExpression : Expression → ℕ → ℕ

@@ -1,20 +1,20 @@
 -- How a period is computed in the row values' own bytes, and what is read there.
 -- Assumes nothing.
 use Prim.Native.Nat.{ℕ, zero, suc, _+_, _*_, _/_, _%_, _≤_, _<_}
-use native.Mathlib.Numerals.{add-one}
 use native.Mathlib.Omega.{arith}
 use mathlib.Core.Bool.{Bool, true, false, not, _&&_, _||_, cond, false≢true}
 use mathlib.Core.List.{List, [], _∷_, _++_, map}
 use mathlib.Core.Path.{_≡_, refl, sym, ap, _∙_}
 use mir.Val.{boolByte}
 use lib.Bits.{bitAnd, bitOr}
-use lib.ListN.{length, getD, set, length-append, List·getD-map}
+use lib.ListN.{length, getD, set, List·getD-map}
 use Rattle.records.specs.Periods.{Period}
 use Rattle.runner.specs.Rows.{Row, never, initial, attempt, negation, conjunction, disjunction, previous}
 use Rattle.runner.specs.States.{allAtMost}
 use Rattle.runner.specs.Machine.{byteOf, isTrue, value, newValues, outcomeOf, blameOf}
 use Rattle.runner.specs.Computing.{packed, oldIn, newIn}
 use Rattle.runner.proofs.States.{allAtMost-at, zero-one}
+use Rattle.runner.proofs.Machine.{byteOf-le, isTrue-byteOf, length-newValues}
 
 -- ---- values as bytes
 
@@ -45,20 +45,12 @@ pub byteOf-not : (a : Bool) → byteOf (not a) + byteOf a ≡ 1
 byteOf-not true = refl
 byteOf-not false = refl
 
-pub byteOf-le : (a : Bool) → byteOf a ≤ 1
-byteOf-le true = omega arith
-byteOf-le false = omega arith
-
 pub bool-small : (a : Bool) → boolByte a ≤ 1
 bool-small true = omega arith
 bool-small false = omega arith
 
 pub second-small : {r : ℕ} (a : Bool) → r ≡ 2 * byteOf a → r ≤ 2
 second-small a e = omega (arith, byteOf-le a)
-
-pub isTrue-byteOf : (a : Bool) → isTrue (byteOf a) ≡ a
-isTrue-byteOf true = refl
-isTrue-byteOf false = refl
 
 old-of : (o v : Bool) → isTrue ((byteOf o + 2 * byteOf v) % 2) ≡ o
 old-of true true = refl
@@ -140,11 +132,6 @@ value-by first p old new new′ h (disjunction x y) = rw (h x, h y)
 value-by first p old new new′ h (previous x) = refl
 
 -- ---- the rows computed in order
-
-pub length-newValues : (first : Bool) (p : Period) (old : List Bool) (rows : List Row) (n : ℕ) → length (newValues first p old rows n) ≡ n
-unfolding newValues
-length-newValues first p old rows zero = refl
-length-newValues first p old rows (suc n) = rw (length-append, length-newValues first p old rows n) (add-one n)
 
 -- the bytes of row values that are 0 or 1
 pub bytes-of : (vs : List ℕ) → allAtMost 1 vs ≡ true → map byteOf (map isTrue vs) ≡ vs

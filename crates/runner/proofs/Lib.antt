@@ -4,8 +4,8 @@ pub mod Rows
 pub mod Images
 pub mod States
 pub mod RowKinds
-pub mod Computing
 pub mod Machine
+pub mod Computing
 pub mod Calls
 pub mod Steps
 pub mod StepCalls

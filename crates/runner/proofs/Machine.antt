@@ -1,20 +1,36 @@
 -- The row machine keeps states sound, counts periods, and never changes a decision.
 -- Assumes nothing.
-use Prim.Native.Nat.{ℕ, _+_, _-_, _≤_}
+use Prim.Native.Nat.{ℕ, zero, suc, _+_, _≤_}
 use native.Mathlib.Nat.{add-zero}
+use native.Mathlib.Numerals.{add-one}
 use native.Mathlib.Omega.{arith}
 use mathlib.Core.Bool.{Bool, true, false, _||_, cond}
 use mathlib.Core.List.{List, [], _∷_, _++_, map}
 use mathlib.Core.Path.{_≡_, refl, sym, _∙_}
 use borrow.Author.Tests.{eq-eqb, ne-eqb}
 use lib.Dec.{eqb}
-use lib.ListN.{length, getD, length-map, List·getD-map}
+use lib.ListN.{length, getD, length-append, length-map, List·getD-map}
 use Rattle.records.specs.Periods.{Period}
+use Rattle.runner.specs.Rows.{Row}
 use Rattle.runner.specs.Images.{Image}
 use Rattle.runner.specs.States.{State}
-use Rattle.runner.specs.Machine.{byteOf, isTrue, valuesAfter, outcomeOf, blameOf, computed, counted, afterPeriod, afterPeriods}
+use Rattle.runner.specs.Machine.{byteOf, isTrue, newValues, valuesAfter, outcomeOf, blameOf, computed, counted, afterPeriod, afterPeriods}
 use Rattle.runner.proofs.States.{SoundHead, Sound}
-use Rattle.runner.proofs.Computing.{byteOf-le, length-newValues}
+
+-- ---- row values
+
+pub byteOf-le : (a : Bool) → byteOf a ≤ 1
+byteOf-le true = omega arith
+byteOf-le false = omega arith
+
+pub isTrue-byteOf : (a : Bool) → isTrue (byteOf a) ≡ a
+isTrue-byteOf true = refl
+isTrue-byteOf false = refl
+
+pub length-newValues : (first : Bool) (p : Period) (old : List Bool) (rows : List Row) (n : ℕ) → length (newValues first p old rows n) ≡ n
+unfolding newValues
+length-newValues first p old rows zero = refl
+length-newValues first p old rows (suc n) = rw (length-append, length-newValues first p old rows n) (add-one n)
 
 -- ---- a period on an undecided and on a decided state
 

@@ -14,8 +14,10 @@ use borrow.Author.Tests.{ltb-true, leb-true, eqb-true, eqb-false, lt-ltb, le-leb
 use Rattle.records.specs.Fields.{AllBytes, bytes, field}
 use Rattle.records.proofs.Fields.{length-bytes, bytes-field}
 use Rattle.records.proofs.Written.{field-spelled}
-use Rattle.runner.specs.Limits.{headBytes}
+use Rattle.runner.specs.declared.Test.the-variants.{Passed}
+use Rattle.runner.specs.Limits.{headBytes, maxPeriods}
 use Rattle.runner.specs.States.{State, stateBytes, stateOf, allAtMost, allZero, sound}
+use Rattle.runner.specs.Refusals.{stateTest}
 use Rattle.runner.specs.Computing.{soundHead}
 
 -- ---- values that are all at most m
@@ -280,3 +282,17 @@ stateOf-stateBytes s h k =
       mod-eq-of-lt k,
       v,
     )
+
+-- ---- a sound state's bytes
+
+-- they are read back, and pass the test
+small-counts : (n : ℕ) (s : State) → Sound n s → s .periods ≤ maxPeriods → (s .periods < 256 ^ 4) × (s .decision < 256 ^ 4)
+small-counts n s h k = (omega arith, omega arith)
+
+pub read-back : (n : ℕ) (s : State) → Sound n s → s .periods ≤ maxPeriods → stateOf (stateBytes s) ≡ s
+read-back n s h k = let b = small-counts n s h k in stateOf-stateBytes s (b .0) (b .1)
+
+pub sound-passes : (n : ℕ) (s : State) → Sound n s → s .periods ≤ maxPeriods → stateTest n (stateBytes s) ≡ Passed
+unfolding stateTest
+sound-passes n s h k =
+    rw (eq-eqb (length (stateBytes s)) (headBytes + n) (length-stateBytes s ∙ rw (h .long)), read-back n s h k, facts-sound n s h)

@@ -1,7 +1,7 @@
 -- What step calls do to a state, one after the other: a refused call leaves it as it was, an accepted one counts a period and
 -- leaves a sound state of the same length, and a decision never changes. Begin's state is sound.
 -- Assumes nothing.
-use Prim.Native.Nat.{ℕ, zero, suc, _+_, _-_, _≤_}
+use Prim.Native.Nat.{ℕ, zero, suc, _+_, _≤_}
 use native.Mathlib.Nat.{add-zero, add-assoc}
 use native.Mathlib.Omega.{arith}
 use mathlib.Core.Bool.{true, false, and-eq-true-iff}
@@ -20,14 +20,14 @@ use Rattle.runner.specs.Images.{rowCount, imageOf}
 use Rattle.runner.specs.States.{State, stateOf, stateBytes}
 use Rattle.runner.specs.Machine.{afterPeriod, afterPeriods}
 use Rattle.runner.specs.Refusals.{numberOf, imageTest, stateLengthTest, stateTest, beginTest, readyTest, stepTest}
-use Rattle.runner.specs.Calls.{beginReplyBytes, stepReplyBytes, answer, After, written, call, begin, step}
+use Rattle.runner.specs.Calls.{beginReply, beginReplyBytes, stepReplyBytes, answer, After, written, begin, step}
 use Rattle.runner.specs.StepCalls.{StepCall, accepted, stateAfterCall, stateAfter, acceptedCount}
 use Rattle.runner.specs.Computing.{Ready}
 use Rattle.runner.proofs.Refusals.{true-or-false, first-passed, passed-first, require-passed, state-refused, ready-passed, state-passed}
-use Rattle.runner.proofs.States.{Sound}
+use Rattle.runner.proofs.States.{Sound, read-back, sound-passes}
 use Rattle.runner.proofs.Machine.{SameDecision, stays-decided, periods-after}
 use Rattle.runner.proofs.Calls.{number-passed, call-no-room, call-passed, call-refused}
-use Rattle.runner.proofs.Steps.{sound-passes, step-ready, later-ready, step-read}
+use Rattle.runner.proofs.Steps.{step-ready, later-ready, step-read}
 
 -- ---- one call
 
@@ -70,7 +70,7 @@ module _ (image state : List ℕ) (c : StepCall) where
   unfolding stateAfterCall
   taken-step e = ap (λ (x : After). x .state) (accepted-step e)
 
-  taken-read : accepted image state c ≡ true → stateOf (stateAfterCall image state c) ≡ afterPeriod (imageOf image) (periodAt (c .period) 0) (stateOf state)
+  pub taken-read : accepted image state c ≡ true → stateOf (stateAfterCall image state c) ≡ afterPeriod (imageOf image) (periodAt (c .period) 0) (stateOf state)
   taken-read e = rw (taken-step e) (step-read image state (step-ready image state (c .period) (accepted-passed e)) (periodAt (c .period) 0))
 
   -- which of the two it is
@@ -144,7 +144,7 @@ keeps-decision image state (c ∷ cs) d =
 abbrev pub freshState : ℕ → State
 freshState n = record { outcome = 0; blame = 0; periods = 0; decision = 0; values = replicate n 0 }
 
-pub fresh-bytes : (n : ℕ) → replicate (headBytes + n) 0 ≡ stateBytes (freshState n)
+fresh-bytes : (n : ℕ) → replicate (headBytes + n) 0 ≡ stateBytes (freshState n)
 unfolding stateBytes bytes
 fresh-bytes n = sym (replicate-append-replicate headBytes n 0)
 
@@ -153,7 +153,7 @@ zeros-at zero i = refl
 zeros-at (suc n) zero = refl
 zeros-at (suc n) (suc i) = zeros-at n i
 
-pub fresh-sound : (n : ℕ) → Sound n (freshState n)
+fresh-sound : (n : ℕ) → Sound n (freshState n)
 fresh-sound n =
     record {
       long = length-replicate n 0;
@@ -169,6 +169,9 @@ fresh-sound n =
       zeros = λ e i. zeros-at n i;
     }
 
+pub fresh-read : (n : ℕ) → stateOf (replicate (headBytes + n) 0) ≡ freshState n
+fresh-read n = rw (fresh-bytes n) (read-back n (freshState n) (fresh-sound n) (omega arith))
+
 -- begin leaves that state, which is sound
 module _ (image state reply : List ℕ) (r : beginReplyBytes ≤ length reply) (h : beginTest image state ≡ Passed) where
   begun : (imageTest image ≡ Passed) × (length state ≡ headBytes + rowCount image)
@@ -178,11 +181,12 @@ module _ (image state reply : List ℕ) (r : beginReplyBytes ≤ length reply) (
       let n = headBytes + rowCount image in
       (b .0, eqb-true (length state) n (require-passed (eqb (length state) n) BadState state-refused (b .1)))
 
-  pub begin-state : begin image state reply .state ≡ stateBytes (freshState (rowCount image))
+  pub begin-written : begin image state reply ≡ written (replicate (length state) 0) reply (beginReply Passed)
   unfolding begin
-  begin-state =
-      ap (λ (x : After). x .state) (call-passed beginReplyBytes (beginTest image state) _ _ _ state reply r (ap numberOf h))
-      ∙ rw (begun .1) (fresh-bytes (rowCount image))
+  begin-written = call-passed beginReplyBytes (beginTest image state) _ _ _ state reply r (ap numberOf h) ∙ rw h
+
+  pub begin-state : begin image state reply .state ≡ stateBytes (freshState (rowCount image))
+  begin-state = ap (λ (x : After). x .state) begin-written ∙ rw (begun .1) (fresh-bytes (rowCount image))
 
   pub begin-sound : readyTest image (begin image state reply .state) ≡ Passed
   unfolding readyTest

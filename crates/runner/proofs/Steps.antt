@@ -1,13 +1,13 @@
 -- What the code of a period leaves in a sound state's bytes is what the row machine says.
 -- Assumes nothing.
-use Prim.Native.Nat.{ℕ, zero, suc, _+_, _-_, _%_, _≤_, _<_, _^_}
+use Prim.Native.Nat.{ℕ, zero, suc, _+_, _-_, _%_, _≤_, _<_}
 use native.Mathlib.Nat.{le-refl}
 use native.Mathlib.Numerals.{add-one}
 use native.Mathlib.Omega.{arith}
 use mathlib.Core.Bool.{Bool, true, false, _||_, cond, and-eq-true-iff}
 use mathlib.Core.List.{List, [], _∷_, _++_, map, append-nil}
 use mathlib.Core.Path.{_≡_, refl, sym, ap, _∙_}
-use borrow.Author.Tests.{eq-eqb, eqb-true, ltb-false}
+use borrow.Author.Tests.{eqb-true, ltb-false}
 use borrow.Rule.Slice.PartMut.{putMid}
 use lib.Dec.{eqb, ltb}
 use lib.ListN.{length, getD, take, drop, length-append, length-drop, List·getD-map, drop-of-length-le}
@@ -28,9 +28,8 @@ use Rattle.runner.specs.Calls.{periodsOf}
 use Rattle.runner.specs.Computing.{soundHead, newBits, RowValues, withDecision, decidedBytes, Answering, Ready}
 use Rattle.runner.proofs.Refusals.{all-passed, first-passed, require-passed, period-refused, count-refused, state-passed, ready-passed}
 use Rattle.runner.proofs.Images.{length-rowsOf}
-use Rattle.runner.proofs.States.{Sound, sound-facts, facts-sound, sound-split, stateBytes-stateOf, stateOf-stateBytes, part-rest, length-stateBytes}
-use Rattle.runner.proofs.Computing.{isTrue-byteOf}
-use Rattle.runner.proofs.Machine.{after-undecided, after-decided, sound-afterPeriods, periods-afterPeriods}
+use Rattle.runner.proofs.States.{Sound, sound-facts, sound-split, stateBytes-stateOf, read-back, sound-passes, part-rest, length-stateBytes}
+use Rattle.runner.proofs.Machine.{isTrue-byteOf, after-undecided, after-decided, sound-afterPeriods, periods-afterPeriods}
 
 -- ---- a state that passed its test
 
@@ -151,18 +150,6 @@ module _ (image l : List ℕ) (n : ℕ) (h : Ready image l n) where
   ready-room = h .room
 
 -- ---- the states that follow
-
--- a sound state's bytes are read back, and pass the test
-pub small-counts : (n : ℕ) (s : State) → Sound n s → s .periods ≤ maxPeriods → (s .periods < 256 ^ 4) × (s .decision < 256 ^ 4)
-small-counts n s h k = (omega arith, omega arith)
-
-pub read-back : (n : ℕ) (s : State) → Sound n s → s .periods ≤ maxPeriods → stateOf (stateBytes s) ≡ s
-read-back n s h k = let b = small-counts n s h k in stateOf-stateBytes s (b .0) (b .1)
-
-pub sound-passes : (n : ℕ) (s : State) → Sound n s → s .periods ≤ maxPeriods → stateTest n (stateBytes s) ≡ Passed
-unfolding stateTest
-sound-passes n s h k =
-    rw (eq-eqb (length (stateBytes s)) (headBytes + n) (length-stateBytes s ∙ rw (h .long)), read-back n s h k, facts-sound n s h)
 
 pub length-rows : (image : List ℕ) → length (imageOf image .rows) ≡ rowCount image
 unfolding imageOf

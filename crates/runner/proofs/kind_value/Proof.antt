@@ -8,7 +8,8 @@ use lib.ListN.{length, getD}
 use Rattle.records.specs.Periods.{periodOf}
 use Rattle.runner.specs.Computing.{newIn}
 use Rattle.runner.proofs.States.{allAtMost-at}
-use Rattle.runner.proofs.Computing.{bool-small, byteOf-le}
+use Rattle.runner.proofs.Computing.{bool-small}
+use Rattle.runner.proofs.Machine.{byteOf-le}
 use Rattle.runner.proofs.RowKinds.{new-second, row-2, row-3, row-4, row-5, row-6, kind-6, both-below, value-0, value-1, value-2, value-3, value-4, value-5, value-6}
 use Rattle.runner.proofs.kind_value.Statement.{statement}
 use Rattle.runner.proofs.kind_value.Tie as tie

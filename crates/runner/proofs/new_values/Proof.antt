@@ -8,7 +8,8 @@ use Rattle.records.specs.Periods.{periodOf}
 use Rattle.runner.specs.Images.{rowCount, imageOf}
 use Rattle.runner.specs.Machine.{isTrue, newValues}
 use Rattle.runner.specs.Computing.{newBits}
-use Rattle.runner.proofs.Computing.{length-newValues, packed-new}
+use Rattle.runner.proofs.Computing.{packed-new}
+use Rattle.runner.proofs.Machine.{length-newValues}
 use borrow.Author.Needs.{needs}
 use Rattle.runner.proofs.new_values.Statement.{statement}
 use Rattle.runner.proofs.new_values.Tie as tie

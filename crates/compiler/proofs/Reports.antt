@@ -11,7 +11,7 @@ use borrow.Author.Tests.{lt-ltb, le-ltb, eqb-true, eqb-false, eq-eqb, ne-eqb}
 use lib.Dec.{eqb, ltb}
 use lib.ListN.{length, take}
 use lib.Seq.{take-append-seam}
-use Rattle.records.specs.Periods.{party1, party2, Period}
+use Rattle.records.specs.Periods.{Party, party1, party2, Period}
 use Rattle.records.proofs.Numbers.{lt-or-le}
 use Rattle.contract.specs.Expressions.{Expression, Holds}
 use Rattle.contract.specs.Readings.{Reading, pending, accepted, rejected, reading}
@@ -19,7 +19,7 @@ use Rattle.contract.specs.Meaning.{Clause, Blame, only, bothParties, Decision, 
 use Rattle.contract.specs.Verdicts.{decisionPeriod}
 use Rattle.contract.proofs.Readings.{readingBy, reading-take}
 use Rattle.contract.proofs.Meaning.{decidedBy, Within, within, ReadWithin, within-reading, not-yet, by-now, stable}
-use Rattle.compiler.proofs.Signals.{Signal, at, Saying, nothing, met, broken, isMet, blames, isBroken, sayingOf, Says}
+use Rattle.compiler.proofs.Signals.{Signal, at, Report, nothing, met, broken, isMet, blames, isBroken, reportOf, Says}
 use Rattle.compiler.proofs.Threads.{thread, Once, is, happens, length-snoc, Between}
 
 -- ---- the periods of decisions and readings
@@ -47,18 +47,23 @@ acceptedAt (rejected k) = none
 -- ---- what a clause says
 
 -- a decision in period n
-abbrev pub now : ℕ → Decision → Saying
+abbrev pub now : ℕ → Decision → Report
 now n undecided = nothing
 now n (satisfied k) = cond (eqb k n) met nothing
 now n (violated k b) = cond (eqb k n) (broken b) nothing
 
 -- what a clause says in the last period of a list: its decision, if it falls there
-unfoldable pub said : Clause → List Period → Saying
+unfoldable pub said : Clause → List Period → Report
 said c w = now (length w) (meaning c w)
 
-abbrev pub saidBy : Clause → Option (List Period) → Saying
+abbrev pub saidBy : Clause → Option (List Period) → Report
 saidBy c none = nothing
 saidBy c (some w) = said c w
+
+-- a satisfaction is no violation
+pub unbroken : (q : Party) (t : Bool) → isBroken q (cond t met nothing) ≡ false
+unbroken q true = refl
+unbroken q false = refl
 
 eqb-add : (m j k : ℕ) → eqb (m + j) (m + k) ≡ eqb j k
 eqb-add m j k = go (eqb j k) refl
@@ -80,7 +85,7 @@ abbrev pub NotBefore : ℕ → Option ℕ → Type 0
 NotBefore n none = Unit {0}
 NotBefore n (some k) = n ≤ k
 
-pub timely : (n : ℕ) (d : Decision) → Within n d → NotBefore n (decidedAt d) → now n d ≡ sayingOf d
+pub timely : (n : ℕ) (d : Decision) → Within n d → NotBefore n (decidedAt d) → now n d ≡ reportOf d
 timely n undecided p q = refl
 timely n (satisfied k) p q = rw (eq-eqb k n (omega arith))
 timely n (violated k b) p q = rw (eq-eqb k n (omega arith))
@@ -96,10 +101,6 @@ past n (violated k b) l = rw (ne-eqb k n (λ e. omega arith))
 abbrev by : ℕ → Option ℕ → Option ℕ
 by n none = none
 by n (some k) = cond (ltb n k) none (some k)
-
-at-start : (r : Option ℕ) → Between 0 r → r ≡ none
-at-start none b = refl
-at-start (some k) b = absurd (omega arith)
 
 still : (n : ℕ) (r : Option ℕ) (k : ℕ) → by n r ≡ some k → r ≡ some k
 still n none k e = absurd (Option·none-ne-some k e)
@@ -118,7 +119,7 @@ once-by : (f : List Period → Option ℕ) → ((n : ℕ) (w : List Period) → 
     → Once f
 once-by f beginnings bounded =
     record {
-      none-yet = at-start (f []) (bounded []);
+      between = bounded;
       stays = λ w p k e. still (length w) (f (w ++ (p ∷ []))) k (sym (before w p) ∙ e);
       only-now = λ w p e. newly (length w) (f (w ++ (p ∷ []))) (rw (length-snoc w p) at (bounded (w ++ (p ∷ [])))) (sym (before w p) ∙ e);
     }
@@ -126,8 +127,8 @@ once-by f beginnings bounded =
     before : (w : List Period) (p : Period) → f w ≡ by (length w) (f (w ++ (p ∷ [])))
     before w p = rw (take-append-seam w (p ∷ [])) at (beginnings (length w) (w ++ (p ∷ [])))
 
--- of the decisions whose saying passes a test the period is told
-record Tells (test : Saying → Bool) (tell : Decision → Option ℕ) : Type 0 where
+-- `tell` gives the period of just those decisions whose report passes the test
+record Tells (test : Report → Bool) (tell : Decision → Option ℕ) : Type 0 where
   silent : test nothing ≡ false
   of-undecided : tell undecided ≡ none
   of-satisfied : (k : ℕ) → tell (satisfied k) ≡ cond (test met) (some k) none
@@ -137,14 +138,14 @@ between-if : (n k : ℕ) (b : Bool) → (1 ≤ k) × (k ≤ n) → Between n (co
 between-if n k true h = h
 between-if n k false h = tt
 
-module _ {test : Saying → Bool} {tell : Decision → Option ℕ} (t : Tells test tell) where
-  told : (d : Decision) → tell d ≡ cond (test (sayingOf d)) (some (decisionPeriod d)) none
+module _ {test : Report → Bool} {tell : Decision → Option ℕ} (t : Tells test tell) where
+  told : (d : Decision) → tell d ≡ cond (test (reportOf d)) (some (decisionPeriod d)) none
   told undecided = rw (t .of-undecided, t .silent)
   told (satisfied k) = t .of-satisfied k
   told (violated k b) = t .of-violated k b
 
   told-by : (n : ℕ) (d : Decision) → tell (decidedBy n d) ≡ by n (tell d)
-  told-by n d = go (lt-or-le n (decisionPeriod d)) (test (sayingOf d)) (told d)
+  told-by n d = go (lt-or-le n (decisionPeriod d)) (test (reportOf d)) (told d)
     where
       go : (n < decisionPeriod d) ⊎ (decisionPeriod d ≤ n) → (b : Bool) → tell d ≡ cond b (some (decisionPeriod d)) none
           → tell (decidedBy n d) ≡ by n (tell d)
@@ -163,8 +164,8 @@ module _ {test : Saying → Bool} {tell : Decision → Option ℕ} (t : Tells te
       once-by (λ w. tell (meaning c w)) (λ n w. rw (stable c g n w) (told-by n (meaning c w)))
       (λ w. told-between (length w) (meaning c w) (within c g w))
 
-  -- a saying in its own period
-  in-period : (s : Saying) (k n : ℕ) → test (cond (eqb k n) s nothing) ≡ is (cond (test s) (some k) none) n
+  -- a report in its own period
+  in-period : (s : Report) (k n : ℕ) → test (cond (eqb k n) s nothing) ≡ is (cond (test s) (some k) none) n
   in-period s k n = go (eqb k n) refl (test s) refl
     where
       go : (e : Bool) → eqb k n ≡ e → (b : Bool) → test s ≡ b → test (cond e s nothing) ≡ is (cond b (some k) none) n
@@ -183,7 +184,7 @@ module _ {test : Saying → Bool} {tell : Decision → Option ℕ} (t : Tells te
   happens-told c none = t .silent
   happens-told c (some w) = told-now (length w) (meaning c w)
 
-abbrev isBlaming : Saying → Bool
+abbrev isBlaming : Report → Bool
 isBlaming s = isBroken party1 s || isBroken party2 s
 
 pub someone-blamed : (b : Blame) → (blames party1 b || blames party2 b) ≡ true
@@ -221,10 +222,10 @@ pub decided-happens : (c : Clause) (t : Option (List Period))
     → (isMet (saidBy c t) || (isBroken party1 (saidBy c t) || isBroken party2 (saidBy c t))) ≡ happens (λ w. decidedAt (meaning c w)) t
 decided-happens = happens-told tells-decided
 
-accepted-by : (n : ℕ) (r : Reading) → acceptedAt (readingBy n r) ≡ by n (acceptedAt r)
-accepted-by n pending = refl
-accepted-by n (accepted k) = elim (ltb n k) as (λ t. acceptedAt (cond t pending (accepted k)) ≡ cond t none (some k)) [ true ↦ refl | false ↦ refl ]
-accepted-by n (rejected k) = elim (ltb n k) as (λ t. acceptedAt (cond t pending (rejected k)) ≡ none) [ true ↦ refl | false ↦ refl ]
+by-accepted : (n : ℕ) (r : Reading) → acceptedAt (readingBy n r) ≡ by n (acceptedAt r)
+by-accepted n pending = refl
+by-accepted n (accepted k) = elim (ltb n k) as (λ t. acceptedAt (cond t pending (accepted k)) ≡ cond t none (some k)) [ true ↦ refl | false ↦ refl ]
+by-accepted n (rejected k) = elim (ltb n k) as (λ t. acceptedAt (cond t pending (rejected k)) ≡ none) [ true ↦ refl | false ↦ refl ]
 
 accepted-between : (n : ℕ) (r : Reading) → ReadWithin n r → Between n (acceptedAt r)
 accepted-between n pending b = tt
@@ -233,7 +234,7 @@ accepted-between n (rejected k) b = tt
 
 pub once-accepted : (e : Expression) → ¬ Holds e [] → Once (λ w. acceptedAt (reading e w))
 once-accepted e g =
-    once-by (λ w. acceptedAt (reading e w)) (λ n w. rw (reading-take e w n) (accepted-by n (reading e w)))
+    once-by (λ w. acceptedAt (reading e w)) (λ n w. rw (reading-take e w n) (by-accepted n (reading e w)))
     (λ w. accepted-between (length w) (reading e w) (within-reading e w g))
 
 -- ---- blocks
