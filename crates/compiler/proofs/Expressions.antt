@@ -8,11 +8,11 @@ use mathlib.Core.Path.{_≡_, refl, sym, _∙_}
 use Rattle.records.specs.Periods.{Period}
 use Rattle.contract.specs.Expressions
 use Rattle.contract.specs.Expressions.{Atom, holds, Expression, atom, seq, or, star, Holds, one, left, right, member, begins, holdsEmpty}
-use Rattle.contract.proofs.Expressions.{or-true, member-iff, begins-iff, empty-iff}
+use Rattle.contract.proofs.Expressions.{Concat, or-true, member-iff, begins-iff, empty-iff}
 use Rattle.contract.proofs.Expressions.{held-or}
 use Rattle.compiler.proofs.Signals.{Signal, at, _≐_, at-or, JoinsOn, whereEmpty, WiredExpression, wired-atom, wired-seq, wired-or, wired-star}
 use Rattle.compiler.proofs.Threads.{Active, begun, kept, Exclusive, thread, thread-active}
-use Rattle.compiler.proofs.Languages.{Language, Concat, NonEmpty, Before, GoesOn, concat-before, concat-empty, begins-or, concat-begin, atom-single, seq-iff, seq-goes, star-iff, star-goes}
+use Rattle.compiler.proofs.Languages.{Language, NonEmpty, Before, GoesOn, concat-before, concat-empty, begins-or, concat-begin, atom-single, seq-iff, seq-goes, star-iff, star-goes}
 
 or-iff : (a b : Bool) {A B : Type 0} → ((a ≡ true) ↔ A) → ((b ≡ true) ↔ B) → (a || b ≡ true) ↔ (A ⊎ B)
 or-iff a b f g = (

@@ -1,5 +1,5 @@
 -- The image of a contract is good, and has as many rows as the widths of its records and the fixed rows add up to.
--- All that is to be computed with row numbers is computed here.
+-- All the arithmetic of a block's row numbers is here.
 use Prim.Native.Nat.{ℕ, zero, suc, _+_, _*_, _^_, _≤_, _<_}
 use native.Mathlib.Nat.{add-zero, zero-add}
 use native.Mathlib.Omega.{arith}

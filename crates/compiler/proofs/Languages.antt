@@ -6,19 +6,11 @@ use mathlib.Core.Path.{_≡_, refl, sym, _∙_, subst}
 use Rattle.records.specs.Periods.{Period}
 use Rattle.contract.specs.Expressions
 use Rattle.contract.specs.Expressions.{Atom, Expression, atom, seq, or, star, Holds, one, join, left, more, member, begins}
-use Rattle.contract.proofs.Expressions.{Split, split, member-iff, begins-iff, some-list}
+use Rattle.contract.proofs.Expressions.{Concat, held-seq, Split, split, member-iff, begins-iff, some-list}
 use Rattle.contract.proofs.Expressions.{star-join, star-one, Cuts, within, past, cuts}
 
 abbrev pub Language : Type 1
 Language = List Period → Type 0
-
--- a list of the one set, and then a list of the other
-pub record Concat (L M : Language) (w : List Period) : Type 0 where
-  pub front : List Period
-  pub rest : List Period
-  pub whole : w ≡ front ++ rest
-  pub held : L front
-  pub held-rest : M rest
 
 abbrev pub NonEmpty : Language → Language
 NonEmpty L w = (w ≢ []) × L w
@@ -114,10 +106,7 @@ atom-single h [] p u e = refl
 atom-single (one h) (y ∷ w) p u e = let z : w ++ (p ∷ u) ≡ [] = cc in absurd (cons-ne-nil p u (append-eq-nil-iff {p = w} .0 z .1))
 
 pub seq-iff : (l r : Expression) (w : List Period) → Holds (seq l r) w ↔ Concat (Holds l) (Holds r) w
-seq-iff l r w = (apart, λ c. rw (c .whole) (join (c .held) (c .held-rest)))
-  where
-    apart : {w : List Period} → Holds (seq l r) w → Concat (Holds l) (Holds r) w
-    apart (join {u = u} {v = v} p q) = record { front = u; rest = v; whole = refl; held = p; held-rest = q }
+seq-iff l r w = (held-seq, λ c. rw (c .whole) (join (c .held) (c .held-rest)))
 
 pub seq-goes : (l r : Expression) (w : List Period)
     → GoesOn (Holds (seq l r)) w ↔ (GoesOn (Holds l) w ⊎ Concat (Holds l) (GoesOn (Holds r)) w)

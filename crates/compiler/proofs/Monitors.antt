@@ -1,4 +1,4 @@
--- Demand 3: an image that is right for a contract monitors it, so the image of every contract that is taken does.
+-- Demand 3: an image that is right for a contract's clause monitors the contract, so the image of every contract that is taken does.
 use Prim.Native.Nat.{ℕ, _+_, _-_, _≤_, _<_}
 use native.Mathlib.Nat.{zero-add}
 use native.Mathlib.Omega.{arith}
@@ -55,7 +55,7 @@ count-test s n e h = go (lt-or-le n maxPeriods)
 
 -- ---- step calls on the states that the machine reaches
 
-module _ (contract : List ℕ) (c : Clause) (image : List ℕ) (right : RightFor contract c image) where
+module _ (c : Clause) (image : List ℕ) (right : RightFor c image) where
   -- the machine's state after the periods w
   abbrev reached : List Period → State
   reached w = afterPeriods (imageOf image) (stateOf (replicate (headBytes + rowCount image) 0)) w
@@ -152,8 +152,8 @@ module _ (contract : List ℕ) (c : Clause) (image : List ℕ) (right : RightFor
       let b = begin-written image state reply r (begins state l) in
       record { ready = begin-sound image state reply r (begins state l); is = rw (b, l); few = omega arith }
 
-  pub right-monitors : read contract ≡ taken c → Monitors contract image
-  right-monitors e =
+  pub right-monitors : (contract : List ℕ) → read contract ≡ taken c → Monitors contract image
+  right-monitors contract e =
       record {
         clause = c;
         means = e;
@@ -165,4 +165,4 @@ module _ (contract : List ℕ) (c : Clause) (image : List ℕ) (right : RightFor
 
 -- every contract that is taken is monitored by its image
 pub monitors : (contract : List ℕ) (c : Clause) → read contract ≡ taken c → Monitors contract (imageFor contract)
-monitors contract c e = right-monitors contract c (imageFor contract) (right-for contract c e) e
+monitors contract c e = right-monitors c (imageFor contract) (right-for contract c e) contract e

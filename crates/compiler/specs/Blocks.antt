@@ -25,8 +25,9 @@ untilDone done K b rest = previous done ∷ negation b ∷ conjunction K (b ⊹ 
 abbrev pub handOver : (fired K b : ℕ) → (rest : (start go : ℕ) → List Row) → List Row
 handOver fired K b rest = previous fired ∷ conjunction K b ∷ negation b ∷ conjunction K (b ⊹ 2) ∷ rest (b ⊹ 1) (b ⊹ 3)
 
--- Where a list has ended another may follow: row `start` is true where S is, and where K is and `ended` was true in the period before.
-abbrev pub joinRow : ℕ → ℕ
+-- Where a list has ended another may follow: row `start` is true where S is, and where K is and `ended` was true in the period before. It is the
+-- last of these rows.
+abbrev pub joinRow : (b : ℕ) → ℕ
 joinRow b = b ⊹ 2
 
 abbrev pub joinOn : (ended S K b : ℕ) → (rest : (start : ℕ) → List Row) → List Row

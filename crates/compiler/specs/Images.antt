@@ -48,13 +48,16 @@ pub record Shows (d : Decision) (s : State) : Type 0 where
   pub blame-is : s .blame ≡ blame d
   pub decision-is : s .decision ≡ decisionPeriod d
 
--- The image is right for a contract that means this clause: refusal 9 does not apply; its rows are as many as the widths of the contract's records
--- and the fixed rows add up to, at most 14 × records + 3 and so within the 32 × records + 64 that refusal 8 makes room for; and the row machine
--- on it, begun with a state of zeros, shows after every list of periods what the clause means on it.
-pub record RightFor (contract : List ℕ) (clause : Clause) (image : List ℕ) : Type 0 where
+-- The image is right for the clause, whatever rows it has: refusal 9 does not apply, and the row machine on it, begun with a state of zeros, shows
+-- after every list of periods what the clause means on it.
+pub record RightFor (clause : Clause) (image : List ℕ) : Type 0 where
   pub good : imageTest image ≡ Passed
+  pub shows : (w : List Period)
+      → Shows (meaning clause w) (afterPeriods (imageOf image) (stateOf (replicate (headBytes + rowCount image) 0)) w)
+
+-- how many rows it has, for a contract that means this clause: as many as the widths of the contract's records and the fixed rows add up to, at
+-- most 14 × records + 3, and so within the 32 × records + 64 that refusal 8 makes room for
+pub record SizedFor (contract : List ℕ) (clause : Clause) (image : List ℕ) : Type 0 where
   pub rows-are : rowCount image ≡ clauseSize clause + fixedRows
   pub rows-most : rowCount image ≤ mostRows (recordCount contract)
   pub rows-allowed : rowCount image ≤ allowedRows (recordCount contract)
-  pub shows : (w : List Period)
-      → Shows (meaning clause w) (afterPeriods (imageOf image) (stateOf (replicate (headBytes + rowCount image) 0)) w)

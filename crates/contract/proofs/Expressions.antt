@@ -183,16 +183,16 @@ begins-sound (star e) w h =
     let p = begins-sound e (s .rest) (s .passes-rest) in
     (p .0, rw (← append-assoc (s .front), s .whole) at (star-join (member-sound (star e) (s .front) (s .passes)) (star-one (p .1))))
 
--- a list in the set of a sequence
-record Joined (l r : Expression) (w : List Period) : Type 0 where
-  front : List Period
-  rest : List Period
-  whole : w ≡ front ++ rest
-  held : Holds l front
-  held-rest : Holds r rest
+-- a list of the one set, and then a list of the other
+pub record Concat (L M : List Period → Type 0) (w : List Period) : Type 0 where
+  pub front : List Period
+  pub rest : List Period
+  pub whole : w ≡ front ++ rest
+  pub held : L front
+  pub held-rest : M rest
 
-joined-seq : {l r : Expression} {w : List Period} → Holds (seq l r) w → Joined l r w
-joined-seq (join {u = u} {v = v} p q) = record { front = u; rest = v; whole = refl; held = p; held-rest = q }
+pub held-seq : {l r : Expression} {w : List Period} → Holds (seq l r) w → Concat (Holds l) (Holds r) w
+held-seq (join {u = u} {v = v} p q) = record { front = u; rest = v; whole = refl; held = p; held-rest = q }
 
 pub held-or : {l r : Expression} {w : List Period} → Holds (or l r) w → Holds l w ⊎ Holds r w
 held-or (left p) = inl p
@@ -206,7 +206,7 @@ begins-atom (one p) (x ∷ y ∷ w) v h = cc
 
 begins-seq : (l r : Expression) → ((w v : List Period) → Holds l (w ++ v) → begins l w ≡ true)
     → ((w v : List Period) → Holds r (w ++ v) → begins r w ≡ true)
-    → (w v : List Period) → Joined l r (w ++ v) → begins l w || splits (member l) (begins r) w ≡ true
+    → (w v : List Period) → Concat (Holds l) (Holds r) (w ++ v) → begins l w || splits (member l) (begins r) w ≡ true
 begins-seq l r complete-l complete-r w v h = go (cuts (h .front) (h .rest) w v (sym (h .whole)))
   where
     go : Cuts (h .front) (h .rest) w v → begins l w || splits (member l) (begins r) w ≡ true
@@ -233,7 +233,7 @@ begins-star e complete (more {u = s} {v = t} p q) w v h = go (cuts s t w v h) (�
 begins-complete : (e : Expression) (w v : List Period) → Holds e (w ++ v) → begins e w ≡ true
 unfolding begins
 begins-complete (atom a) w v h = begins-atom h w v refl
-begins-complete (seq l r) w v h = begins-seq l r (begins-complete l) (begins-complete r) w v (joined-seq h)
+begins-complete (seq l r) w v h = begins-seq l r (begins-complete l) (begins-complete r) w v (held-seq h)
 begins-complete (or l r) w v h =
     ⊎-elim (λ p. or-true (begins l w) _ .1 (inl (begins-complete l w v p))) (λ p. or-true (begins l w) _ .1 (inr (begins-complete r w v p))) (held-or h)
 begins-complete (star e) w v h = begins-star e (begins-complete e) h w v refl
