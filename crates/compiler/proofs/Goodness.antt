@@ -18,14 +18,21 @@ use Rattle.contract.specs.Table.{Kind}
 use Rattle.contract.specs.Expressions.{any, tries, idle, succeeds, fails, Expression, atom, seq, or, star, holdsEmpty}
 use Rattle.contract.specs.Meaning.{duty, ban, power, Clause, literal, both, then, repair, repeat, when, until}
 use Rattle.contract.specs.Spelling.{expressionRecords, records, ExpressionInRange, InRange}
-use Rattle.compiler.specs.Widths.{width, neverRow, mostRows, allowedRows, inside, expressionSize, clauseSize, fixedRows, afterExpression, afterClause}
+use Rattle.compiler.specs.Widths.{width, neverRow, mostRows, allowedRows, _⊹_, inside, expressionSize, clauseSize, fixedRows, afterExpression, afterClause}
 use Rattle.compiler.specs.Blocks.{joinRow, endRow, liveRow, ifEmpty, expressionRows, Outputs, blaming, outputsOf, clauseRows}
 use Rattle.compiler.specs.Images.{rowsFor, image}
+
+-- ---- row numbers
+
+-- the row k rows on from row b
+pub ⊹-plus : (b k : ℕ) → b ⊹ k ≡ b + k
+⊹-plus b zero = omega arith
+⊹-plus b (suc k) = omega (arith, ⊹-plus b k)
 
 -- ---- how many rows
 
 -- the first row after a tree's rows
-after-expression : (e : Expression) (b : ℕ) → afterExpression e b ≡ b + expressionSize e
+pub after-expression : (e : Expression) (b : ℕ) → afterExpression e b ≡ b + expressionSize e
 unfolding afterExpression expressionSize
 after-expression (atom any) b = omega arith
 after-expression (atom (tries p a)) b = omega arith
@@ -36,7 +43,7 @@ after-expression (seq l r) b = rw (after-expression l, after-expression r) (omeg
 after-expression (or l r) b = rw (after-expression l, after-expression r) (omega arith)
 after-expression (star e) b = rw (after-expression e) (omega arith)
 
-after-clause : (c : Clause) (b : ℕ) → afterClause c b ≡ b + clauseSize c
+pub after-clause : (c : Clause) (b : ℕ) → afterClause c b ≡ b + clauseSize c
 unfolding afterClause clauseSize
 after-clause (literal duty p a) b = omega arith
 after-clause (literal ban p a) b = omega arith
@@ -49,7 +56,7 @@ after-clause (when e c) b = rw (after-expression e, after-clause c) (omega arith
 after-clause (until c e) b = rw (after-clause c, after-expression e) (omega arith)
 
 -- its rows, with others after them
-length-expression : (e : Expression) (b S K : ℕ) (rest : List Row) → length (expressionRows e b S K rest) ≡ expressionSize e + length rest
+pub length-expression : (e : Expression) (b S K : ℕ) (rest : List Row) → length (expressionRows e b S K rest) ≡ expressionSize e + length rest
 unfolding expressionRows expressionSize
 length-expression (atom any) b S K rest = omega arith
 length-expression (atom (tries p a)) b S K rest = omega arith
@@ -60,7 +67,7 @@ length-expression (seq l r) b S K rest = rw (length-expression r, length-express
 length-expression (or l r) b S K rest = rw (length-expression r, length-expression l) (omega arith)
 length-expression (star e) b S K rest = rw (length-expression e) (omega arith)
 
-length-clause : (c : Clause) (b S K : ℕ) (rest : List Row) → length (clauseRows c b S K rest) ≡ clauseSize c + length rest
+pub length-clause : (c : Clause) (b S K : ℕ) (rest : List Row) → length (clauseRows c b S K rest) ≡ clauseSize c + length rest
 unfolding clauseRows clauseSize
 length-clause (literal duty p a) b S K rest = omega arith
 length-clause (literal ban p a) b S K rest = omega arith
@@ -109,12 +116,12 @@ rows-allowed c = omega (arith, rows-most c)
 
 -- ---- the rows that a block gives out stand before its end
 
-record ExpressionInside (e : Expression) (b S : ℕ) : Type 0 where
-  past : b ≤ afterExpression e b
-  end-inside : endRow e b S < afterExpression e b
-  live-inside : liveRow e b < afterExpression e b
+pub record ExpressionInside (e : Expression) (b S : ℕ) : Type 0 where
+  pub past : b ≤ afterExpression e b
+  pub end-inside : endRow e b S < afterExpression e b
+  pub live-inside : liveRow e b < afterExpression e b
 
-inside-expression : (e : Expression) (b S : ℕ) → S < b → ExpressionInside e b S
+pub inside-expression : (e : Expression) (b S : ℕ) → S < b → ExpressionInside e b S
 unfolding endRow liveRow afterExpression
 inside-expression (atom any) b S h = omega arith
 inside-expression (atom (tries p a)) b S h = omega arith
@@ -132,18 +139,18 @@ inside-ifEmpty e x m h = each (holdsEmpty e)
     each true = h
     each false = omega arith
 
-record ClauseInside (c : Clause) (b : ℕ) (o : Outputs) : Type 0 where
-  past : b ≤ afterClause c b
-  sat-inside : o .sat < afterClause c b
-  one-inside : o .one < afterClause c b
-  two-inside : o .two < afterClause c b
+pub record ClauseInside (c : Clause) (b : ℕ) (o : Outputs) : Type 0 where
+  pub past : b ≤ afterClause c b
+  pub sat-inside : o .sat < afterClause c b
+  pub one-inside : o .one < afterClause c b
+  pub two-inside : o .two < afterClause c b
 
 inside-literal : (p : Party) {c : Clause} {b s x y : ℕ} → b ≤ afterClause c b
     → (s < afterClause c b) × (x < afterClause c b) × (y < afterClause c b) → ClauseInside c b (blaming p s x y)
 inside-literal party1 h i = omega arith
 inside-literal party2 h i = omega arith
 
-inside-clause : (c : Clause) (b : ℕ) → 0 < b → ClauseInside c b (outputsOf c b)
+pub inside-clause : (c : Clause) (b : ℕ) → 0 < b → ClauseInside c b (outputsOf c b)
 unfolding outputsOf afterClause
 inside-clause (literal duty p a) b h = inside-literal p (omega arith) (omega arith)
 inside-clause (literal ban p a) b h = inside-literal p (omega arith) (omega arith)

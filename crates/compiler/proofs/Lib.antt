@@ -18,3 +18,8 @@ pub mod Root
 pub mod Images
 pub mod Monitors
 pub mod Examples
+pub mod Writing
+pub mod Plans
+pub mod Whole
+pub mod Calls
+pub mod Emitting

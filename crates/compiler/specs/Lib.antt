@@ -3,4 +3,6 @@ pub mod Widths
 pub mod Blocks
 pub mod Images
 pub mod Monitors
+pub mod Plans
+pub mod Calls
 pub mod Examples

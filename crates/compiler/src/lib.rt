@@ -1,1 +1,499 @@
-// The image of a contract, and the theorem that it monitors the contract.
+// The compiler: reads a contract and writes the image that monitors it. Document 01, "Image and row machine" and "Calls".
+ghost use mathlib.Core.Path.{_≡_};
+ghost use mathlib.Core.Bool.{cond};
+ghost use mathlib.Core.Option.{some};
+ghost use Prim.Native.Nat.{_+_, _*_, _≤_};
+ghost use lib.Dec.{eqb};
+ghost use lib.ListN.{length};
+ghost use lib.Seq.{sets};
+ghost use Rattle.runner.specs.Limits.{rowBytes};
+ghost use Rattle.runner.specs.Images.{rowCount};
+ghost use Rattle.contract.specs.Table.{Kind, kindOf};
+ghost use Rattle.compiler.specs.Plans.{planOf, basesOf, rowAt, rowNumbersBytes, ownRows, writtenRows, wiresOf, noBlock, Small, OwnRows, RecordRows, ownBlock, ownWritten, Emits, Emitted, endRecord, Writes};
+ghost use Rattle.compiler.specs.Images.{imageFor};
+ghost use Rattle.compiler.specs.Calls.{compileReply, compileReplyBytes, Compiles};
+use contract::Answer;
+
+// ---- the rows of each kind
+
+// The kinds of rows.
+const NEVER: u8 = 0;
+
+const FIRST: u8 = 1;
+
+const TRIES: u8 = 2;
+
+const NOT: u8 = 3;
+
+const AND: u8 = 4;
+
+const OR: u8 = 5;
+
+const PREVIOUS: u8 = 6;
+
+// The rows that a record's own rows name: a base, and so many rows on from it. Bases are sixteen apart.
+// The row that is never true, or a field that is not used.
+const O: u8 = 0x00;
+
+// The row that is true in a period in which the tree begins to read, and the one for a period in which it goes on.
+const S: u8 = 0x10;
+
+const K: u8 = 0x20;
+
+// The record's first row, and the first after its operands' rows.
+const B: u8 = 0x30;
+
+const N: u8 = 0x40;
+
+// What the left operand's block gives out, and then the right operand's, or the only one's.
+const L1: u8 = 0x50;
+
+const L2: u8 = 0x60;
+
+const L3: u8 = 0x70;
+
+const R1: u8 = 0x80;
+
+const R2: u8 = 0x90;
+
+const R3: u8 = 0xa0;
+
+// S where the left operand holds the empty list, and L1 where the right one does; otherwise the row that is never true.
+const SE: u8 = 0xb0;
+
+const LE: u8 = 0xc0;
+
+// No rows: the record's party, the other party, and the action.
+const P: u8 = 0xd0;
+
+const Q: u8 = 0xe0;
+
+const A: u8 = 0xf0;
+
+// A row of a record's own: its kind and its fields x and y.
+pub struct Own(pub u8, pub u8, pub u8);
+
+// Every kind's own rows, those before its operands' rows and then those after them.
+const OWN: [Own; 97] = [
+    // duty
+    Own(TRIES, P, A),
+    Own(TRIES, Q, A),
+    Own(AND, S, B),
+    Own(AND, B + 2, B + 1),
+    Own(NOT, B, O),
+    Own(AND, S, B + 4),
+    Own(NOT, B + 1, O),
+    Own(AND, B + 2, B + 6),
+    // ban
+    Own(TRIES, P, A),
+    Own(TRIES, Q, A),
+    Own(AND, S, B),
+    Own(AND, B + 2, B + 1),
+    Own(NOT, B + 3, O),
+    Own(AND, S, B + 4),
+    // power
+    Own(TRIES, P, A),
+    Own(TRIES, Q, A),
+    Own(AND, S, B),
+    Own(NOT, B + 1, O),
+    Own(AND, B + 2, B + 3),
+    Own(NOT, B + 4, O),
+    Own(AND, S, B + 5),
+    // both
+    Own(PREVIOUS, N + 10, O),
+    Own(NOT, B, O),
+    Own(AND, K, B + 1),
+    Own(PREVIOUS, N + 2, O),
+    Own(AND, B + 2, N),
+    Own(OR, N + 1, L1),
+    Own(PREVIOUS, N + 5, O),
+    Own(AND, B + 2, N + 3),
+    Own(OR, N + 4, R1),
+    Own(AND, N + 2, N + 5),
+    Own(OR, L2, R2),
+    Own(OR, L3, R3),
+    Own(OR, N + 7, N + 8),
+    Own(OR, N + 6, N + 9),
+    // then
+    Own(PREVIOUS, L1, O),
+    Own(AND, K, B),
+    Own(NOT, B, O),
+    Own(AND, K, B + 2),
+    Own(OR, L2, R2),
+    Own(OR, L3, R3),
+    // repair
+    Own(PREVIOUS, N, O),
+    Own(AND, K, B),
+    Own(NOT, B, O),
+    Own(AND, K, B + 2),
+    Own(OR, L2, L3),
+    Own(OR, L1, R1),
+    // repeat
+    Own(PREVIOUS, R1, O),
+    Own(AND, K, B),
+    Own(NOT, B, O),
+    Own(AND, K, B + 2),
+    Own(OR, S, B + 1),
+    // when
+    Own(PREVIOUS, L1, O),
+    Own(AND, K, B),
+    Own(NOT, B, O),
+    Own(AND, K, B + 2),
+    Own(PREVIOUS, L2, O),
+    Own(AND, B + 3, N),
+    Own(OR, S, N + 1),
+    Own(OR, L1, L2),
+    Own(NOT, N + 3, O),
+    Own(AND, N + 2, N + 4),
+    Own(OR, R1, N + 5),
+    // until
+    Own(PREVIOUS, N + 4, O),
+    Own(NOT, B, O),
+    Own(AND, K, B + 1),
+    Own(OR, L2, L3),
+    Own(NOT, N, O),
+    Own(AND, R1, N + 1),
+    Own(OR, L1, N + 2),
+    Own(OR, N + 3, N),
+    // tries
+    Own(TRIES, P, A),
+    Own(AND, S, B),
+    // idle
+    Own(TRIES, P, A),
+    Own(NOT, B, O),
+    Own(AND, S, B + 1),
+    // succeeds
+    Own(TRIES, O + 1, A),
+    Own(TRIES, O + 2, A),
+    Own(AND, B, B + 1),
+    Own(AND, S, B + 2),
+    // fails
+    Own(TRIES, O + 1, A),
+    Own(TRIES, O + 2, A),
+    Own(AND, B, B + 1),
+    Own(NOT, B + 2, O),
+    Own(AND, S, B + 3),
+    // seq
+    Own(PREVIOUS, L1, O),
+    Own(AND, K, B),
+    Own(OR, B + 1, SE),
+    Own(OR, R1, LE),
+    Own(OR, L2, R2),
+    Own(OR, N + 1, L1),
+    // or
+    Own(OR, L1, R1),
+    Own(OR, L2, R2),
+    // star
+    Own(PREVIOUS, R1, O),
+    Own(AND, K, B),
+    Own(OR, B + 1, S),
+    Own(OR, R2, R1),
+];
+
+// How a kind's rows are laid out: the first of its own rows in OWN, how many stand before its operands' rows and how many after them; the
+// rows that tell the right operand when it begins to read and when it goes on, and the left operand when it goes on (it begins with the
+// whole); and the three rows that the block gives out, of a clause with its own party's blame before the other's.
+pub struct Plan(
+    pub u8,
+    pub u8,
+    pub u8,
+    pub u8,
+    pub u8,
+    pub u8,
+    pub u8,
+    pub u8,
+    pub u8,
+);
+
+// A plan for each of the kinds 1 to 9, then 16 to 23.
+const PLANS: [Plan; 17] = [
+    Plan(0, 8, 0, O, O, O, B + 3, B + 5, B + 7), // 1 duty
+    Plan(8, 6, 0, O, O, O, B + 5, B + 3, O), // 2 ban
+    Plan(14, 7, 0, O, O, O, B + 6, O, B + 4), // 3 power
+    Plan(21, 3, 11, S, B + 2, B + 2, N + 6, N + 7, N + 8), // 4 both
+    Plan(35, 4, 2, B + 1, B + 3, K, R1, N, N + 1), // 5 then
+    Plan(41, 4, 2, B + 1, B + 3, K, N + 1, R2, R3), // 6 repair
+    Plan(47, 5, 0, B + 4, B + 3, O, O, R2, R3), // 7 repeat
+    Plan(52, 4, 7, B + 1, B + 3, B + 3, N + 6, R2, R3), // 8 when
+    Plan(63, 3, 5, S, B + 2, B + 2, N + 3, L2, L3), // 9 until
+    Plan(71, 0, 0, O, O, O, S, O, O), // 16 any
+    Plan(71, 2, 0, O, O, O, B + 1, O, O), // 17 tries
+    Plan(73, 3, 0, O, O, O, B + 2, O, O), // 18 idle
+    Plan(76, 4, 0, O, O, O, B + 3, O, O), // 19 succeeds
+    Plan(80, 5, 0, O, O, O, B + 4, O, O), // 20 fails
+    Plan(85, 3, 3, B + 2, K, K, N, N + 2, O), // 21 seq
+    Plan(91, 0, 2, S, K, K, N, N + 1, O), // 22 or
+    Plan(93, 3, 1, B + 2, K, O, R1, N, O), // 23 star
+];
+
+// The plan of a kind's number.
+fn plan_of(kind: u8) -> Plan
+    ensures { λ r. ⌜ ((k : Kind) → kindOf kind ≡ some k → r ≡ planOf k) ⌝ }
+{
+    match kind {
+        1..=9 => PLANS[kind as usize - 1],
+        16..=23 => PLANS[kind as usize - 7],
+        // No contract that is taken has such a record.
+        _ => Plan(0, 0, 0, O, O, O, O, O, O),
+    }
+}
+
+// ---- the rows of one record
+
+// The rows of a tree, once they are written: how many records stand before the tree's own, the row after its rows, the three rows that it
+// gives out (of a clause: satisfied, violated with party 1, with party 2 to blame; of an expression: a list ends, one may go on), and the
+// tree's code as an operand.
+pub struct Block {
+    pub before: usize,
+    pub next: u32,
+    pub first: u32,
+    pub second: u32,
+    pub third: u32,
+    pub code: u8,
+}
+
+// A block of no rows, where a record has no such operand.
+fn no_block(before: usize, next: u32) -> Block
+    ensures { λ r. ⌜ r ≡ noBlock before next ⌝ }
+{
+    Block {
+        before: before,
+        next: next,
+        first: 0,
+        second: 0,
+        third: 0,
+        code: 0,
+    }
+}
+
+// x where the condition holds, otherwise the row that is never true.
+fn row_if(c: bool, x: u32) -> u32
+    ensures { λ r. ⌜ r ≡ cond c x 0 ⌝ }
+{
+    if c { x } else { 0 }
+}
+
+// The other party.
+fn other(party: u32) -> u32
+    ensures { λ r. ⌜ r ≡ cond (eqb party 1) 2 1 ⌝ }
+{
+    if party == 1 { 2 } else { 1 }
+}
+
+// What the bases stand for, in their order.
+fn bases(at: u32, s: u32, k: u32, left: Block, right: Block, party: u32, action: u32) -> [u32; 16]
+    ensures { λ r. ⌜ r ≡ basesOf at s k left right party action ⌝ }
+{
+    let se = row_if(left.code == contract::EMPTY, s);
+    let le = row_if(right.code == contract::EMPTY, left.first);
+    [
+        0,
+        s,
+        k,
+        at,
+        left.next,
+        left.first,
+        left.second,
+        left.third,
+        right.first,
+        right.second,
+        right.third,
+        se,
+        le,
+        party,
+        other(party),
+        action,
+    ]
+}
+
+// The row, or other number, that stands in the table as x.
+fn row_at(bases: &[u32; 16], x: u8) -> u32
+    requires { ⌜ Small (now bases) ⌝ }
+    ensures { λ r. ⌜ r ≡ rowAt (now (bases .entry)) x ⌝ }
+{
+    bases[(x / 16) as usize] + (x % 16) as u32
+}
+
+// Writes a row.
+fn put_row(image: &mut [u8], at: u32, kind: u8, x: u32, y: u32)
+    requires { ⌜ rowBytes * at + rowBytes ≤ length (now image) ⌝ }
+    ensures { λ _. ⌜ now (image .exit) ≡ sets (now (image .entry)) (rowBytes * at) (rowNumbersBytes kind x y) ⌝ }
+{
+    let i = runner::ROW_BYTES * at as usize;
+    image[i] = records::ROW_MARK[0];
+    image[i + 1] = records::ROW_MARK[1];
+    image[i + 2] = kind;
+    image[i + 3] = 0;
+    records::put2(image, i + 4, x);
+    records::put2(image, i + 6, y);
+}
+
+// Writes `count` of a record's own rows, from row `from` of the table on.
+fn put_own(image: &mut [u8], at: u32, bases: &[u32; 16], from: u8, count: u8)
+    requires { ⌜ OwnRows (now image) at (now bases) from count ⌝ }
+    ensures { λ _. ⌜ now (image .exit) ≡ writtenRows (now (image .entry)) at (ownRows (now (bases .entry)) from count) ⌝ }
+{
+    let mut j = 0;
+    while j < count {
+        let own = OWN[(from + j) as usize];
+        put_row(
+            image,
+            at + j as u32,
+            own.0,
+            row_at(bases, own.1),
+            row_at(bases, own.2),
+        );
+        j += 1;
+    }
+}
+
+// Writes a record's own rows, where its operands' rows are written: those from row `at` on, and those after the operands' rows.
+fn put_record(
+    image: &mut [u8],
+    plan: Plan,
+    kind: u8,
+    party: u32,
+    action: u32,
+    at: u32,
+    s: u32,
+    k: u32,
+    left: Block,
+    right: Block,
+) -> Block
+    requires { ⌜ RecordRows (now image) plan at (left .next) (basesOf at s k left right party action) ⌝ }
+    ensures written { λ _. ⌜ now (image .exit) ≡ ownWritten (now (image .entry)) (basesOf at s k left right party action) plan at (left .next) ⌝ }
+    ensures gives { λ r. ⌜ r ≡ ownBlock (basesOf at s k left right party action) plan kind party left right ⌝ }
+{
+    let named = bases(at, s, k, left, right, party, action);
+    put_own(image, at, &named, plan.0, plan.1);
+    put_own(image, left.next, &named, plan.0 + plan.1, plan.2);
+    let own = row_at(&named, plan.7);
+    let others = row_at(&named, plan.8);
+    Block {
+        before: left.before,
+        next: left.next + plan.2 as u32,
+        first: row_at(&named, plan.6),
+        second: if party == 2 { others } else { own },
+        third: if party == 2 { own } else { others },
+        code: contract::completed(kind, left.code, right.code),
+    }
+}
+
+// ---- the rows of a tree
+
+// The rows that tell a record's operands when they read: the right one when it begins and when it goes on, the left one when it goes on.
+pub struct Wires {
+    pub start: u32,
+    pub go: u32,
+    pub keep: u32,
+}
+
+fn wires_of(plan: Plan, at: u32, s: u32, k: u32) -> Wires
+    requires { ⌜ Small (basesOf at s k (noBlock 0 0) (noBlock 0 0) 0 0) ⌝ }
+    ensures { λ r. ⌜ r ≡ wiresOf plan at s k ⌝ }
+{
+    let named = bases(at, s, k, no_block(0, 0), no_block(0, 0), 0, 0);
+    Wires {
+        start: row_at(&named, plan.3),
+        go: row_at(&named, plan.4),
+        keep: row_at(&named, plan.5),
+    }
+}
+
+// Writes the rows of the tree that the last of the first n records completes, from row `at` on. Backwards its records are the operator, the
+// right operand's and the left operand's, so no operand is searched for; each record's own rows are written when those of its operands are.
+fn emit(contract: &[u8], n: usize, image: &mut [u8], at: u32, s: u32, k: u32) -> Block
+    requires { ⌜ Emits (now contract) n (now image) at s k ⌝ }
+    ensures { λ r. ⌜ Emitted (now (contract .entry)) n (now (image .entry)) at s k (now (image .exit)) r ⌝ }
+{
+    let last = n - 1;
+    let start = contract::RECORD_BYTES * last;
+    let kind = contract[start + 2];
+    let party = records::wide(contract[start + 3]);
+    let action = records::wide(contract[start + 4]);
+    let plan = plan_of(kind);
+    let operands = contract::operands(kind);
+    let inside = at + plan.1 as u32;
+    if operands == 0 {
+        let none = no_block(last, inside);
+        return put_record(image, plan, kind, party, action, at, s, k, none, none);
+    }
+    let told = wires_of(plan, at, s, k);
+    let right = emit(contract, last, image, inside, told.start, told.go);
+    if operands == 1 {
+        let none = no_block(right.before, right.next);
+        return put_record(image, plan, kind, party, action, at, s, k, none, right);
+    }
+    let left = emit(contract, right.before, image, right.next, s, told.keep);
+    put_record(image, plan, kind, party, action, at, s, k, left, right)
+}
+
+// ---- the image
+
+// Writes the end record after `rows` rows.
+fn put_end(image: &mut [u8], rows: u32, sat: u32, one: u32, two: u32)
+    requires { ⌜ rowBytes * rows + rowBytes ≤ length (now image) ⌝ }
+    ensures { λ _. ⌜ now (image .exit) ≡ sets (now (image .entry)) (rowBytes * rows) (endRecord sat one two) ⌝ }
+{
+    let i = runner::ROW_BYTES * rows as usize;
+    image[i] = records::END_MARK[0];
+    image[i + 1] = records::END_MARK[1];
+    records::put2(image, i + 2, sat);
+    records::put2(image, i + 4, one);
+    records::put2(image, i + 6, two);
+}
+
+// Writes the image of a contract of n records, and gives its row count.
+fn put_image(contract: &[u8], n: usize, image: &mut [u8]) -> u32
+    requires { ⌜ Writes (now contract) n (now image) ⌝ }
+    ensures written { λ _. ⌜ now (image .exit) ≡ sets (now (image .entry)) 0 (imageFor (now (contract .entry))) ⌝ }
+    ensures count { λ r. ⌜ r ≡ rowCount (imageFor (now (contract .entry))) ⌝ }
+{
+    put_row(image, 0, NEVER, 0, 0);
+    put_row(image, 1, FIRST, 0, 0);
+    put_row(image, 2, NOT, 1, 0);
+    let whole = emit(contract, n, image, 3, 1, 2);
+    put_end(image, whole.next, whole.first, whole.second, whole.third);
+    whole.next
+}
+
+// ---- the call
+
+// Compile's reply: number (4 bytes), rows (4), place (8).
+const COMPILE_REPLY_BYTES: usize = 16;
+
+// The refusal of an image buffer that is too short.
+const SHORT_BUFFER: u32 = 8;
+
+// Writes compile's reply.
+fn put_reply(reply: &mut [u8], number: u32, rows: u32, place: u64)
+    requires { ⌜ compileReplyBytes ≤ length (now reply) ⌝ }
+    ensures { λ _. ⌜ now (reply .exit) ≡ sets (now (reply .entry)) 0 (compileReply number rows place) ⌝ }
+{
+    records::put4(reply, 0, number);
+    records::put4(reply, 4, rows);
+    records::put8(reply, 8, place);
+}
+
+// Reads a contract and writes its image into the buffer's first bytes. The result is 1, or 0 where the reply area is too short.
+// Which rows an image has document 01 leaves open; the contract says which ones ours has, and that they do what it asks.
+#[no_mangle]
+pub extern "C" fn monitor_compile(contract: &[u8], image: &mut [u8], reply: &mut [u8]) -> u32
+    ensures { λ r. ⌜ Compiles (now (contract .entry)) (now (image .entry)) (now (reply .entry)) r (now (image .exit)) (now (reply .exit)) ⌝ }
+{
+    if reply.len() < COMPILE_REPLY_BYTES {
+        return 0;
+    }
+    let answer = contract::read(contract);
+    let Answer::Taken(n) = answer else {
+        put_reply(reply, contract::number(answer), 0, contract::place(answer));
+        return 1;
+    };
+    if image.len() < runner::ROW_BYTES * (32 * n + 65) {
+        put_reply(reply, SHORT_BUFFER, 0, 0);
+        return 1;
+    }
+    let rows = put_image(contract, n, image);
+    put_reply(reply, 0, rows, 0);
+    1
+}

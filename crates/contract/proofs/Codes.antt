@@ -28,7 +28,7 @@ use Rattle.contract.proofs.Table.{number-kind, of-all}
 use Rattle.contract.proofs.Nodes.{onto, onto-operands}
 use Rattle.contract.specs.Trees.{Trees, Used, Fields, node}
 use Rattle.contract.specs.Reader.{Result, refused, taken, require, demand, partyField, actionField, fieldsFrom, fieldsOf, Operand, operand, oneMore, below, operandsOf, holdsEmptyUnder, push, readRecord, justOne, answerOf}
-use Rattle.contract.specs.Codes.{sortNumber, entryOf, lookupOf, goodParty, goodAction, goodFields, expressionCode, codeOf, codeAt, sortOf, goodOperands, emptyUnder, completed, stepFound, stepOf}
+use Rattle.contract.specs.Codes.{sortNumber, entryOf, lookupOf, operandCount, goodParty, goodAction, goodFields, expressionCode, codeOf, codeAt, sortOf, goodOperands, emptyUnder, completed, stepFound, stepOf}
 
 -- ---- 4: the fields
 
@@ -66,8 +66,12 @@ fields-present K p a z =
 
 -- ---- 5: the operands
 
-few-operands : (K : Kind) → length (line K .operands) ≤ 2
+pub few-operands : (K : Kind) → length (line K .operands) ≤ 2
 few-operands K = leb-true (length (line K .operands)) 2 (of-all (λ J. leb (length (line J .operands)) 2) refl K)
+
+pub operandCount-most : (o : Option Kind) → operandCount o ≤ 2
+operandCount-most none = omega arith
+operandCount-most (some K) = few-operands K
 
 sort-of-expression : (empty : Bool) → sortOf (expressionCode empty) ≡ 2
 sort-of-expression true = refl
@@ -119,7 +123,7 @@ onto-below (s ∷ ss) ts st =
 
 -- ---- 7, and what is pushed
 
-is-empty : (empty : Bool) → eqb (expressionCode empty) 3 ≡ empty
+pub is-empty : (empty : Bool) → eqb (expressionCode empty) 3 ≡ empty
 is-empty true = refl
 is-empty false = refl
 

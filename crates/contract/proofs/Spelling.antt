@@ -155,6 +155,10 @@ unfolding Measured
 length-tree =
     on-tree Measured (λ k f ts h. rw (spell-node, records-node, length-append, length-trees (line k .operands) ts h, length-record) (omega arith))
 
+pub length-spellTrees : (ss : List Sort) (ts : Trees ss) → length (spellTrees ss ts) ≡ recordBytes * treesRecords ss ts
+length-spellTrees [] ts = refl
+length-spellTrees (s ∷ ss) ts = rw (length-append, length-tree, length-spellTrees ss (ts .1)) (omega arith)
+
 pub length-spell : (c : Clause) → length (spell c) ≡ recordBytes * records c
 length-spell = length-tree clause
 

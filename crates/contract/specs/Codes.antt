@@ -36,6 +36,11 @@ abbrev pub lookupOf : Option Kind → Lookup
 lookupOf none = Unknown
 lookupOf (some k) = Found (entryOf k)
 
+-- how many operands, 0 where there is no such kind
+abbrev pub operandCount : Option Kind → ℕ
+operandCount none = 0
+operandCount (some k) = length (line k .operands)
+
 -- ---- 4: the fields
 
 abbrev pub goodParty : Bool → ℕ → Bool

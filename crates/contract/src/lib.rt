@@ -6,7 +6,7 @@ ghost use lib.ListN.{length, drop, getD};
 ghost use Rattle.contract.specs.Limits.{recordBytes};
 ghost use Rattle.contract.specs.Table.{kindOf};
 ghost use Rattle.contract.specs.Reader.{faultNumber, numberOf, placeOf, next, readRecords, justOne, answerOf, answer};
-ghost use Rattle.contract.specs.Codes.{lookupOf, goodParty, goodAction, goodFields, expressionCode, sortOf, goodOperands, emptyUnder, completed, stepOf, HasRecords};
+ghost use Rattle.contract.specs.Codes.{lookupOf, operandCount, goodParty, goodAction, goodFields, expressionCode, sortOf, goodOperands, emptyUnder, completed, stepOf, HasRecords};
 
 // The most records of a contract.
 pub const MAX_RECORDS: usize = 64;
@@ -76,7 +76,7 @@ const CLAUSE: u8 = 1;
 const EXPRESSION: u8 = 2;
 
 // The code of an expression that holds the empty list.
-const EMPTY: u8 = 3;
+pub const EMPTY: u8 = 3;
 
 // A line of the table: how many operands, the sorts of the first and the second in the order in which they are read, whether the party is
 // used, and whether the action is.
@@ -116,6 +116,17 @@ fn entry_of(kind: u8) -> Lookup
         1..=9 => Lookup::Found(TABLE[kind as usize - 1]),
         16..=23 => Lookup::Found(TABLE[kind as usize - 7]),
         _ => Lookup::Unknown,
+    }
+}
+
+// How many operands a kind has, 0 for a number that is no kind's.
+pub fn operands(kind: u8) -> u8
+    ensures { λ r. ⌜ r ≡ operandCount (kindOf kind) ⌝ }
+{
+    let found = entry_of(kind);
+    match found {
+        Lookup::Found(e) => e.0,
+        Lookup::Unknown => 0,
     }
 }
 
@@ -192,7 +203,7 @@ fn expression(empty: bool) -> u8
 }
 
 // The code of what a record completes.
-fn completed(kind: u8, below: u8, top: u8) -> u8
+pub fn completed(kind: u8, below: u8, top: u8) -> u8
     ensures { λ r. ⌜ r ≡ completed kind below top ⌝ }
 {
     match kind {

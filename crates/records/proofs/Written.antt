@@ -7,7 +7,7 @@ use native.Mathlib.Omega.{arith}
 use mathlib.Core.Path.{_≡_, refl, sym, ap, _∙_}
 use mathlib.Core.List.{List, [], _∷_, _++_, append-assoc}
 use lib.ListN.{length, take, drop, getD, set, length-append, length-drop, List·getD-append}
-use lib.Seq.{sets, sets-eq, take-nil, take-set-le, drop-set-lt, getD-take, getD-drop, drop-drop, take-append-le, drop-append-le, take-at, drop-at, length-take-le}
+use lib.Seq.{sets, sets-eq, take-nil, set-comm, take-set-le, drop-set-lt, getD-take, getD-drop, drop-drop, take-append-le, drop-append-le, take-at, drop-at, length-take-le}
 use Rattle.records.specs.Fields.{value, bytes, field}
 use Rattle.records.proofs.Fields.{length-bytes, value-bytes, bytes-add}
 
@@ -16,6 +16,18 @@ module _ {ℓ} {A : Type ℓ} where
   pub sets-append : (l : List A) (i : ℕ) (vs ws : List A) → sets l i (vs ++ ws) ≡ sets (sets l i vs) (i + length vs) ws
   sets-append l i [] ws = simp add-zero
   sets-append l i (v ∷ vs) ws = simp (add-suc, ← suc-add) (sets-append (set l i v) (suc i) vs ws)
+
+  -- a store before a run may be made first
+  set-sets : (l : List A) (j : ℕ) (ws : List A) (i : ℕ) (v : A) → i < j → set (sets l j ws) i v ≡ sets (set l i v) j ws
+  set-sets l j [] i v h = refl
+  set-sets l j (w ∷ ws) i v h =
+      set-sets (set l j w) (suc j) ws i v (omega arith) ∙ ap (λ m. sets m (suc j) ws) (set-comm l j i w v (omega arith))
+
+  -- a run and then the one right before it are one too
+  pub sets-before : (l : List A) (i : ℕ) (vs ws : List A) → sets (sets l (i + length vs) ws) i vs ≡ sets l i (vs ++ ws)
+  sets-before l i [] ws = rw add-zero
+  sets-before l i (v ∷ vs) ws =
+      rw (set-sets l (i + suc (length vs)) ws i v (omega arith), add-suc, ← suc-add) (sets-before (set l i v) (suc i) vs ws)
 
   -- ---- before the run and after it the list is as it was
 

@@ -1,0 +1,107 @@
+-- What a run of rows leaves in an image buffer: runs one behind the other are one, in whichever order they were written.
+-- Assumes nothing.
+use Prim.Native.Nat.{ℕ, suc, _+_, _*_, _≤_, _<_}
+use native.Mathlib.Omega.{arith}
+use mathlib.Core.List.{List, [], _∷_, _++_, map, append-assoc, map-append}
+use mathlib.Core.Path.{_≡_, refl, sym, ap, _∙_}
+use lib.ListN.{length, drop, getD, length-append, length-map, length-drop}
+use lib.Seq.{sets, length-sets, length-take-le, take-suc, getD-drop}
+use Rattle.records.specs.Fields.{bytes}
+use Rattle.records.proofs.Written.{sets-append, sets-before}
+use Rattle.runner.specs.Limits.{rowBytes}
+use Rattle.runner.specs.Rows.{Row, encode}
+use Rattle.runner.specs.Images.{rowsBytes}
+use Rattle.compiler.specs.declared.Own.{Own}
+use Rattle.compiler.specs.Plans.{RowNumbers, numbersOf, rowNumbersBytes, numbersBytes, writtenRows, ownTable, rowAt, ownRow, ownRows}
+
+-- rows as numbers have the rows' bytes
+pub numbers-bytes : (rs : List Row) → numbersBytes (map numbersOf rs) ≡ rowsBytes rs
+unfolding numbersBytes rowNumbersBytes rowsBytes encode
+numbers-bytes [] = refl
+numbers-bytes (r ∷ rs) = ap (λ m. encode r ++ m) (numbers-bytes rs)
+
+pub length-numbers : (rs : List RowNumbers) → length (numbersBytes rs) ≡ rowBytes * length rs
+unfolding numbersBytes rowNumbersBytes bytes
+length-numbers [] = refl
+length-numbers (r ∷ rs) = omega (arith, length-numbers rs)
+
+numbers-append : (rs ss : List RowNumbers) → numbersBytes (rs ++ ss) ≡ numbersBytes rs ++ numbersBytes ss
+unfolding numbersBytes
+numbers-append [] ss = refl
+numbers-append (r ∷ rs) ss =
+    let row = rowNumbersBytes (r .kind) (r .x) (r .y) in
+    ap (λ m. row ++ m) (numbers-append rs ss) ∙ sym (append-assoc row (numbersBytes rs) (numbersBytes ss))
+
+pub length-written : (image : List ℕ) (b : ℕ) (rs : List RowNumbers) → length (writtenRows image b rs) ≡ length image
+unfolding writtenRows
+length-written image b rs = length-sets image (rowBytes * b) (numbersBytes rs)
+
+pub written-none : (image : List ℕ) (b : ℕ) → writtenRows image b [] ≡ image
+unfolding writtenRows numbersBytes
+written-none image b = refl
+
+-- a row is a run
+sets-row : (image : List ℕ) (b : ℕ) (r : RowNumbers)
+    → sets image (rowBytes * b) (rowNumbersBytes (r .kind) (r .x) (r .y)) ≡ writtenRows image b (r ∷ [])
+unfolding writtenRows numbersBytes rowNumbersBytes bytes
+sets-row image b r = refl
+
+-- where the bytes of a run end
+ends : (b n : ℕ) (rs : List RowNumbers) → n ≡ b + length rs → rowBytes * n ≡ rowBytes * b + length (numbersBytes rs)
+ends b n rs e = omega (arith, length-numbers rs)
+
+-- a run and then the one behind it
+pub written-after : (image : List ℕ) (b n : ℕ) (rs ss : List RowNumbers) → n ≡ b + length rs
+    → writtenRows (writtenRows image b rs) n ss ≡ writtenRows image b (rs ++ ss)
+unfolding writtenRows
+written-after image b n rs ss e =
+    rw (ends b n rs e, numbers-append rs ss) (sym (sets-append image (rowBytes * b) (numbersBytes rs) (numbersBytes ss)))
+
+-- a run and then the one before it
+pub written-before : (image : List ℕ) (b n : ℕ) (rs ss : List RowNumbers) → n ≡ b + length rs
+    → writtenRows (writtenRows image n ss) b rs ≡ writtenRows image b (rs ++ ss)
+unfolding writtenRows
+written-before image b n rs ss e =
+    rw (ends b n rs e, numbers-append rs ss) (sets-before image (rowBytes * b) (numbersBytes rs) (numbersBytes ss))
+
+-- one row more
+pub written-row : (image : List ℕ) (b n : ℕ) (rs : List RowNumbers) (r : RowNumbers) → n ≡ b + length rs
+    → writtenRows (writtenRows image b rs) n (r ∷ []) ≡ writtenRows image b (rs ++ (r ∷ []))
+written-row image b n rs r e = written-after image b n rs (r ∷ []) e
+
+-- rows written inside, and then those before and behind them
+pub written-around : (image : List ℕ) (b m n : ℕ) (hs rs ts : List RowNumbers) → m ≡ b + length hs → n ≡ m + length rs
+    → writtenRows (writtenRows (writtenRows image m rs) b hs) n ts ≡ writtenRows image b (hs ++ (rs ++ ts))
+written-around image b m n hs rs ts e f =
+    let g : n ≡ b + length (hs ++ rs) = rw length-append (omega arith) in
+    rw (written-before image b m hs rs e, written-after image b n (hs ++ rs) ts g, append-assoc)
+
+-- ---- rows of the table
+
+-- what a read past the table's end gives
+abbrev pub noOwn : Own
+noOwn = record { 0 = 0; 1 = 0; 2 = 0 }
+
+module _ (bases : List ℕ) (from : ℕ) where
+  pub length-listed : (count : ℕ) → from + count ≤ length ownTable → length (ownRows bases from count) ≡ count
+  unfolding ownRows
+  length-listed count h = rw length-map (length-take-le count (drop from ownTable) (rw length-drop (omega arith)))
+
+  listed-next : (j : ℕ) → from + j < length ownTable
+      → ownRows bases from (suc j) ≡ ownRows bases from j ++ (ownRow bases (getD ownTable (from + j) noOwn) ∷ [])
+  unfolding ownRows
+  listed-next j h =
+      rw (take-suc (drop from ownTable) j noOwn (rw length-drop (omega arith)), map-append, getD-drop from ownTable j noOwn)
+
+  -- one row of the table more: x and y are what it names
+  pub written-next : (image now later : List ℕ) (b j x y : ℕ) → from + j < length ownTable
+      → now ≡ writtenRows image b (ownRows bases from j)
+      → x ≡ rowAt bases (getD ownTable (from + j) noOwn .1)
+      → y ≡ rowAt bases (getD ownTable (from + j) noOwn .2)
+      → later ≡ sets now (rowBytes * (b + j)) (rowNumbersBytes (getD ownTable (from + j) noOwn .0) x y)
+      → later ≡ writtenRows image b (ownRows bases from (suc j))
+  written-next image now later b j x y h e f g w =
+      let rs = ownRows bases from j in
+      let r = ownRow bases (getD ownTable (from + j) noOwn) in
+      let n : b + j ≡ b + length rs = rw (length-listed j (omega arith)) in
+      w ∙ rw (e, f, g, listed-next j h) (sets-row (writtenRows image b rs) (b + j) r ∙ written-row image b (b + j) rs r n)
