@@ -17,7 +17,8 @@ use Rattle.contract.specs.Reader.{fieldsOf, operandsOf, readRecord, readRecords
 use Rattle.compiler.specs.Widths.{afterExpression, afterClause}
 use Rattle.compiler.specs.Blocks.{endRow, liveRow, expressionRows, outputsOf, clauseRows}
 use Rattle.compiler.specs.Images.{rowsFor, image, imageFor}
-use Rattle.compiler.specs.Examples.{linesFrom, lines, repliesFrom, replies, KindVectors, StudentVectors, WatchVector}
+use Rattle.compiler.specs.Examples.{linesFrom, lines, repliesFrom, replies, KindVectors, StudentVectors, WatchVector, CompileVectors}
+use Rattle.compiler.specs.Calls.{compileReply, compile}
 
 pub student-vectors : StudentVectors
 unfolding
@@ -47,3 +48,9 @@ unfolding
     imageTest goodLength rowCount firstFailing goodRowAt goodEnd decode rowOf imageOf rowsOf stateTest stateOf stateBytes sound allAtMost allZero
     recordTest marksTest recordCount countTest afterPeriod valuesAfter newValues computed counted periodAt tries bit marked bytes field value
 watch-vector = record { replied = refl }
+
+pub compile-vectors : CompileVectors
+unfolding
+    compile compileReply read Reader.goodLength Reader.recordCount readRecords readRecord numbered kindOf fieldsOf operandsOf node imageFor image
+    rowsFor clauseRows outputsOf imageBytes rowsBytes endBytes encode rowCount marked bytes
+compile-vectors = record { taken = refl; short = refl; clause-first = refl; no-room = refl }

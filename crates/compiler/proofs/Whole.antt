@@ -105,8 +105,9 @@ module _ (contract : List ℕ) (n : ℕ) (image : List ℕ) (w : Writes contract
     rows-are : later ≡ sets image 0 (rowsBytes (rowsFor c))
     rows-are = e .rows-are 0 clause c ends ∙ rows-written c image
 
-    pub end-room : rowBytes * r .next + rowBytes ≤ length later
-    end-room = rw (block-is, rows-are, length-sets) (omega (arith, room))
+    -- there are the fixed rows at least, and room for the end record
+    pub end-room : (fixedRows ≤ r .next) × (rowBytes * r .next + rowBytes ≤ length later)
+    end-room = rw (block-is, rows-are, length-sets) (omega (arith, room, after-tree clause c fixedRows firstRow laterRow))
 
     pub image-is : sets later (rowBytes * r .next) (endRecord (r .first) (r .second) (r .third)) ≡ sets image 0 (imageFor contract)
     unfolding endRecord endBytes Images.image

@@ -1,6 +1,7 @@
--- Vectors of the image, a dozen: every kind, every error of document 01's "What students hand in", and the example of "Watch" through the bytes.
+-- Vectors of the image, a dozen: every kind, every error of document 01's "What students hand in", and the example of "Watch" through the bytes;
+-- and vectors of compile.
 use Prim.Native.Nat.{ℕ, _+_}
-use mathlib.Core.List.{List, [], _∷_}
+use mathlib.Core.List.{List, [], _∷_, _++_}
 use mathlib.Core.Path.{_≡_}
 use lib.ListN.{length, replicate}
 use Rattle.records.specs.Periods.{party1, party2, Period}
@@ -15,6 +16,7 @@ use Rattle.contract.specs.Expressions.{any, tries, idle, succeeds, fails, atom,
 use Rattle.contract.specs.Meaning.{Clause, both, then, repair, repeat, when, until}
 use Rattle.contract.specs.Examples.{a, b, duty, ban, power, nothing, just-a, just-b, one-period}
 use Rattle.compiler.specs.Images.{image, imageFor}
+use Rattle.compiler.specs.Calls.{compileReply, compileReplyBytes, unwritten, written, compile}
 
 -- verdict, blame and decision period
 abbrev pub Line : Type 0
@@ -122,3 +124,21 @@ pub record WatchVector : Type 0 where
   pub replied :
       replies watchedBytes watchedRecords
       ≡ says «open» 0 0 ∷ says «open» 0 0 ∷ says broken 2 3 ∷ says broken-after 2 3 ∷ []
+
+-- ---- compile
+
+-- a contract of one duty, and of one expression
+abbrev pub dutyBytes : List ℕ
+dutyBytes = 0x54 ∷ 0x43 ∷ 0x01 ∷ 0x01 ∷ 0x00 ∷ 0x00 ∷ []
+
+abbrev pub anyBytes : List ℕ
+anyBytes = 0x54 ∷ 0x43 ∷ 0x10 ∷ 0x00 ∷ 0x00 ∷ 0x00 ∷ []
+
+pub record CompileVectors : Type 0 where
+  -- the eleven rows and the end record are 96 bytes; the buffer's other bytes are as they were
+  pub taken : compile dutyBytes (area 776) (area compileReplyBytes)
+      ≡ written (imageFor dutyBytes ++ area 680) (area compileReplyBytes) (compileReply 0 11 0)
+  pub short : compile dutyBytes (area 775) (area compileReplyBytes) ≡ written (area 775) (area compileReplyBytes) (compileReply 8 0 0)
+  -- 6 is tested before 8
+  pub clause-first : compile anyBytes [] (area compileReplyBytes) ≡ written [] (area compileReplyBytes) (compileReply 6 0 1)
+  pub no-room : compile dutyBytes (area 776) (area 15) ≡ unwritten (area 776) (area 15)

