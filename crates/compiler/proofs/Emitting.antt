@@ -2,33 +2,32 @@
 -- end with its operands, and its own rows round theirs are the tree's rows.
 -- Assumes nothing.
 use Prim.Native.Nat.{ℕ, zero, suc, _+_, _*_, _-_, _^_, _≤_, _<_}
-use native.Mathlib.Nat.{zero-add}
 use native.Mathlib.Omega.{arith}
 use mathlib.Core.Bool.{Bool, true, false, cond}
 use mathlib.Core.List.{List, [], _∷_, _++_, map, map-append, append-assoc, append-nil}
 use mathlib.Core.Option.{some}
-use mathlib.Core.Path.{_≡_, refl, sym, ap, _∙_}
+use mathlib.Core.Path.{_≡_, refl, sym, _∙_}
 use lib.Dec.{eqb, lit<}
 use lib.ListN.{length, take, getD, length-append, length-map}
 use lib.Seq.{take-at, take-take, getD-take, getD-append-add, length-take-le}
 use Rattle.runner.specs.Limits.{rowBytes, maxRows}
 use Rattle.contract.specs.Limits.{recordBytes}
-use Rattle.contract.specs.Table.{Sort, clause, expression, Kind, line, kindOf}
+use Rattle.contract.specs.Table.{Sort, Kind, line, kindOf}
 use Rattle.contract.specs.Table.{duty, ban, power, both, then, repair, repeat, when, until, any, tries, idle, succeeds, fails, seq, or, star}
 use Rattle.contract.specs.Trees.{Tree, Trees, Fields, node}
 use Rattle.contract.specs.Spelling.{recordOf}
 use Rattle.contract.specs.Codes.{operandCount}
 use Rattle.contract.proofs.Table.{kind-number}
 use Rattle.contract.proofs.Codes.{few-operands}
-use Rattle.contract.proofs.Spelling.{All, spellTree, treeRecords, spellTrees, treesRecords, partyByte, actionByte, recordWith, length-record, spell-node, records-node, length-tree, length-spellTrees, on-tree}
+use Rattle.contract.proofs.Spelling.{spellTree, treeRecords, spellTrees, treesRecords, partyByte, actionByte, recordWith, spell-node, records-node, length-tree, length-spellTrees, on-tree}
 use Rattle.compiler.specs.declared.Block.{Block}
 use Rattle.compiler.specs.declared.Plan.{Plan}
 use Rattle.compiler.specs.declared.Wires.{Wires}
 use Rattle.compiler.specs.Widths.{width, inside}
-use Rattle.compiler.specs.Plans.{RowNumbers, numbersOf, writtenRows, ownTable, planOf, noBlock, basesOf, ownRows, ownWritten, ownBlock, wiresOf, treeRows, afterTree, blockOf, EndsWith, Emitted, Small, OwnRows, RecordRows, Emits}
+use Rattle.compiler.specs.Plans.{numbersOf, writtenRows, ownTable, planOf, noBlock, basesOf, ownWritten, ownBlock, wiresOf, treeRows, afterTree, blockOf, EndsWith, Emitted, Small, RecordRows, Emits}
 use Rattle.compiler.proofs.Goodness.{⊹-plus}
 use Rattle.compiler.proofs.Writing.{written-none, written-after, written-around}
-use Rattle.compiler.proofs.Plans.{leftBlock, rightBlock, operandRows, nodeBases, rows-node, block-node, before-is, after-node, after-tree, listed, length-own, BlockInside, block-inside}
+use Rattle.compiler.proofs.Plans.{leftBlock, rightBlock, operandRows, nodeBases, rows-node, block-node, before-is, after-node, after-tree, listed, length-own, Given, block-inside}
 
 -- ---- every tree is a node
 
@@ -294,12 +293,6 @@ small-if : (t : Bool) {x y : ℕ} → x < 256 ^ 2 → y < 256 ^ 2 → cond t x y
 small-if true h i = h
 small-if false h i = i
 
--- the rows that a block gives out are below n
-record Given (r : Block) (n : ℕ) : Type 0 where
-  first-is : r .first < n
-  second-is : r .second < n
-  third-is : r .third < n
-
 small-bases : (n b S K : ℕ) (left right : Block) (party action : ℕ) → n ≤ maxRows → b ≤ n → S < b → K < b → left .next ≤ n
     → Given left n → Given right n → party < 256 → action < 256 → Small (basesOf b S K left right party action)
 small-bases n b S K left right party action m h i j e l r p a =
@@ -443,7 +436,6 @@ record Opened (contract : List ℕ) (n : ℕ) (image : List ℕ) (b S K last kin
   k : Kind
   f : Fields k
   ts : Trees (line k .operands)
-  last-one : Last contract n k f
   is : Known k f kind party action count p
   told : Room contract last image (b + p .1) S (wiresOf p b S K) before (line k .operands) ts
   room : rowBytes * (leftBlock (line k .operands) ts before (b + p .1) S .next + p .2) ≤ length image
@@ -476,7 +468,6 @@ module _ {contract : List ℕ} {n : ℕ} {image : List ℕ} {b S K : ℕ} (e : E
               k = k;
               f = f;
               ts = ts;
-              last-one = l;
               is = is;
               told =
                   rw (is .plan-is, inside-is k b, reads .last-is) record {

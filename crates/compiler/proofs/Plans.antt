@@ -218,13 +218,13 @@ length-own bases k =
 
 -- ---- bounds
 
--- the rows that a block gives out stand before the row after it
-pub record BlockInside (r : Block) (b : ℕ) : Type 0 where
-  pub past : b ≤ r .next
-  pub first-inside : r .first < r .next
-  pub second-inside : r .second < r .next
-  pub third-inside : r .third < r .next
+-- the rows that a block gives out are below n
+pub record Given (r : Block) (n : ℕ) : Type 0 where
+  pub first-is : r .first < n
+  pub second-is : r .second < n
+  pub third-is : r .third < n
 
-pub block-inside : (s : Sort) (t : Tree s) (m b S : ℕ) → S < b → BlockInside (blockOf s t m b S) b
+-- a tree's rows are those up to the row after it, and what its block gives out stands before that
+pub block-inside : (s : Sort) (t : Tree s) (m b S : ℕ) → S < b → (b ≤ afterTree s t b) × Given (blockOf s t m b S) (afterTree s t b)
 block-inside clause c m b S h = let i = inside-clause c b (omega arith) in omega arith
 block-inside expression e m b S h = let i = inside-expression e b S h in omega arith
