@@ -1,4 +1,5 @@
-/* The calls of the monitor's runner. Document 01, "Calls" and "Replies that refuse". */
+/* The monitor's calls: compile of libcompiler.a; begin, step and run of librunner.a, which needs no other. */
+/* Document 01, "Calls" and "Replies that refuse". */
 #ifndef MONITOR_H
 #define MONITOR_H
 
@@ -9,17 +10,32 @@
 extern "C" {
 #endif
 
-/* Sizes in bytes, and the most rows of an image. */
+/* Sizes in bytes, the most records of a contract, and the most rows of an image. */
 enum {
+    MONITOR_RECORD_BYTES = 6,   /* a contract record */
+    MONITOR_MOST_RECORDS = 64,
     MONITOR_ROW_BYTES = 8,      /* a row, and the end record */
     MONITOR_HEAD_BYTES = 10,    /* a state before its row values */
     MONITOR_PERIOD_BYTES = 6,   /* a period record */
     MONITOR_MOST_ROWS = 2112
 };
 
+/* The least bytes of an image buffer for a contract of so many records; those of an image of so many rows, and of its state. */
+#define MONITOR_BUFFER_BYTES(records) (MONITOR_ROW_BYTES * (32 * (size_t)(records) + 65))
+#define MONITOR_IMAGE_BYTES(rows) (MONITOR_ROW_BYTES * ((size_t)(rows) + 1))
+#define MONITOR_STATE_BYTES(rows) (MONITOR_HEAD_BYTES + (size_t)(rows))
+
 /* Refusal numbers; 0 is an accepted call. */
 enum {
     MONITOR_ACCEPTED = 0,
+    MONITOR_BAD_LENGTH = 1,     /* contract empty, no multiple of 6 bytes, or over 64 records; place: 0 */
+    MONITOR_BAD_MARK = 2,       /* place in 2 to 5 and 7: the first record at fault */
+    MONITOR_UNKNOWN_KIND = 3,
+    MONITOR_BAD_FIELD = 4,      /* out of range, or unused and not 0 */
+    MONITOR_BAD_OPERANDS = 5,   /* missing, or of the wrong sort */
+    MONITOR_NOT_ONE_CLAUSE = 6, /* at the end; place: the record count */
+    MONITOR_EMPTY_LIST = 7,     /* held by an expression under when or until */
+    MONITOR_SHORT_BUFFER = 8,   /* image buffer under MONITOR_BUFFER_BYTES(records); place: 0 */
     MONITOR_BAD_IMAGE = 9,      /* place: the first bad row, the row count for the end record */
     MONITOR_BAD_STATE = 10,     /* place: 0 */
     MONITOR_BAD_PERIOD = 11,    /* place: the first record of wrong mark, 0 for a wrong length */
@@ -33,6 +49,13 @@ enum {
     MONITOR_BROKEN = 2,
     MONITOR_MET_AFTER = 3,
     MONITOR_BROKEN_AFTER = 4
+};
+
+/* Compile's reply: 16 bytes, low byte first. */
+struct monitor_compile_reply {
+    uint32_t number;            /* 0, or the refusal */
+    uint32_t rows;              /* of the image, 0 in a refusal */
+    uint64_t place;
 };
 
 /* Begin's reply: 16 bytes, low byte first. */
@@ -55,7 +78,12 @@ struct monitor_reply {
 /* The result is 1, or 0 where the reply area is too short: then nothing is written. */
 /* A refusal writes the reply alone. */
 
-/* Sets the state to zeros; the state has 10 + rows bytes. */
+/* Writes the contract's image into the first MONITOR_IMAGE_BYTES(rows) bytes of the buffer, and no others. */
+uint32_t monitor_compile(const uint8_t *contract, size_t contract_length,
+                         uint8_t *image, size_t image_length,
+                         uint8_t *reply, size_t reply_length);
+
+/* Sets the state to zeros; the state has MONITOR_STATE_BYTES(rows) bytes. */
 uint32_t monitor_begin(const uint8_t *image, size_t image_length,
                        uint8_t *state, size_t state_length,
                        uint8_t *reply, size_t reply_length);
