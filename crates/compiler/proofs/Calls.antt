@@ -21,25 +21,18 @@ use Rattle.contract.specs.declared.Answer.the-variants.{Refused, Taken}
 use Rattle.contract.specs.Limits.{maxRecords}
 use Rattle.contract.specs.Meaning.{Clause}
 use Rattle.contract.specs.Reader.{taken, read, faultNumber, recordCount, answer, numberOf, placeOf}
-use Rattle.contract.proofs.Reader.{taken-count, spells-taken}
+use Rattle.contract.specs.Codes.{Contract}
+use Rattle.contract.proofs.Reader.{taken-count}
 use Rattle.contract.proofs.Answers.{answer-refused, answer-taken}
+use Rattle.compiler.specs.Widths.{bufferBytes}
 use Rattle.compiler.specs.Images.{imageFor}
 use Rattle.compiler.specs.Plans.{Writes}
-use Rattle.compiler.specs.Calls.{compileReply, compileReplyBytes, shortBuffer, bufferBytes, After, unwritten, refusal, accepted, compile, Serves, Compiles}
+use Rattle.compiler.specs.Calls.{compileReply, compileReplyBytes, shortBuffer, After, unwritten, refusal, accepted, compile, Usable, Compiles}
 use Rattle.compiler.proofs.Images.{right-for, sized-for}
 use Rattle.compiler.proofs.Monitors.{monitors}
 
--- the contract is read as a clause of so many records
-record Read (contract : List ℕ) (n : ℕ) : Type 0 where
-  clause : Clause
-  is : read contract ≡ taken clause
-  count : recordCount contract ≡ n
-
-read-as : (contract : List ℕ) (n : ℕ) → answer contract ≡ Taken n → Read contract n
-read-as contract n e =
-    let k = answer-taken contract n e in
-    let t = spells-taken contract (k .clause) (k .spells) in
-    record { clause = k .clause; is = t; count = taken-count contract (k .clause) t ∙ sym (k .count) }
+recordCount-is : (contract : List ℕ) (n : ℕ) (k : Contract contract n) → recordCount contract ≡ n
+recordCount-is contract n k = taken-count contract (k .clause) (k .is) ∙ sym (k .count)
 
 -- ---- the image and the reply in their places
 
@@ -75,8 +68,8 @@ module _ (contract buffer reply : List ℕ) (c : Clause) (e : read contract ≡ 
     replied-place : field (sets reply 0 vs) 8 8 ≡ 0
     replied-place = in-reply 8 8 0 (omega arith) (unfold compileReply bytes field in value-bytes-lt 8 {n = 0} (lit< tt))
 
-  serves : Serves contract (sets buffer 0 (imageFor contract)) (sets reply 0 (compileReply 0 (rowCount (imageFor contract)) 0))
-  serves =
+  usable : Usable contract (sets buffer 0 (imageFor contract)) (sets reply 0 (compileReply 0 (rowCount (imageFor contract)) 0))
+  usable =
       let n : ℕ = rowCount (imageFor contract) in
       record {
         count = n;
@@ -91,12 +84,12 @@ module _ (contract buffer reply : List ℕ) (c : Clause) (e : read contract ≡ 
 -- ---- the ways out
 
 module _ (contract buffer reply : List ℕ) where
-  -- where the call leaves this, and serves a contract that is taken
+  -- where the call leaves this, and usable a contract that is taken
   compiles : (a : After) → compile contract buffer reply ≡ a
       → ((c : Clause) → read contract ≡ taken c → compileReplyBytes ≤ length reply → bufferBytes (recordCount contract) ≤ length buffer
-      → Serves contract (a .image) (a .reply))
-      → Compiles contract buffer reply (a .result) (a .image) (a .reply)
-  compiles a e s = record { result-is = rw e; buffer-is = rw e; reply-is = rw e; serves = s }
+      → Usable contract (a .buffer) (a .reply))
+      → Compiles contract buffer reply (a .result) (a .buffer) (a .reply)
+  compiles a e s = record { result-is = rw e; buffer-is = rw e; reply-is = rw e; usable = s }
 
   pub no-room : length reply < compileReplyBytes → Compiles contract buffer reply 0 buffer reply
   unfolding compile
@@ -117,19 +110,20 @@ module _ (contract buffer reply : List ℕ) where
       → Compiles contract buffer reply 1 buffer (sets reply 0 (compileReply shortBuffer 0 0))
   unfolding compile
   short h n e i =
-      let r = read-as contract n e in
+      let k = answer-taken contract n e in
+      let r = recordCount-is contract n k in
       compiles (refusal shortBuffer 0 buffer reply)
-      (rw (le-ltb (length reply) compileReplyBytes h, r .is, r .count, lt-ltb (length buffer) (bufferBytes n) i))
-      (λ c t j b. absurd (omega (arith, r .count)))
+      (rw (le-ltb (length reply) compileReplyBytes h, k .is, r, lt-ltb (length buffer) (bufferBytes n) i))
+      (λ c t j b. absurd (omega (arith, r)))
 
   pub served : compileReplyBytes ≤ length reply → (n : ℕ) → answer contract ≡ Taken n → bufferBytes n ≤ length buffer
       → Compiles contract buffer reply 1 (sets buffer 0 (imageFor contract)) (sets reply 0 (compileReply 0 (rowCount (imageFor contract)) 0))
   unfolding compile imageFor
   served h n e i =
-      let r = read-as contract n e in
+      let k = answer-taken contract n e in
       compiles (accepted (imageFor contract) buffer reply)
-      (rw (le-ltb (length reply) compileReplyBytes h, r .is, r .count, le-ltb (length buffer) (bufferBytes n) i))
-      (serves contract buffer reply)
+      (rw (le-ltb (length reply) compileReplyBytes h, k .is, recordCount-is contract n k, le-ltb (length buffer) (bufferBytes n) i))
+      (usable contract buffer reply)
 
 -- ---- a contract that is taken
 
@@ -138,6 +132,4 @@ few-records contract n e = let k = answer-taken contract n e in omega (arith, k 
 
 -- with a buffer that does not meet 8, it may be written
 pub may-write : (contract buffer : List ℕ) (n : ℕ) → answer contract ≡ Taken n → bufferBytes n ≤ length buffer → Writes contract n buffer
-may-write contract buffer n e h =
-    let k = answer-taken contract n e in
-    record { spelled = k .clause; spells = k .spells; count = k .count; room = h }
+may-write contract buffer n e h = record { taken = answer-taken contract n e; room = h }

@@ -15,19 +15,19 @@ use Rattle.contract.specs.Limits.{recordBytes}
 use Rattle.contract.specs.Table.{Sort, Kind, line, kindOf}
 use Rattle.contract.specs.Table.{duty, ban, power, both, then, repair, repeat, when, until, any, tries, idle, succeeds, fails, seq, or, star}
 use Rattle.contract.specs.Trees.{Tree, Trees, Fields, node}
-use Rattle.contract.specs.Spelling.{recordOf}
+use Rattle.contract.specs.Spelling.{recordOf, spellTree, treeRecords}
 use Rattle.contract.specs.Codes.{operandCount}
 use Rattle.contract.proofs.Table.{kind-number}
 use Rattle.contract.proofs.Codes.{few-operands}
-use Rattle.contract.proofs.Spelling.{spellTree, treeRecords, spellTrees, treesRecords, partyByte, actionByte, recordWith, spell-node, records-node, length-tree, length-spellTrees, on-tree}
+use Rattle.contract.proofs.Spelling.{spellTrees, treesRecords, partyByte, actionByte, recordWith, spell-node, records-node, length-tree, length-spellTrees, on-tree}
 use Rattle.compiler.specs.declared.Block.{Block}
 use Rattle.compiler.specs.declared.Plan.{Plan}
 use Rattle.compiler.specs.declared.Wires.{Wires}
 use Rattle.compiler.specs.Widths.{width, inside}
-use Rattle.compiler.specs.Plans.{numbersOf, writtenRows, ownTable, planOf, noBlock, basesOf, ownWritten, ownBlock, wiresOf, treeRows, afterTree, blockOf, EndsWith, Emitted, Small, RecordRows, Emits}
+use Rattle.compiler.specs.Plans.{numbersOf, writtenRows, rowTable, planOf, noBlock, basesOf, recordWritten, recordBlock, wiresOf, treeRows, afterTree, blockOf, EndsWith, Emitted, Small, RecordRows, Emits}
 use Rattle.compiler.proofs.Goodness.{⊹-plus}
 use Rattle.compiler.proofs.Writing.{written-none, written-after, written-around}
-use Rattle.compiler.proofs.Plans.{leftBlock, rightBlock, operandRows, nodeBases, rows-node, block-node, before-is, after-node, after-tree, listed, length-own, Given, block-inside}
+use Rattle.compiler.proofs.Plans.{leftBlock, rightBlock, operandRows, nodeBases, rows-node, block-node, before-is, after-node, after-tree, listed, length-kindRows, Given, block-inside}
 
 -- ---- every tree is a node
 
@@ -42,7 +42,6 @@ seen = on-tree View (λ k f ts h. view k f ts)
 -- the last of the first n records has this kind and these fields
 pub record Last (contract : List ℕ) (n : ℕ) (k : Kind) (f : Fields k) : Type 0 where
   pub some-record : 1 ≤ n
-  pub whole : recordBytes * n ≤ length contract
   pub kind-is : getD contract (recordBytes * (n - 1) + 2) 0 ≡ line k .number
   pub party-is : getD contract (recordBytes * (n - 1) + 3) 0 ≡ partyByte (line k .usesParty) (f .party)
   pub action-is : getD contract (recordBytes * (n - 1) + 4) 0 ≡ actionByte (line k .usesAction) (f .action)
@@ -105,7 +104,6 @@ module _ (contract : List ℕ) where
         λ i h. byte-at n (recordBytes * (n - 1)) front (recordWith k f) i (s .spelled) length-front (omega arith) in
         record {
           some-record = omega arith;
-          whole = s .whole;
           kind-is = byte 2 (omega arith);
           party-is = byte 3 (omega arith);
           action-is = byte 4 (omega arith);
@@ -163,8 +161,8 @@ module _ {contract : List ℕ} {last : ℕ} {image : List ℕ} {b S : ℕ} {w : 
           → Placed image b S w later (noBlock (r .before) (r .next)) r m ss ts
       each m [] ts h e = absurd (omega arith)
       each m (s ∷ []) ts h e =
-          let is = g .block-is m s (ts .0) e in
-          record { rows-are = g .rows-are m s (ts .0) e; left-is = rw is; right-is = is }
+          let is = g .tree-is m s (ts .0) e in
+          record { rows-are = is .0; left-is = rw (is .1); right-is = is .1 }
       each m (s ∷ s′ ∷ ss) ts h e = absurd (omega arith)
 
   pub written-two : {later latest : List ℕ} {r l : Block} → Emitted contract last image b (w .start) (w .go) later r
@@ -175,27 +173,27 @@ module _ {contract : List ℕ} {last : ℕ} {image : List ℕ} {b S : ℕ} {w : 
       each m [] ts i e = absurd (omega arith)
       each m (s ∷ []) ts i e = absurd (omega arith)
       each m (s ∷ s′ ∷ []) ts i e =
-          let is = g .block-is (m + treeRecords s (ts .0)) s′ (ts .1 .0) (e .0) in
-          let ends : EndsWith contract (r .before) m s (ts .0) = rw is (e .1) in
-          let n : r .next ≡ afterTree s′ (ts .1 .0) b = rw is in
+          let is = g .tree-is (m + treeRecords s (ts .0)) s′ (ts .1 .0) (e .0) in
+          let ends : EndsWith contract (r .before) m s (ts .0) = rw (is .1) (e .1) in
+          let n : r .next ≡ afterTree s′ (ts .1 .0) b = rw (is .1) in
+          let left = h .tree-is m s (ts .0) ends in
           record {
             rows-are =
-                h .rows-are m s (ts .0) ends
-                ∙ rw (g .rows-are (m + treeRecords s (ts .0)) s′ (ts .1 .0) (e .0), n, map-append)
+                left .0
+                ∙ rw (is .0, n, map-append)
                 (written-after image b (afterTree s′ (ts .1 .0) b) _ _ (rw length-map (after-tree s′ (ts .1 .0) b (w .start) (w .go))));
-            left-is = rw (← n) (h .block-is m s (ts .0) ends);
-            right-is = is;
+            left-is = rw (← n) (left .1);
+            right-is = is .1;
           }
       each m (s ∷ s′ ∷ s″ ∷ ss) ts i e = absurd (omega arith)
 
 -- ---- what the program knows of the last record
 
 -- its bytes, its kind's plan and how many operands it has
-pub record Reads (contract : List ℕ) (n last kind party action count : ℕ) (p : Plan) : Type 0 where
-  pub last-is : last ≡ n - 1
-  pub kind-is : kind ≡ getD contract (recordBytes * last + 2) 0
-  pub party-is : party ≡ getD contract (recordBytes * last + 3) 0
-  pub action-is : action ≡ getD contract (recordBytes * last + 4) 0
+pub record Reads (contract : List ℕ) (n kind party action count : ℕ) (p : Plan) : Type 0 where
+  pub kind-is : kind ≡ getD contract (recordBytes * (n - 1) + 2) 0
+  pub party-is : party ≡ getD contract (recordBytes * (n - 1) + 3) 0
+  pub action-is : action ≡ getD contract (recordBytes * (n - 1) + 4) 0
   pub plan-is : (k : Kind) → kindOf kind ≡ some k → p ≡ planOf k
   pub count-is : count ≡ operandCount (kindOf kind)
 
@@ -220,15 +218,15 @@ next-left (s ∷ s′ ∷ []) ts m b S w h =
     (omega (arith, after-tree s′ (ts .1 .0) b (w .start) (w .go), after-tree s (ts .0) (afterTree s′ (ts .1 .0) b) S (w .keep)))
 next-left (s ∷ s′ ∷ s″ ∷ ss) ts m b S w h = absurd (omega arith)
 
-module _ {contract : List ℕ} {n last kind party action count : ℕ} {p : Plan} (reads : Reads contract n last kind party action count p) where
+module _ {contract : List ℕ} {n kind party action count : ℕ} {p : Plan} (reads : Reads contract n kind party action count p) where
   known : (k : Kind) (f : Fields k) → Last contract n k f → Known k f kind party action count p
   known k f l =
-      let i : kind ≡ line k .number = rw (reads .kind-is, reads .last-is) (l .kind-is) in
+      let i : kind ≡ line k .number = reads .kind-is ∙ l .kind-is in
       let j : kindOf kind ≡ some k = rw i (kind-number k) in
       record {
         kind-is = i;
-        party-is = rw (reads .party-is, reads .last-is) (l .party-is);
-        action-is = rw (reads .action-is, reads .last-is) (l .action-is);
+        party-is = reads .party-is ∙ l .party-is;
+        action-is = reads .action-is ∙ l .action-is;
         plan-is = reads .plan-is k j;
         count-is = rw (reads .count-is, j);
       }
@@ -236,23 +234,23 @@ module _ {contract : List ℕ} {n last kind party action count : ℕ} {p : Plan}
   -- ---- the record's own rows round its operands' rows are the tree's
 
   module _ (b S K : ℕ) {image later latest : List ℕ} {left right r : Block}
-      (w : Written contract last count image (b + p .1) S (wiresOf p b S K) later left right)
-      (rows : latest ≡ ownWritten later (basesOf b S K left right party action) p b (left .next))
-      (gives : r ≡ ownBlock (basesOf b S K left right party action) p kind party left right) where
+      (w : Written contract (n - 1) count image (b + p .1) S (wiresOf p b S K) later left right)
+      (rows : latest ≡ recordWritten later (basesOf b S K left right party action) p b (left .next))
+      (gives : r ≡ recordBlock (basesOf b S K left right party action) p kind party left right) where
     module _ (m : ℕ) (k : Kind) (f : Fields k) (ts : Trees (line k .operands)) (e : EndsWith contract n m (line k .completes) (node k f ts)) where
       placed : Placed image (inside k b) S (wiresOf (planOf k) b S K) later left right m (line k .operands) ts
       placed =
           let i = known k f (ends-last contract n m k f ts e) in
           let o = ends-operands contract n m k f ts e in
-          let d = w .placed m (line k .operands) ts (i .count-is) (rw (reads .last-is) o) in
+          let d = w .placed m (line k .operands) ts (i .count-is) o in
           rw (i .plan-is, inside-is k b) at d
 
       node-rows : latest ≡ writtenRows image b (map numbersOf (treeRows (line k .completes) (node k f ts) b S K))
-      unfolding ownWritten
+      unfolding recordWritten
       node-rows =
           let i = known k f (ends-last contract n m k f ts e) in
           let d = placed in
-          let l = length-own (nodeBases k f ts m b S K) k in
+          let l = length-kindRows (nodeBases k f ts m b S K) k in
           rw (rows, i .plan-is, i .party-is, i .action-is, d .rows-are, d .left-is, d .right-is, rows-node k f ts m b S K)
           (written-around image b (inside k b) _ _ _ _ (rw (l .0) (sym (inside-is k b)))
           (rw length-map (next-left (line k .operands) ts m (inside k b) S (wiresOf (planOf k) b S K) (few-operands k))))
@@ -264,18 +262,11 @@ module _ {contract : List ℕ} {n last kind party action count : ℕ} {p : Plan}
           rw (gives, i .plan-is, i .kind-is, i .party-is, i .action-is, d .left-is, d .right-is) (sym (block-node k f ts m b S K))
 
     pub emitted : Emitted contract n image b S K latest r
-    emitted =
-        record {
-          rows-are = λ m s t e. rows-of m s t (seen s t) e;
-          block-is = λ m s t e. block-of m s t (seen s t) e;
-        }
+    emitted = record { tree-is = λ m s t e. at m s t (seen s t) e }
       where
-        rows-of : (m : ℕ) (s : Sort) (t : Tree s) → View s t → EndsWith contract n m s t
-            → latest ≡ writtenRows image b (map numbersOf (treeRows s t b S K))
-        rows-of m s t (view k f ts) e = node-rows m k f ts e
-
-        block-of : (m : ℕ) (s : Sort) (t : Tree s) → View s t → EndsWith contract n m s t → r ≡ blockOf s t m b S
-        block-of m s t (view k f ts) e = node-block m k f ts e
+        at : (m : ℕ) (s : Sort) (t : Tree s) → View s t → EndsWith contract n m s t
+            → (latest ≡ writtenRows image b (map numbersOf (treeRows s t b S K))) × (r ≡ blockOf s t m b S)
+        at m s t (view k f ts) e = (node-rows m k f ts e, node-block m k f ts e)
 
 -- ---- small numbers
 
@@ -342,7 +333,6 @@ wires-inside star b S K h i = omega arith
 -- ---- there is room for the operands' rows
 
 record Room (contract : List ℕ) (last : ℕ) (image : List ℕ) (b S : ℕ) (w : Wires) (m : ℕ) (ss : List Sort) (ts : Trees ss) : Type 0 where
-  two : length ss ≤ 2
   ends : OperandsEnd contract last m ss ts
   room : rowBytes * leftBlock ss ts m b S .next ≤ length image
   few : leftBlock ss ts m b S .next ≤ maxRows
@@ -409,7 +399,7 @@ module _ {contract : List ℕ} {last : ℕ} {image : List ℕ} {b S : ℕ} {w : 
   left-room m (s ∷ []) ts r h i g l = absurd (i refl)
   left-room m (s ∷ s′ ∷ ss) ts r h i g l =
       let t = r .told in
-      let is = g .block-is (m + treeRecords s (ts .0)) s′ (ts .1 .0) (r .ends .0) in
+      let is = g .tree-is (m + treeRecords s (ts .0)) s′ (ts .1 .0) (r .ends .0) .1 in
       let j = block-inside s′ (ts .1 .0) (m + treeRecords s (ts .0)) b (w .start) (t .start-is) in
       let b′ = r .begins in
       let keep = t .keep-is in
@@ -431,31 +421,29 @@ module _ {contract : List ℕ} {last : ℕ} {image : List ℕ} {b S : ℕ} {w : 
 -- ---- what the writer may do, from what it is given
 
 -- the last record with its operands, for which there is room
-record Opened (contract : List ℕ) (n : ℕ) (image : List ℕ) (b S K last kind party action count : ℕ) (p : Plan) : Type 0 where
+record Opened (contract : List ℕ) (n : ℕ) (image : List ℕ) (b S K kind party action count : ℕ) (p : Plan) : Type 0 where
   before : ℕ
   k : Kind
   f : Fields k
   ts : Trees (line k .operands)
   is : Known k f kind party action count p
-  told : Room contract last image (b + p .1) S (wiresOf p b S K) before (line k .operands) ts
+  told : Room contract (n - 1) image (b + p .1) S (wiresOf p b S K) before (line k .operands) ts
   room : rowBytes * (leftBlock (line k .operands) ts before (b + p .1) S .next + p .2) ≤ length image
   few : leftBlock (line k .operands) ts before (b + p .1) S .next + p .2 ≤ maxRows
 
 module _ {contract : List ℕ} {n : ℕ} {image : List ℕ} {b S K : ℕ} (e : Emits contract n image b S K) where
   pub some-record : (1 ≤ n) × (recordBytes * n ≤ length contract)
-  some-record = at (e .sort) (e .tree) (seen (e .sort) (e .tree)) (e .ends)
+  some-record = (at (e .sort) (e .tree) (seen (e .sort) (e .tree)) (e .ends), e .ends .whole)
     where
-      at : (s : Sort) (t : Tree s) → View s t → EndsWith contract n (e .before) s t → (1 ≤ n) × (recordBytes * n ≤ length contract)
-      at s t (view k f ts) i =
-          let l = ends-last contract n (e .before) k f ts i in
-          (l .some-record, l .whole)
+      at : (s : Sort) (t : Tree s) → View s t → EndsWith contract n (e .before) s t → 1 ≤ n
+      at s t (view k f ts) i = ends-last contract n (e .before) k f ts i .some-record
 
-  module _ {last kind party action count : ℕ} {p : Plan} (reads : Reads contract n last kind party action count p) where
-    opened : Opened contract n image b S K last kind party action count p
+  module _ {kind party action count : ℕ} {p : Plan} (reads : Reads contract n kind party action count p) where
+    opened : Opened contract n image b S K kind party action count p
     opened = at (e .sort) (e .tree) (seen (e .sort) (e .tree)) (e .ends) (e .room) (e .few)
       where
         at : (s : Sort) (t : Tree s) → View s t → EndsWith contract n (e .before) s t → rowBytes * afterTree s t b ≤ length image
-            → afterTree s t b ≤ maxRows → Opened contract n image b S K last kind party action count p
+            → afterTree s t b ≤ maxRows → Opened contract n image b S K kind party action count p
         at s t (view k f ts) i r h =
             let m = e .before in
             let l = ends-last contract n m k f ts i in
@@ -470,8 +458,7 @@ module _ {contract : List ℕ} {n : ℕ} {image : List ℕ} {b S K : ℕ} (e : E
               ts = ts;
               is = is;
               told =
-                  rw (is .plan-is, inside-is k b, reads .last-is) record {
-                    two = few-operands k;
+                  rw (is .plan-is, inside-is k b) record {
                     ends = ends;
                     room = omega arith;
                     few = omega arith;
@@ -495,19 +482,19 @@ module _ {contract : List ℕ} {n : ℕ} {image : List ℕ} {b S K : ℕ} (e : E
         small-bases maxRows b S K (noBlock 0 0) (noBlock 0 0) 0 0 (omega arith) (omega arith) i (e .goes-on) (omega arith) (omega arith) (omega arith)
         (omega arith) (omega arith)
 
-    pub right-emits : ¬ (count ≡ 0) → Emits contract last image (b + p .1) (wiresOf p b S K .start) (wiresOf p b S K .go)
+    pub right-emits : ¬ (count ≡ 0) → Emits contract (n - 1) image (b + p .1) (wiresOf p b S K .start) (wiresOf p b S K .go)
     right-emits h =
         let o = opened in
         right-room (o .before) (line (o .k) .operands) (o .ts) (o .told) (λ z. h (sym (o .is .count-is) ∙ z))
 
     pub left-emits : {later : List ℕ} {right : Block} → ¬ (count ≡ 0) → ¬ (count ≡ 1)
-        → Emitted contract last image (b + p .1) (wiresOf p b S K .start) (wiresOf p b S K .go) later right → length later ≡ length image
-        → Emits contract (right .before) later (right .next) S (wiresOf p b S K .keep) × (right .before ≤ last)
+        → Emitted contract (n - 1) image (b + p .1) (wiresOf p b S K .start) (wiresOf p b S K .go) later right → length later ≡ length image
+        → Emits contract (right .before) later (right .next) S (wiresOf p b S K .keep) × (right .before ≤ n - 1)
     left-emits h i g l =
         let o = opened in
         left-room (o .before) (line (o .k) .operands) (o .ts) (o .told) (λ z. h (sym (o .is .count-is) ∙ z)) (λ z. i (sym (o .is .count-is) ∙ z)) g l
 
-    pub record-rows : {later : List ℕ} {left right : Block} → Written contract last count image (b + p .1) S (wiresOf p b S K) later left right
+    pub record-rows : {later : List ℕ} {left right : Block} → Written contract (n - 1) count image (b + p .1) S (wiresOf p b S K) later left right
         → length later ≡ length image → party < 256 → action < 256
         → RecordRows later p b (left .next) (basesOf b S K left right party action)
     record-rows {later} {left} {right} w l pa ac =
@@ -519,7 +506,7 @@ module _ {contract : List ℕ} {n : ℕ} {image : List ℕ} {b S K : ℕ} (e : E
         let r-given : Given right (left .next) = rw (d .right-is, d .left-is) (i .right-given) in
         let room : rowBytes * (left .next + p .2) ≤ length later = rw (l, d .left-is) (o .room) in
         let few : left .next + p .2 ≤ maxRows = rw (d .left-is) (o .few) in
-        let in-table : p .0 + p .1 + p .2 ≤ length ownTable = rw (o .is .plan-is) (listed (o .k)) in
+        let in-table : p .0 + p .1 + p .2 ≤ length rowTable = rw (o .is .plan-is) (listed (o .k)) in
         let small =
         small-bases (left .next) b S K left right party action (omega arith) (omega arith) (e .begins) (e .goes-on) (omega arith) l-given r-given pa ac in
         record {

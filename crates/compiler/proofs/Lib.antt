@@ -1,4 +1,4 @@
--- Why the image of a contract monitors it, layer by layer.
+-- Why the image of a contract monitors it, layer by layer; then why the code writes it.
 pub mod Signals
 pub mod RowLaws
 pub mod Goodness

@@ -20,12 +20,13 @@ use Rattle.contract.specs.Trees.{Tree, Trees, Fields, node}
 use Rattle.contract.specs.Codes.{completed}
 use Rattle.contract.proofs.Table.{of-all}
 use Rattle.contract.proofs.Codes.{is-empty}
-use Rattle.contract.proofs.Spelling.{treeRecords, partyByte, actionByte}
+use Rattle.contract.specs.Spelling.{treeRecords}
+use Rattle.contract.proofs.Spelling.{partyByte, actionByte}
 use Rattle.compiler.specs.declared.Block.{Block}
 use Rattle.compiler.specs.declared.Wires.{Wires}
 use Rattle.compiler.specs.Widths.{inside, afterExpression, afterClause, width}
 use Rattle.compiler.specs.Blocks.{endRow, liveRow, expressionRows, blaming, outputsOf, clauseRows}
-use Rattle.compiler.specs.Plans.{RowNumbers, numbersOf, planOf, noBlock, basesOf, ownTable, ownRows, ownBlock, wiresOf, treeRows, afterTree, blockOf}
+use Rattle.compiler.specs.Plans.{RowNumbers, numbersOf, planOf, noBlock, basesOf, rowTable, tableRows, recordBlock, wiresOf, treeRows, afterTree, blockOf}
 use Rattle.compiler.proofs.Goodness.{after-expression, after-clause, length-expression, length-clause, inside-expression, inside-clause}
 use Rattle.compiler.proofs.Writing.{length-listed}
 
@@ -96,9 +97,9 @@ nodeBases k f ts m b S K =
     (partyByte (line k .usesParty) (f .party)) (actionByte (line k .usesAction) (f .action))
 
 -- two lists of rows are equal if they are up to a kind's operands' rows, and from there on
-before : (k : Kind) {xs ys : List RowNumbers}
+equal-parts : (k : Kind) {xs ys : List RowNumbers}
     → take (width k .before) xs ≡ take (width k .before) ys → drop (width k .before) xs ≡ drop (width k .before) ys → xs ≡ ys
-before k {xs} {ys} p q = sym (take-append-drop (width k .before) xs) ∙ rw (p, q) (take-append-drop (width k .before) ys)
+equal-parts k {xs} {ys} p q = sym (take-append-drop (width k .before) xs) ∙ rw (p, q) (take-append-drop (width k .before) ys)
 
 -- rows that others follow
 abbrev Followed : (List Row → List Row) → Type 0
@@ -120,19 +121,19 @@ other-number party2 = refl
 -- its rows
 pub rows-node : (k : Kind) (f : Fields k) (ts : Trees (line k .operands)) (m b S K : ℕ)
     → map numbersOf (treeRows (line k .completes) (node k f ts) b S K)
-    ≡ ownRows (nodeBases k f ts m b S K) (planOf k .0) (planOf k .1)
+    ≡ tableRows (nodeBases k f ts m b S K) (planOf k .0) (planOf k .1)
     ++ (map numbersOf (operandRows (line k .operands) ts (inside k b) S (wiresOf (planOf k) b S K))
-    ++ ownRows (nodeBases k f ts m b S K) (planOf k .0 + planOf k .1) (planOf k .2))
-unfolding node clauseRows expressionRows outputsOf endRow ownRows wiresOf
+    ++ tableRows (nodeBases k f ts m b S K) (planOf k .0 + planOf k .1) (planOf k .2))
+unfolding node clauseRows expressionRows outputsOf endRow tableRows wiresOf
 rows-node duty f ts m b S K = rw (other-number (f .party))
 rows-node ban f ts m b S K = rw (other-number (f .party))
 rows-node power f ts m b S K = rw (other-number (f .party))
-rows-node both f ts m b S K = before both refl (two (clause-rest (ts .1 .0) _ _ _) (clause-rest (ts .0) _ _ _) _)
-rows-node then f ts m b S K = before then refl (two (clause-rest (ts .1 .0) _ _ _) (clause-rest (ts .0) _ _ _) _)
-rows-node repair f ts m b S K = before repair refl (two (clause-rest (ts .1 .0) _ _ _) (clause-rest (ts .0) _ _ _) _)
-rows-node repeat f ts m b S K = before repeat refl (one (clause-rest (ts .0) _ _ _) [])
-rows-node when f ts m b S K = before when refl (two (clause-rest (ts .1 .0) _ _ _) (expression-rest (ts .0) _ _ _) _)
-rows-node until f ts m b S K = before until refl (two (expression-rest (ts .1 .0) _ _ _) (clause-rest (ts .0) _ _ _) _)
+rows-node both f ts m b S K = equal-parts both refl (two (clause-rest (ts .1 .0) _ _ _) (clause-rest (ts .0) _ _ _) _)
+rows-node then f ts m b S K = equal-parts then refl (two (clause-rest (ts .1 .0) _ _ _) (clause-rest (ts .0) _ _ _) _)
+rows-node repair f ts m b S K = equal-parts repair refl (two (clause-rest (ts .1 .0) _ _ _) (clause-rest (ts .0) _ _ _) _)
+rows-node repeat f ts m b S K = equal-parts repeat refl (one (clause-rest (ts .0) _ _ _) [])
+rows-node when f ts m b S K = equal-parts when refl (two (clause-rest (ts .1 .0) _ _ _) (expression-rest (ts .0) _ _ _) _)
+rows-node until f ts m b S K = equal-parts until refl (two (expression-rest (ts .1 .0) _ _ _) (clause-rest (ts .0) _ _ _) _)
 rows-node any f ts m b S K = refl
 rows-node tries f ts m b S K = refl
 rows-node idle f ts m b S K = refl
@@ -140,9 +141,9 @@ rows-node succeeds f ts m b S K = refl
 rows-node fails f ts m b S K = refl
 rows-node seq f ts m b S K =
     rw (is-empty (holdsEmpty (ts .0)), is-empty (holdsEmpty (ts .1 .0)))
-    (before seq refl (two (expression-rest (ts .1 .0) _ _ _) (expression-rest (ts .0) _ _ _) _))
+    (equal-parts seq refl (two (expression-rest (ts .1 .0) _ _ _) (expression-rest (ts .0) _ _ _) _))
 rows-node or f ts m b S K = two (expression-rest (ts .1 .0) _ _ _) (expression-rest (ts .0) _ _ _) _
-rows-node star f ts m b S K = before star refl (one (expression-rest (ts .0) _ _ _) _)
+rows-node star f ts m b S K = equal-parts star refl (one (expression-rest (ts .0) _ _ _) _)
 
 -- where they end
 pub after-node : (k : Kind) (f : Fields k) (ts : Trees (line k .operands)) (m b S : ℕ)
@@ -179,9 +180,9 @@ cond-same false x = refl
 -- its block
 pub block-node : (k : Kind) (f : Fields k) (ts : Trees (line k .operands)) (m b S K : ℕ)
     → blockOf (line k .completes) (node k f ts) m b S
-    ≡ ownBlock (nodeBases k f ts m b S K) (planOf k) (line k .number) (partyByte (line k .usesParty) (f .party))
+    ≡ recordBlock (nodeBases k f ts m b S K) (planOf k) (line k .number) (partyByte (line k .usesParty) (f .party))
     (leftBlock (line k .operands) ts m (inside k b) S) (rightBlock (line k .operands) ts m (inside k b) (wiresOf (planOf k) b S K .start))
-unfolding node afterClause afterExpression outputsOf endRow liveRow ownBlock wiresOf completed holdsEmpty
+unfolding node afterClause afterExpression outputsOf endRow liveRow recordBlock wiresOf completed holdsEmpty
 block-node duty f ts m b S K = rw (blaming-is (f .party), ← after-node duty f ts m b S)
 block-node ban f ts m b S K = rw (blaming-is (f .party), ← after-node ban f ts m b S)
 block-node power f ts m b S K = rw (blaming-is (f .party), ← after-node power f ts m b S)
@@ -207,12 +208,14 @@ pub before-is : (k : Kind) → planOf k .1 ≡ width k .before
 before-is k = eqb-true (planOf k .1) (width k .before) (of-all (λ J. eqb (planOf J .1) (width J .before)) refl k)
 
 -- the table has a kind's own rows
-pub listed : (k : Kind) → planOf k .0 + planOf k .1 + planOf k .2 ≤ length ownTable
-listed k = leb-true (planOf k .0 + planOf k .1 + planOf k .2) 97 (of-all (λ J. leb (planOf J .0 + planOf J .1 + planOf J .2) 97) refl k)
+pub listed : (k : Kind) → planOf k .0 + planOf k .1 + planOf k .2 ≤ length rowTable
+listed k =
+    let table = length rowTable in
+    leb-true (planOf k .0 + planOf k .1 + planOf k .2) table (of-all (λ J. leb (planOf J .0 + planOf J .1 + planOf J .2) table) refl k)
 
-pub length-own : (bases : List ℕ) (k : Kind)
-    → (length (ownRows bases (planOf k .0) (planOf k .1)) ≡ planOf k .1) × (length (ownRows bases (planOf k .0 + planOf k .1) (planOf k .2)) ≡ planOf k .2)
-length-own bases k =
+pub length-kindRows : (bases : List ℕ) (k : Kind)
+    → (length (tableRows bases (planOf k .0) (planOf k .1)) ≡ planOf k .1) × (length (tableRows bases (planOf k .0 + planOf k .1) (planOf k .2)) ≡ planOf k .2)
+length-kindRows bases k =
     let h = listed k in
     (length-listed bases (planOf k .0) (planOf k .1) (omega arith), length-listed bases (planOf k .0 + planOf k .1) (planOf k .2) h)
 

@@ -10,20 +10,19 @@ use lib.Seq.{sets, take-all, length-sets}
 use Rattle.records.specs.Fields.{bytes}
 use Rattle.records.proofs.Written.{sets-append}
 use Rattle.runner.specs.Limits.{rowBytes}
-use Rattle.runner.specs.Rows.{never, initial, negation}
-use Rattle.runner.specs.Images.{rowsBytes, endBytes, imageBytes, rowCount}
+use Rattle.runner.specs.Rows.{never, initial, negation, rowRecord}
+use Rattle.runner.specs.Images.{rowsBytes, endRecord, endBytes, imageBytes, rowCount}
 use Rattle.runner.proofs.Images.{length-rowsBytes, rowCount-imageBytes}
 use Rattle.contract.specs.Limits.{recordBytes}
 use Rattle.contract.specs.Table.{clause}
 use Rattle.contract.specs.Meaning.{Clause}
 use Rattle.contract.proofs.Spelling.{length-spell}
-use Rattle.contract.proofs.Reader.{spells-taken}
 use Rattle.compiler.specs.declared.Block.{Block}
 use Rattle.compiler.specs.Widths.{firstRow, laterRow, fixedRows, afterClause}
 use Rattle.compiler.specs.Blocks.{clauseRows}
 use Rattle.compiler.specs.Images as Images
 use Rattle.compiler.specs.Images.{rowsFor, imageFor}
-use Rattle.compiler.specs.Plans.{numbersOf, rowNumbersBytes, numbersBytes, writtenRows, endRecord, blockOf, EndsWith, Emitted, Emits, Writes}
+use Rattle.compiler.specs.Plans.{numbersOf, numbersBytes, writtenRows, blockOf, EndsWith, Emitted, Emits, Writes}
 use Rattle.compiler.proofs.Goodness.{rows-allowed}
 use Rattle.compiler.proofs.Writing.{numbers-bytes, length-written, written-after}
 use Rattle.compiler.proofs.Plans.{after-tree}
@@ -36,8 +35,8 @@ begun image = writtenRows image 0 (map numbersOf (never ∷ initial ∷ negation
 
 -- one after the other
 pub begun-rows : (image : List ℕ)
-    → sets (sets (sets image 0 (rowNumbersBytes 0 0 0)) 8 (rowNumbersBytes 1 0 0)) 16 (rowNumbersBytes 3 1 0) ≡ begun image
-unfolding writtenRows numbersBytes rowNumbersBytes bytes
+    → sets (sets (sets image 0 (rowRecord 0 0 0)) 8 (rowRecord 1 0 0)) 16 (rowRecord 3 1 0) ≡ begun image
+unfolding writtenRows numbersBytes bytes
 begun-rows image = refl
 
 -- ---- the image of a clause
@@ -64,26 +63,26 @@ module _ (c : Clause) where
 
 module _ (contract : List ℕ) (n : ℕ) (image : List ℕ) (w : Writes contract n image) where
   abbrev c : Clause
-  c = w .spelled
+  c = w .taken .clause
 
   imageFor-is : imageFor contract ≡ imageBytes (Images.image c)
   unfolding imageFor
-  imageFor-is = rw (spells-taken contract c (w .spells))
+  imageFor-is = rw (w .taken .is)
 
   length-contract : length contract ≡ recordBytes * n
-  length-contract = rw (w .spells .bytes, w .count) (length-spell c)
+  length-contract = rw (w .taken .spells .bytes, w .taken .count) (length-spell c)
 
   ends : EndsWith contract n 0 clause c
   ends =
       record {
         whole = omega (arith, length-contract);
-        count = rw zero-add (w .count);
-        spelled = take-all (recordBytes * n) contract (omega (arith, length-contract)) ∙ w .spells .bytes;
+        count = rw zero-add (w .taken .count);
+        spelled = take-all (recordBytes * n) contract (omega (arith, length-contract)) ∙ w .taken .spells .bytes;
       }
 
   -- there is room for the rows and the end record
   room : rowBytes * (afterClause c fixedRows + 1) ≤ length image
-  room = omega (arith, after-rows c, rows-allowed c, w .count, w .room)
+  room = omega (arith, after-rows c, rows-allowed c, w .taken .count, w .room)
 
   pub emits : Emits contract n (begun image) fixedRows firstRow laterRow
   emits =
@@ -93,24 +92,24 @@ module _ (contract : List ℕ) (n : ℕ) (image : List ℕ) (w : Writes contract
         tree = c;
         ends = ends;
         room = rw length-written (omega (arith, room));
-        few = omega (arith, after-rows c, rows-allowed c, w .spells .few-records);
+        few = omega (arith, after-rows c, rows-allowed c, w .taken .spells .few-records);
         begins = omega arith;
         goes-on = omega arith;
       }
 
   module _ (later : List ℕ) (r : Block) (e : Emitted contract n (begun image) fixedRows firstRow laterRow later r) where
     block-is : r ≡ blockOf clause c 0 fixedRows firstRow
-    block-is = e .block-is 0 clause c ends
+    block-is = e .tree-is 0 clause c ends .1
 
     rows-are : later ≡ sets image 0 (rowsBytes (rowsFor c))
-    rows-are = e .rows-are 0 clause c ends ∙ rows-written c image
+    rows-are = e .tree-is 0 clause c ends .0 ∙ rows-written c image
 
     -- there are the fixed rows at least, and room for the end record
     pub end-room : (fixedRows ≤ r .next) × (rowBytes * r .next + rowBytes ≤ length later)
     end-room = rw (block-is, rows-are, length-sets) (omega (arith, room, after-tree clause c fixedRows firstRow laterRow))
 
     pub image-is : sets later (rowBytes * r .next) (endRecord (r .first) (r .second) (r .third)) ≡ sets image 0 (imageFor contract)
-    unfolding endRecord endBytes Images.image
+    unfolding endBytes Images.image
     image-is = rw (block-is, rows-are, imageFor-is) (image-written c image)
 
     pub count-is : r .next ≡ rowCount (imageFor contract)

@@ -9,19 +9,19 @@ use lib.Seq.{sets, length-sets, length-take-le, take-suc, getD-drop}
 use Rattle.records.specs.Fields.{bytes}
 use Rattle.records.proofs.Written.{sets-append, sets-before}
 use Rattle.runner.specs.Limits.{rowBytes}
-use Rattle.runner.specs.Rows.{Row, encode}
+use Rattle.runner.specs.Rows.{Row, rowRecord, encode}
 use Rattle.runner.specs.Images.{rowsBytes}
-use Rattle.compiler.specs.declared.Own.{Own}
-use Rattle.compiler.specs.Plans.{RowNumbers, numbersOf, rowNumbersBytes, numbersBytes, writtenRows, ownTable, rowAt, ownRow, ownRows}
+use Rattle.compiler.specs.declared.TableRow.{TableRow}
+use Rattle.compiler.specs.Plans.{RowNumbers, numbersOf, numbersBytes, writtenRows, rowTable, valueAt, tableRow, tableRows}
 
 -- rows as numbers have the rows' bytes
 pub numbers-bytes : (rs : List Row) → numbersBytes (map numbersOf rs) ≡ rowsBytes rs
-unfolding numbersBytes rowNumbersBytes rowsBytes encode
+unfolding numbersBytes rowsBytes encode
 numbers-bytes [] = refl
 numbers-bytes (r ∷ rs) = ap (λ m. encode r ++ m) (numbers-bytes rs)
 
 pub length-numbers : (rs : List RowNumbers) → length (numbersBytes rs) ≡ rowBytes * length rs
-unfolding numbersBytes rowNumbersBytes bytes
+unfolding numbersBytes bytes
 length-numbers [] = refl
 length-numbers (r ∷ rs) = omega (arith, length-numbers rs)
 
@@ -29,7 +29,7 @@ numbers-append : (rs ss : List RowNumbers) → numbersBytes (rs ++ ss) ≡ numbe
 unfolding numbersBytes
 numbers-append [] ss = refl
 numbers-append (r ∷ rs) ss =
-    let row = rowNumbersBytes (r .kind) (r .x) (r .y) in
+    let row = rowRecord (r .kind) (r .x) (r .y) in
     ap (λ m. row ++ m) (numbers-append rs ss) ∙ sym (append-assoc row (numbersBytes rs) (numbersBytes ss))
 
 pub length-written : (image : List ℕ) (b : ℕ) (rs : List RowNumbers) → length (writtenRows image b rs) ≡ length image
@@ -42,8 +42,8 @@ written-none image b = refl
 
 -- a row is a run
 sets-row : (image : List ℕ) (b : ℕ) (r : RowNumbers)
-    → sets image (rowBytes * b) (rowNumbersBytes (r .kind) (r .x) (r .y)) ≡ writtenRows image b (r ∷ [])
-unfolding writtenRows numbersBytes rowNumbersBytes bytes
+    → sets image (rowBytes * b) (rowRecord (r .kind) (r .x) (r .y)) ≡ writtenRows image b (r ∷ [])
+unfolding writtenRows numbersBytes bytes
 sets-row image b r = refl
 
 -- where the bytes of a run end
@@ -64,11 +64,6 @@ unfolding writtenRows
 written-before image b n rs ss e =
     rw (ends b n rs e, numbers-append rs ss) (sets-before image (rowBytes * b) (numbersBytes rs) (numbersBytes ss))
 
--- one row more
-pub written-row : (image : List ℕ) (b n : ℕ) (rs : List RowNumbers) (r : RowNumbers) → n ≡ b + length rs
-    → writtenRows (writtenRows image b rs) n (r ∷ []) ≡ writtenRows image b (rs ++ (r ∷ []))
-written-row image b n rs r e = written-after image b n rs (r ∷ []) e
-
 -- rows written inside, and then those before and behind them
 pub written-around : (image : List ℕ) (b m n : ℕ) (hs rs ts : List RowNumbers) → m ≡ b + length hs → n ≡ m + length rs
     → writtenRows (writtenRows (writtenRows image m rs) b hs) n ts ≡ writtenRows image b (hs ++ (rs ++ ts))
@@ -79,29 +74,29 @@ written-around image b m n hs rs ts e f =
 -- ---- rows of the table
 
 -- what a read past the table's end gives
-abbrev pub noOwn : Own
-noOwn = record { 0 = 0; 1 = 0; 2 = 0 }
+abbrev pub noRow : TableRow
+noRow = record { 0 = 0; 1 = 0; 2 = 0 }
 
 module _ (bases : List ℕ) (from : ℕ) where
-  pub length-listed : (count : ℕ) → from + count ≤ length ownTable → length (ownRows bases from count) ≡ count
-  unfolding ownRows
-  length-listed count h = rw length-map (length-take-le count (drop from ownTable) (rw length-drop (omega arith)))
+  pub length-listed : (count : ℕ) → from + count ≤ length rowTable → length (tableRows bases from count) ≡ count
+  unfolding tableRows
+  length-listed count h = rw length-map (length-take-le count (drop from rowTable) (rw length-drop (omega arith)))
 
-  listed-next : (j : ℕ) → from + j < length ownTable
-      → ownRows bases from (suc j) ≡ ownRows bases from j ++ (ownRow bases (getD ownTable (from + j) noOwn) ∷ [])
-  unfolding ownRows
+  listed-next : (j : ℕ) → from + j < length rowTable
+      → tableRows bases from (suc j) ≡ tableRows bases from j ++ (tableRow bases (getD rowTable (from + j) noRow) ∷ [])
+  unfolding tableRows
   listed-next j h =
-      rw (take-suc (drop from ownTable) j noOwn (rw length-drop (omega arith)), map-append, getD-drop from ownTable j noOwn)
+      rw (take-suc (drop from rowTable) j noRow (rw length-drop (omega arith)), map-append, getD-drop from rowTable j noRow)
 
   -- one row of the table more: x and y are what it names
-  pub written-next : (image now later : List ℕ) (b j x y : ℕ) → from + j < length ownTable
-      → now ≡ writtenRows image b (ownRows bases from j)
-      → x ≡ rowAt bases (getD ownTable (from + j) noOwn .1)
-      → y ≡ rowAt bases (getD ownTable (from + j) noOwn .2)
-      → later ≡ sets now (rowBytes * (b + j)) (rowNumbersBytes (getD ownTable (from + j) noOwn .0) x y)
-      → later ≡ writtenRows image b (ownRows bases from (suc j))
+  pub written-next : (image now later : List ℕ) (b j x y : ℕ) → from + j < length rowTable
+      → now ≡ writtenRows image b (tableRows bases from j)
+      → x ≡ valueAt bases (getD rowTable (from + j) noRow .1)
+      → y ≡ valueAt bases (getD rowTable (from + j) noRow .2)
+      → later ≡ sets now (rowBytes * (b + j)) (rowRecord (getD rowTable (from + j) noRow .0) x y)
+      → later ≡ writtenRows image b (tableRows bases from (suc j))
   written-next image now later b j x y h e f g w =
-      let rs = ownRows bases from j in
-      let r = ownRow bases (getD ownTable (from + j) noOwn) in
+      let rs = tableRows bases from j in
+      let r = tableRow bases (getD rowTable (from + j) noRow) in
       let n : b + j ≡ b + length rs = rw (length-listed j (omega arith)) in
-      w ∙ rw (e, f, g, listed-next j h) (sets-row (writtenRows image b rs) (b + j) r ∙ written-row image b (b + j) rs r n)
+      w ∙ rw (e, f, g, listed-next j h) (sets-row (writtenRows image b rs) (b + j) r ∙ written-after image b (b + j) rs (r ∷ []) n)

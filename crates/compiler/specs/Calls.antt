@@ -14,7 +14,7 @@ use Rattle.runner.specs.Images.{rowCount, imageBytes}
 use Rattle.runner.specs.Refusals.{imageTest}
 use Rattle.contract.specs.Meaning.{Clause}
 use Rattle.contract.specs.Reader.{Result, refused, taken, faultNumber, read, recordCount}
-use Rattle.compiler.specs.Widths.{allowedRows}
+use Rattle.compiler.specs.Widths.{allowedRows, bufferBytes}
 use Rattle.compiler.specs.Images.{image}
 use Rattle.compiler.specs.Monitors.{Monitors}
 
@@ -29,26 +29,23 @@ compileReplyBytes = 16
 abbrev pub shortBuffer : ℕ
 shortBuffer = 8
 
-abbrev pub bufferBytes : (records : ℕ) → ℕ
-bufferBytes n = rowBytes * (allowedRows n + 1)
-
 -- its result, the image buffer's bytes and the reply area's
 pub record After : Type 0 where
   pub result : ℕ
-  pub image : List ℕ
+  pub buffer : List ℕ
   pub reply : List ℕ
 
 -- "If that area is too short for the reply, the call writes nothing anywhere"
-abbrev pub unwritten : (image reply : List ℕ) → After
-unwritten image reply = record { result = 0; image = image; reply = reply }
+abbrev pub unwritten : (buffer reply : List ℕ) → After
+unwritten buffer reply = record { result = 0; buffer = buffer; reply = reply }
 
 -- the reply in the area's first bytes, and the image buffer that comes with it
-abbrev pub written : (image reply : List ℕ) → (vs : List ℕ) → After
-written image reply vs = record { result = 1; image = image; reply = sets reply 0 vs }
+abbrev pub written : (buffer reply : List ℕ) → (vs : List ℕ) → After
+written buffer reply vs = record { result = 1; buffer = buffer; reply = sets reply 0 vs }
 
 -- "A refusal gives its number and a place; every other field is 0 and every lent buffer but the reply's area is unchanged."
-abbrev pub refusal : (number place : ℕ) → (image reply : List ℕ) → After
-refusal number place image reply = written image reply (compileReply number 0 place)
+abbrev pub refusal : (number place : ℕ) → (buffer reply : List ℕ) → After
+refusal number place buffer reply = written buffer reply (compileReply number 0 place)
 
 -- "the image is the first 8 × (count + 1) bytes of its buffer, and those beyond keep their old values"
 abbrev pub accepted : (image : List ℕ) → (buffer reply : List ℕ) → After
@@ -64,9 +61,9 @@ unfoldable pub compile : (contract buffer reply : List ℕ) → After
 compile contract buffer reply =
     cond (ltb (length reply) compileReplyBytes) (unwritten buffer reply) (compiled (read contract) (recordCount contract) buffer reply)
 
--- What the bytes at exit are worth to a host: the reply gives number 0 and a row count, and the first 8 × (count + 1) bytes of the buffer are a
+-- What a host may rely on in the bytes at exit: the reply gives number 0 and a row count, and the first 8 × (count + 1) bytes of the buffer are a
 -- good image that monitors the contract, with at most 32 × records + 64 rows.
-pub record Serves (contract buffer reply : List ℕ) : Type 0 where
+pub record Usable (contract buffer reply : List ℕ) : Type 0 where
   pub count : ℕ
   pub number-is : field reply 0 4 ≡ 0
   pub count-is : field reply 4 4 ≡ count
@@ -80,7 +77,7 @@ pub record Serves (contract buffer reply : List ℕ) : Type 0 where
 -- at exit themselves: of every contract that is taken, with room for the reply and a buffer that does not meet 8.
 pub record Compiles (contract buffer reply : List ℕ) (result : ℕ) (later-buffer later-reply : List ℕ) : Type 0 where
   pub result-is : result ≡ compile contract buffer reply .result
-  pub buffer-is : later-buffer ≡ compile contract buffer reply .image
+  pub buffer-is : later-buffer ≡ compile contract buffer reply .buffer
   pub reply-is : later-reply ≡ compile contract buffer reply .reply
-  pub serves : (c : Clause) → read contract ≡ taken c → compileReplyBytes ≤ length reply → bufferBytes (recordCount contract) ≤ length buffer
-      → Serves contract later-buffer later-reply
+  pub usable : (c : Clause) → read contract ≡ taken c → compileReplyBytes ≤ length reply → bufferBytes (recordCount contract) ≤ length buffer
+      → Usable contract later-buffer later-reply

@@ -1,6 +1,7 @@
 -- How many rows each record has, and where the rows of a tree start and end. Which rows an image has is free: "they follow from the
 -- contract's bytes alone, form a good image and meet demand 3" (Document 01, "Contracts and examples").
 use Prim.Native.Nat.{ℕ, zero, suc, _+_, _*_}
+use Rattle.runner.specs.Limits.{rowBytes}
 use Rattle.contract.specs.Table.{Kind, duty, ban, power, both, then, repair, repeat, when, until, any, tries, idle, succeeds, fails, seq, or, star}
 use Rattle.contract.specs.Expressions as E
 use Rattle.contract.specs.Expressions.{Atom, Expression, atom}
@@ -83,6 +84,9 @@ mostRows n = 14 * n + fixedRows
 
 abbrev pub allowedRows : ℕ → ℕ
 allowedRows n = 32 * n + 64
+
+abbrev pub bufferBytes : (records : ℕ) → ℕ
+bufferBytes n = rowBytes * (allowedRows n + 1)
 
 -- ---- row numbers
 

@@ -7,9 +7,10 @@ ghost use lib.Dec.{eqb};
 ghost use lib.ListN.{length};
 ghost use lib.Seq.{sets};
 ghost use Rattle.runner.specs.Limits.{rowBytes};
-ghost use Rattle.runner.specs.Images.{rowCount};
+ghost use Rattle.runner.specs.Rows.{rowRecord};
+ghost use Rattle.runner.specs.Images.{rowCount, endRecord};
 ghost use Rattle.contract.specs.Table.{Kind, kindOf};
-ghost use Rattle.compiler.specs.Plans.{planOf, basesOf, rowAt, rowNumbersBytes, ownRows, writtenRows, wiresOf, noBlock, Small, OwnRows, RecordRows, ownBlock, ownWritten, Emits, Emitted, endRecord, Writes};
+ghost use Rattle.compiler.specs.Plans.{planOf, basesOf, valueAt, tableRows, writtenRows, wiresOf, noBlock, Small, RoomForRows, RecordRows, recordBlock, recordWritten, Emits, Emitted, Writes};
 ghost use Rattle.compiler.specs.Images.{imageFor};
 ghost use Rattle.compiler.specs.Calls.{compileReply, compileReplyBytes, Compiles};
 use contract::Answer;
@@ -31,9 +32,9 @@ const OR: u8 = 5;
 
 const PREVIOUS: u8 = 6;
 
-// The rows that a record's own rows name: a base, and so many rows on from it. Bases are sixteen apart.
-// The row that is never true, or a field that is not used.
-const O: u8 = 0x00;
+// What the fields of a record's own rows name: a base, and so many on from it. Bases are sixteen apart.
+// The row that is never true, or a field that is not used; one and two on from it, the parties' numbers.
+const ZERO: u8 = 0x00;
 
 // The row that is true in a period in which the tree begins to read, and the one for a period in which it goes on.
 const S: u8 = 0x10;
@@ -71,128 +72,128 @@ const Q: u8 = 0xe0;
 const A: u8 = 0xf0;
 
 // A row of a record's own: its kind and its fields x and y.
-pub struct Own(pub u8, pub u8, pub u8);
+pub struct TableRow(pub u8, pub u8, pub u8);
 
 // Every kind's own rows, those before its operands' rows and then those after them.
-const OWN: [Own; 97] = [
+const ROWS: [TableRow; 97] = [
     // duty
-    Own(TRIES, P, A),
-    Own(TRIES, Q, A),
-    Own(AND, S, B),
-    Own(AND, B + 2, B + 1),
-    Own(NOT, B, O),
-    Own(AND, S, B + 4),
-    Own(NOT, B + 1, O),
-    Own(AND, B + 2, B + 6),
+    TableRow(TRIES, P, A),
+    TableRow(TRIES, Q, A),
+    TableRow(AND, S, B),
+    TableRow(AND, B + 2, B + 1),
+    TableRow(NOT, B, ZERO),
+    TableRow(AND, S, B + 4),
+    TableRow(NOT, B + 1, ZERO),
+    TableRow(AND, B + 2, B + 6),
     // ban
-    Own(TRIES, P, A),
-    Own(TRIES, Q, A),
-    Own(AND, S, B),
-    Own(AND, B + 2, B + 1),
-    Own(NOT, B + 3, O),
-    Own(AND, S, B + 4),
+    TableRow(TRIES, P, A),
+    TableRow(TRIES, Q, A),
+    TableRow(AND, S, B),
+    TableRow(AND, B + 2, B + 1),
+    TableRow(NOT, B + 3, ZERO),
+    TableRow(AND, S, B + 4),
     // power
-    Own(TRIES, P, A),
-    Own(TRIES, Q, A),
-    Own(AND, S, B),
-    Own(NOT, B + 1, O),
-    Own(AND, B + 2, B + 3),
-    Own(NOT, B + 4, O),
-    Own(AND, S, B + 5),
+    TableRow(TRIES, P, A),
+    TableRow(TRIES, Q, A),
+    TableRow(AND, S, B),
+    TableRow(NOT, B + 1, ZERO),
+    TableRow(AND, B + 2, B + 3),
+    TableRow(NOT, B + 4, ZERO),
+    TableRow(AND, S, B + 5),
     // both
-    Own(PREVIOUS, N + 10, O),
-    Own(NOT, B, O),
-    Own(AND, K, B + 1),
-    Own(PREVIOUS, N + 2, O),
-    Own(AND, B + 2, N),
-    Own(OR, N + 1, L1),
-    Own(PREVIOUS, N + 5, O),
-    Own(AND, B + 2, N + 3),
-    Own(OR, N + 4, R1),
-    Own(AND, N + 2, N + 5),
-    Own(OR, L2, R2),
-    Own(OR, L3, R3),
-    Own(OR, N + 7, N + 8),
-    Own(OR, N + 6, N + 9),
+    TableRow(PREVIOUS, N + 10, ZERO),
+    TableRow(NOT, B, ZERO),
+    TableRow(AND, K, B + 1),
+    TableRow(PREVIOUS, N + 2, ZERO),
+    TableRow(AND, B + 2, N),
+    TableRow(OR, N + 1, L1),
+    TableRow(PREVIOUS, N + 5, ZERO),
+    TableRow(AND, B + 2, N + 3),
+    TableRow(OR, N + 4, R1),
+    TableRow(AND, N + 2, N + 5),
+    TableRow(OR, L2, R2),
+    TableRow(OR, L3, R3),
+    TableRow(OR, N + 7, N + 8),
+    TableRow(OR, N + 6, N + 9),
     // then
-    Own(PREVIOUS, L1, O),
-    Own(AND, K, B),
-    Own(NOT, B, O),
-    Own(AND, K, B + 2),
-    Own(OR, L2, R2),
-    Own(OR, L3, R3),
+    TableRow(PREVIOUS, L1, ZERO),
+    TableRow(AND, K, B),
+    TableRow(NOT, B, ZERO),
+    TableRow(AND, K, B + 2),
+    TableRow(OR, L2, R2),
+    TableRow(OR, L3, R3),
     // repair
-    Own(PREVIOUS, N, O),
-    Own(AND, K, B),
-    Own(NOT, B, O),
-    Own(AND, K, B + 2),
-    Own(OR, L2, L3),
-    Own(OR, L1, R1),
+    TableRow(PREVIOUS, N, ZERO),
+    TableRow(AND, K, B),
+    TableRow(NOT, B, ZERO),
+    TableRow(AND, K, B + 2),
+    TableRow(OR, L2, L3),
+    TableRow(OR, L1, R1),
     // repeat
-    Own(PREVIOUS, R1, O),
-    Own(AND, K, B),
-    Own(NOT, B, O),
-    Own(AND, K, B + 2),
-    Own(OR, S, B + 1),
+    TableRow(PREVIOUS, R1, ZERO),
+    TableRow(AND, K, B),
+    TableRow(NOT, B, ZERO),
+    TableRow(AND, K, B + 2),
+    TableRow(OR, S, B + 1),
     // when
-    Own(PREVIOUS, L1, O),
-    Own(AND, K, B),
-    Own(NOT, B, O),
-    Own(AND, K, B + 2),
-    Own(PREVIOUS, L2, O),
-    Own(AND, B + 3, N),
-    Own(OR, S, N + 1),
-    Own(OR, L1, L2),
-    Own(NOT, N + 3, O),
-    Own(AND, N + 2, N + 4),
-    Own(OR, R1, N + 5),
+    TableRow(PREVIOUS, L1, ZERO),
+    TableRow(AND, K, B),
+    TableRow(NOT, B, ZERO),
+    TableRow(AND, K, B + 2),
+    TableRow(PREVIOUS, L2, ZERO),
+    TableRow(AND, B + 3, N),
+    TableRow(OR, S, N + 1),
+    TableRow(OR, L1, L2),
+    TableRow(NOT, N + 3, ZERO),
+    TableRow(AND, N + 2, N + 4),
+    TableRow(OR, R1, N + 5),
     // until
-    Own(PREVIOUS, N + 4, O),
-    Own(NOT, B, O),
-    Own(AND, K, B + 1),
-    Own(OR, L2, L3),
-    Own(NOT, N, O),
-    Own(AND, R1, N + 1),
-    Own(OR, L1, N + 2),
-    Own(OR, N + 3, N),
+    TableRow(PREVIOUS, N + 4, ZERO),
+    TableRow(NOT, B, ZERO),
+    TableRow(AND, K, B + 1),
+    TableRow(OR, L2, L3),
+    TableRow(NOT, N, ZERO),
+    TableRow(AND, R1, N + 1),
+    TableRow(OR, L1, N + 2),
+    TableRow(OR, N + 3, N),
     // tries
-    Own(TRIES, P, A),
-    Own(AND, S, B),
+    TableRow(TRIES, P, A),
+    TableRow(AND, S, B),
     // idle
-    Own(TRIES, P, A),
-    Own(NOT, B, O),
-    Own(AND, S, B + 1),
+    TableRow(TRIES, P, A),
+    TableRow(NOT, B, ZERO),
+    TableRow(AND, S, B + 1),
     // succeeds
-    Own(TRIES, O + 1, A),
-    Own(TRIES, O + 2, A),
-    Own(AND, B, B + 1),
-    Own(AND, S, B + 2),
+    TableRow(TRIES, ZERO + 1, A),
+    TableRow(TRIES, ZERO + 2, A),
+    TableRow(AND, B, B + 1),
+    TableRow(AND, S, B + 2),
     // fails
-    Own(TRIES, O + 1, A),
-    Own(TRIES, O + 2, A),
-    Own(AND, B, B + 1),
-    Own(NOT, B + 2, O),
-    Own(AND, S, B + 3),
+    TableRow(TRIES, ZERO + 1, A),
+    TableRow(TRIES, ZERO + 2, A),
+    TableRow(AND, B, B + 1),
+    TableRow(NOT, B + 2, ZERO),
+    TableRow(AND, S, B + 3),
     // seq
-    Own(PREVIOUS, L1, O),
-    Own(AND, K, B),
-    Own(OR, B + 1, SE),
-    Own(OR, R1, LE),
-    Own(OR, L2, R2),
-    Own(OR, N + 1, L1),
+    TableRow(PREVIOUS, L1, ZERO),
+    TableRow(AND, K, B),
+    TableRow(OR, B + 1, SE),
+    TableRow(OR, R1, LE),
+    TableRow(OR, L2, R2),
+    TableRow(OR, N + 1, L1),
     // or
-    Own(OR, L1, R1),
-    Own(OR, L2, R2),
+    TableRow(OR, L1, R1),
+    TableRow(OR, L2, R2),
     // star
-    Own(PREVIOUS, R1, O),
-    Own(AND, K, B),
-    Own(OR, B + 1, S),
-    Own(OR, R2, R1),
+    TableRow(PREVIOUS, R1, ZERO),
+    TableRow(AND, K, B),
+    TableRow(OR, B + 1, S),
+    TableRow(OR, R2, R1),
 ];
 
-// How a kind's rows are laid out: the first of its own rows in OWN, how many stand before its operands' rows and how many after them; the
+// How a kind's rows are laid out: the first of its own rows in ROWS, how many stand before its operands' rows and how many after them; the
 // rows that tell the right operand when it begins to read and when it goes on, and the left operand when it goes on (it begins with the
-// whole); and the three rows that the block gives out, of a clause with its own party's blame before the other's.
+// whole); and the three rows that the block gives out, of a literal with its own party's blame before the other's.
 pub struct Plan(
     pub u8,
     pub u8,
@@ -207,34 +208,35 @@ pub struct Plan(
 
 // A plan for each of the kinds 1 to 9, then 16 to 23.
 const PLANS: [Plan; 17] = [
-    Plan(0, 8, 0, O, O, O, B + 3, B + 5, B + 7), // 1 duty
-    Plan(8, 6, 0, O, O, O, B + 5, B + 3, O), // 2 ban
-    Plan(14, 7, 0, O, O, O, B + 6, O, B + 4), // 3 power
+    Plan(0, 8, 0, ZERO, ZERO, ZERO, B + 3, B + 5, B + 7), // 1 duty
+    Plan(8, 6, 0, ZERO, ZERO, ZERO, B + 5, B + 3, ZERO), // 2 ban
+    Plan(14, 7, 0, ZERO, ZERO, ZERO, B + 6, ZERO, B + 4), // 3 power
     Plan(21, 3, 11, S, B + 2, B + 2, N + 6, N + 7, N + 8), // 4 both
     Plan(35, 4, 2, B + 1, B + 3, K, R1, N, N + 1), // 5 then
     Plan(41, 4, 2, B + 1, B + 3, K, N + 1, R2, R3), // 6 repair
-    Plan(47, 5, 0, B + 4, B + 3, O, O, R2, R3), // 7 repeat
+    Plan(47, 5, 0, B + 4, B + 3, ZERO, ZERO, R2, R3), // 7 repeat
     Plan(52, 4, 7, B + 1, B + 3, B + 3, N + 6, R2, R3), // 8 when
     Plan(63, 3, 5, S, B + 2, B + 2, N + 3, L2, L3), // 9 until
-    Plan(71, 0, 0, O, O, O, S, O, O), // 16 any
-    Plan(71, 2, 0, O, O, O, B + 1, O, O), // 17 tries
-    Plan(73, 3, 0, O, O, O, B + 2, O, O), // 18 idle
-    Plan(76, 4, 0, O, O, O, B + 3, O, O), // 19 succeeds
-    Plan(80, 5, 0, O, O, O, B + 4, O, O), // 20 fails
-    Plan(85, 3, 3, B + 2, K, K, N, N + 2, O), // 21 seq
-    Plan(91, 0, 2, S, K, K, N, N + 1, O), // 22 or
-    Plan(93, 3, 1, B + 2, K, O, R1, N, O), // 23 star
+    Plan(71, 0, 0, ZERO, ZERO, ZERO, S, ZERO, ZERO), // 16 any
+    Plan(71, 2, 0, ZERO, ZERO, ZERO, B + 1, ZERO, ZERO), // 17 tries
+    Plan(73, 3, 0, ZERO, ZERO, ZERO, B + 2, ZERO, ZERO), // 18 idle
+    Plan(76, 4, 0, ZERO, ZERO, ZERO, B + 3, ZERO, ZERO), // 19 succeeds
+    Plan(80, 5, 0, ZERO, ZERO, ZERO, B + 4, ZERO, ZERO), // 20 fails
+    Plan(85, 3, 3, B + 2, K, K, N, N + 2, ZERO), // 21 seq
+    Plan(91, 0, 2, S, K, K, N, N + 1, ZERO), // 22 or
+    Plan(93, 3, 1, B + 2, K, ZERO, R1, N, ZERO), // 23 star
 ];
 
 // The plan of a kind's number.
 fn plan_of(kind: u8) -> Plan
     ensures { λ r. ⌜ ((k : Kind) → kindOf kind ≡ some k → r ≡ planOf k) ⌝ }
 {
+    let plans = PLANS;
     match kind {
-        1..=9 => PLANS[kind as usize - 1],
-        16..=23 => PLANS[kind as usize - 7],
+        1..=9 => plans[kind as usize - 1],
+        16..=23 => plans[kind as usize - 7],
         // No contract that is taken has such a record.
-        _ => Plan(0, 0, 0, O, O, O, O, O, O),
+        _ => Plan(0, 0, 0, ZERO, ZERO, ZERO, ZERO, ZERO, ZERO),
     }
 }
 
@@ -307,9 +309,9 @@ fn bases(at: u32, s: u32, k: u32, left: Block, right: Block, party: u32, action:
 }
 
 // The row, or other number, that stands in the table as x.
-fn row_at(bases: &[u32; 16], x: u8) -> u32
+fn value_at(bases: &[u32; 16], x: u8) -> u32
     requires { ⌜ Small (now bases) ⌝ }
-    ensures { λ r. ⌜ r ≡ rowAt (now (bases .entry)) x ⌝ }
+    ensures { λ r. ⌜ r ≡ valueAt (now (bases .entry)) x ⌝ }
 {
     bases[(x / 16) as usize] + (x % 16) as u32
 }
@@ -317,7 +319,7 @@ fn row_at(bases: &[u32; 16], x: u8) -> u32
 // Writes a row.
 fn put_row(image: &mut [u8], at: u32, kind: u8, x: u32, y: u32)
     requires { ⌜ rowBytes * at + rowBytes ≤ length (now image) ⌝ }
-    ensures { λ _. ⌜ now (image .exit) ≡ sets (now (image .entry)) (rowBytes * at) (rowNumbersBytes kind x y) ⌝ }
+    ensures { λ _. ⌜ now (image .exit) ≡ sets (now (image .entry)) (rowBytes * at) (rowRecord kind x y) ⌝ }
 {
     let i = runner::ROW_BYTES * at as usize;
     image[i] = records::ROW_MARK[0];
@@ -329,20 +331,20 @@ fn put_row(image: &mut [u8], at: u32, kind: u8, x: u32, y: u32)
 }
 
 // Writes `count` of a record's own rows, from row `from` of the table on.
-fn put_own(image: &mut [u8], at: u32, bases: &[u32; 16], from: u8, count: u8)
-    requires { ⌜ OwnRows (now image) at (now bases) from count ⌝ }
-    ensures { λ _. ⌜ now (image .exit) ≡ writtenRows (now (image .entry)) at (ownRows (now (bases .entry)) from count) ⌝ }
+fn put_rows(image: &mut [u8], at: u32, bases: &[u32; 16], from: u8, count: u8)
+    requires { ⌜ RoomForRows (now image) at (now bases) from count ⌝ }
+    ensures { λ _. ⌜ now (image .exit) ≡ writtenRows (now (image .entry)) at (tableRows (now (bases .entry)) from count) ⌝ }
 {
-    let table = OWN;
+    let table = ROWS;
     let mut j = 0;
     while j < count {
-        let own = table[(from + j) as usize];
+        let row = table[(from + j) as usize];
         put_row(
             image,
             at + j as u32,
-            own.0,
-            row_at(bases, own.1),
-            row_at(bases, own.2),
+            row.0,
+            value_at(bases, row.1),
+            value_at(bases, row.2),
         );
         j += 1;
     }
@@ -362,18 +364,18 @@ fn put_record(
     right: Block,
 ) -> Block
     requires { ⌜ RecordRows (now image) plan at (left .next) (basesOf at s k left right party action) ⌝ }
-    ensures written { λ _. ⌜ now (image .exit) ≡ ownWritten (now (image .entry)) (basesOf at s k left right party action) plan at (left .next) ⌝ }
-    ensures gives { λ r. ⌜ r ≡ ownBlock (basesOf at s k left right party action) plan kind party left right ⌝ }
+    ensures written { λ _. ⌜ now (image .exit) ≡ recordWritten (now (image .entry)) (basesOf at s k left right party action) plan at (left .next) ⌝ }
+    ensures gives { λ r. ⌜ r ≡ recordBlock (basesOf at s k left right party action) plan kind party left right ⌝ }
 {
     let named = bases(at, s, k, left, right, party, action);
-    put_own(image, at, &named, plan.0, plan.1);
-    put_own(image, left.next, &named, plan.0 + plan.1, plan.2);
-    let own = row_at(&named, plan.7);
-    let others = row_at(&named, plan.8);
+    put_rows(image, at, &named, plan.0, plan.1);
+    put_rows(image, left.next, &named, plan.0 + plan.1, plan.2);
+    let own = value_at(&named, plan.7);
+    let others = value_at(&named, plan.8);
     Block {
         before: left.before,
         next: left.next + plan.2 as u32,
-        first: row_at(&named, plan.6),
+        first: value_at(&named, plan.6),
         second: if party == 2 { others } else { own },
         third: if party == 2 { own } else { others },
         code: contract::completed(kind, left.code, right.code),
@@ -395,9 +397,9 @@ fn wires_of(plan: Plan, at: u32, s: u32, k: u32) -> Wires
 {
     let named = bases(at, s, k, no_block(0, 0), no_block(0, 0), 0, 0);
     Wires {
-        start: row_at(&named, plan.3),
-        go: row_at(&named, plan.4),
-        keep: row_at(&named, plan.5),
+        start: value_at(&named, plan.3),
+        go: value_at(&named, plan.4),
+        keep: value_at(&named, plan.5),
     }
 }
 
@@ -431,6 +433,15 @@ fn emit(contract: &[u8], n: usize, image: &mut [u8], at: u32, s: u32, k: u32) ->
 
 // ---- the image
 
+// The rows that every image has first: never true, true in period 1 only, and true in all the others.
+const NEVER_ROW: u32 = 0;
+
+const FIRST_ROW: u32 = 1;
+
+const LATER_ROW: u32 = 2;
+
+const FIXED_ROWS: u32 = 3;
+
 // Writes the end record after `rows` rows.
 fn put_end(image: &mut [u8], rows: u32, sat: u32, one: u32, two: u32)
     requires { ⌜ rowBytes * rows + rowBytes ≤ length (now image) ⌝ }
@@ -450,10 +461,10 @@ fn put_image(contract: &[u8], n: usize, image: &mut [u8]) -> u32
     ensures written { λ _. ⌜ now (image .exit) ≡ sets (now (image .entry)) 0 (imageFor (now (contract .entry))) ⌝ }
     ensures count { λ r. ⌜ r ≡ rowCount (imageFor (now (contract .entry))) ⌝ }
 {
-    put_row(image, 0, NEVER, 0, 0);
-    put_row(image, 1, FIRST, 0, 0);
-    put_row(image, 2, NOT, 1, 0);
-    let whole = emit(contract, n, image, 3, 1, 2);
+    put_row(image, NEVER_ROW, NEVER, 0, 0);
+    put_row(image, FIRST_ROW, FIRST, 0, 0);
+    put_row(image, LATER_ROW, NOT, FIRST_ROW, 0);
+    let whole = emit(contract, n, image, FIXED_ROWS, FIRST_ROW, LATER_ROW);
     put_end(image, whole.next, whole.first, whole.second, whole.third);
     whole.next
 }
@@ -463,8 +474,12 @@ fn put_image(contract: &[u8], n: usize, image: &mut [u8]) -> u32
 // Compile's reply: number (4 bytes), rows (4), place (8).
 const COMPILE_REPLY_BYTES: usize = 16;
 
-// The refusal of an image buffer that is too short.
+// The refusal of an image buffer that is too short: it must have room for so many rows for each record, and so many more with the end record.
 const SHORT_BUFFER: u32 = 8;
+
+const RECORD_ROWS: usize = 32;
+
+const MORE_ROWS: usize = 65;
 
 // Writes compile's reply.
 fn put_reply(reply: &mut [u8], number: u32, rows: u32, place: u64)
@@ -490,7 +505,7 @@ pub extern "C" fn monitor_compile(contract: &[u8], image: &mut [u8], reply: &mut
         put_reply(reply, contract::number(answer), 0, contract::place(answer));
         return 1;
     };
-    if image.len() < runner::ROW_BYTES * (32 * n + 65) {
+    if image.len() < runner::ROW_BYTES * (RECORD_ROWS * n + MORE_ROWS) {
         put_reply(reply, SHORT_BUFFER, 0, 0);
         return 1;
     }

@@ -9,13 +9,8 @@ use Rattle.contract.specs.declared.Answer.the-variants.{Refused, Taken}
 use Rattle.contract.specs.Meaning.{Clause}
 use Rattle.contract.specs.Spelling.{records, Spells}
 use Rattle.contract.specs.Reader.{Result, refused, taken, read, recordCount, answer}
+use Rattle.contract.specs.Codes.{Contract}
 use Rattle.contract.proofs.Reader.{taken-spells, taken-count, spells-taken}
-
--- the bytes spell a clause of so many records
-pub record Contract (l : List ℕ) (n : ℕ) : Type 0 where
-  pub clause : Clause
-  pub spells : Spells l clause
-  pub count : n ≡ records clause
 
 module _ (l : List ℕ) where
   pub answer-refused : (f : Fault) (k : ℕ) → answer l ≡ Refused f k → read l ≡ refused f k
@@ -35,7 +30,7 @@ module _ (l : List ℕ) where
       go (taken c) e =
           let h′ = rw e at h in
           let i : recordCount l ≡ n = cc in
-          record { clause = c; spells = taken-spells l c e; count = sym i ∙ taken-count l c e }
+          record { clause = c; is = e; spells = taken-spells l c e; count = sym i ∙ taken-count l c e }
 
   pub spells-answer : (c : Clause) → Spells l c → answer l ≡ Taken (records c)
   unfolding answer

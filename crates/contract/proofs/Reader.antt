@@ -16,9 +16,9 @@ use Rattle.contract.specs.Limits.{maxRecords, recordBytes}
 use Rattle.contract.specs.Table.{Sort, clause, expression, Kind, line}
 use Rattle.contract.specs.Meaning.{Clause, EmptyFree}
 use Rattle.contract.specs.Trees.{Tree, Trees, Fields, node}
-use Rattle.contract.specs.Spelling.{recordOf, spell, records, InRange, Spells}
+use Rattle.contract.specs.Spelling.{recordOf, spell, records, InRange, Spells, spellTree, treeRecords}
 use Rattle.contract.specs.Reader.{taken, Operand, operand, readRecord, readRecords, justOne, recordCount, goodLength, read}
-use Rattle.contract.proofs.Spelling.{spellTree, treeRecords, spellTrees, treesRecords, All, recordWith, on-tree, spell-node, records-node, length-spell, some-records}
+use Rattle.contract.proofs.Spelling.{spellTrees, treesRecords, All, recordWith, on-tree, spell-node, records-node, length-spell, some-records}
 use Rattle.contract.proofs.Nodes.{Good, GoodNode, good-node, onto, read-node, Completed, required, followed, completed}
 
 -- ---- what has been read is what the stack spells

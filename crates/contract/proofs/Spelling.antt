@@ -15,17 +15,9 @@ use Rattle.contract.specs.Expressions.{Expression}
 use Rattle.contract.specs.Meaning as M
 use Rattle.contract.specs.Meaning.{Clause}
 use Rattle.contract.specs.Trees.{Tree, Trees, Used, Fields, node}
-use Rattle.contract.specs.Spelling.{recordOf, spellAtom, spellExpression, spell, expressionRecords, records}
+use Rattle.contract.specs.Spelling.{recordOf, spellAtom, spellExpression, spell, expressionRecords, records, spellTree, treeRecords}
 
 -- ---- of any sort
-
-abbrev pub spellTree : (s : Sort) → Tree s → List ℕ
-spellTree clause c = spell c
-spellTree expression e = spellExpression e
-
-abbrev pub treeRecords : (s : Sort) → Tree s → ℕ
-treeRecords clause c = records c
-treeRecords expression e = expressionRecords e
 
 abbrev pub spellTrees : (ss : List Sort) → Trees ss → List ℕ
 spellTrees [] ts = []

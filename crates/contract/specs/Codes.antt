@@ -4,6 +4,7 @@ use Prim.Native.Nat.{ℕ, _≤_, _*_}
 use mathlib.Core.Bool.{Bool, true, false, _&&_, _||_, cond}
 use mathlib.Core.List.{List, map}
 use mathlib.Core.Option.{Option, none, some}
+use mathlib.Core.Path.{_≡_}
 use lib.Dec.{eqb, ltb, leb}
 use lib.ListN.{length, getD}
 use Rattle.records.specs.Limits.{actions}
@@ -17,7 +18,9 @@ use Rattle.contract.specs.declared.Step.the-variants.{Bad, Completed}
 use Rattle.contract.specs.Limits.{maxRecords, recordBytes}
 use Rattle.contract.specs.Table.{Sort, clause, expression, Kind, kindOf, line}
 use Rattle.contract.specs.Expressions.{holdsEmpty}
-use Rattle.contract.specs.Reader.{Operand, operand}
+use Rattle.contract.specs.Meaning.{Clause}
+use Rattle.contract.specs.Spelling.{records, Spells}
+use Rattle.contract.specs.Reader.{taken, read, Operand, operand}
 
 -- ---- the table in numbers
 
@@ -113,3 +116,12 @@ stepOf l b t = cond (marked l 0 contractMark) (stepFound (lookupOf (kindOf (getD
 pub record HasRecords (l : List ℕ) (n : ℕ) : Type 0 where
   pub whole : recordBytes * n ≤ length l
   pub few : n ≤ maxRecords
+
+-- ---- what a caller of the reader knows of a contract that is taken
+
+-- the bytes are read as this clause, which they spell, and it has so many records
+pub record Contract (l : List ℕ) (n : ℕ) : Type 0 where
+  pub clause : Clause
+  pub is : read l ≡ taken clause
+  pub spells : Spells l clause
+  pub count : n ≡ records clause

@@ -7,9 +7,10 @@ use Rattle.records.specs.Marks.{contractMark}
 use Rattle.records.specs.Periods.{number}
 use Rattle.contract.specs.Limits.{maxRecords}
 use Rattle.contract.specs.Table as K
-use Rattle.contract.specs.Table.{Kind, line}
+use Rattle.contract.specs.Table.{Sort, Kind, line}
 use Rattle.contract.specs.Expressions.{Atom, any, tries, idle, succeeds, fails, Expression, atom, seq, or, star}
 use Rattle.contract.specs.Meaning.{Literal, duty, ban, power, Clause, literal, both, then, repair, repeat, when, until, EmptyFree}
+use Rattle.contract.specs.Trees.{Tree}
 
 -- "`54 43`, kind, party, action, a last byte that no kind uses"
 unfoldable pub recordOf : Kind → (party action : ℕ) → List ℕ
@@ -61,6 +62,15 @@ records (repair l r) = records l + records r + 1
 records (repeat c) = records c + 1
 records (when e c) = expressionRecords e + records c + 1
 records (until c e) = records c + expressionRecords e + 1
+
+-- of a tree of either sort
+abbrev pub spellTree : (s : Sort) → Tree s → List ℕ
+spellTree K.clause c = spell c
+spellTree K.expression e = spellExpression e
+
+abbrev pub treeRecords : (s : Sort) → Tree s → ℕ
+treeRecords K.clause c = records c
+treeRecords K.expression e = expressionRecords e
 
 -- every action is one of those that there are; the parties are 1 and 2 by their type
 abbrev pub AtomInRange : Atom → Type 0

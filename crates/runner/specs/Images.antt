@@ -25,8 +25,11 @@ rowsBytes [] = []
 rowsBytes (r ∷ rs) = encode r ++ rowsBytes rs
 
 -- "End: `54 45`, then S, V1, V2, two-byte numbers of rows of the image."
+abbrev pub endRecord : (S V1 V2 : ℕ) → List ℕ
+endRecord s v w = endMark ++ (bytes 2 s ++ (bytes 2 v ++ bytes 2 w))
+
 unfoldable pub endBytes : Image → List ℕ
-endBytes m = endMark ++ (bytes 2 (m .S) ++ (bytes 2 (m .V1) ++ bytes 2 (m .V2)))
+endBytes m = endRecord (m .S) (m .V1) (m .V2)
 
 unfoldable pub imageBytes : Image → List ℕ
 imageBytes m = rowsBytes (m .rows) ++ endBytes m

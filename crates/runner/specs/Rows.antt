@@ -50,8 +50,11 @@ fieldY (conjunction x y) = y
 fieldY (disjunction x y) = y
 fieldY (previous x) = 0
 
+abbrev pub rowRecord : (kind x y : ℕ) → List ℕ
+rowRecord k x y = rowMark ++ (k ∷ 0 ∷ (bytes 2 x ++ bytes 2 y))
+
 unfoldable pub encode : Row → List ℕ
-encode r = rowMark ++ (kind r ∷ 0 ∷ (bytes 2 (fieldX r) ++ bytes 2 (fieldY r)))
+encode r = rowRecord (kind r) (fieldX r) (fieldY r)
 
 -- the fields fit a row's bytes: an action is below 16, a row's number fits two bytes
 abbrev pub Fits : Row → Type 0

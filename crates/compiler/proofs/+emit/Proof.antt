@@ -56,11 +56,10 @@ callees t = (
 -- what the record holds, its plan and how many operands it has
 reads : (t : ℕ) (c : emit-lts.After-struct-known (callees t) (emit-at t) emit.Post)
     → let a = c .before .before .before .before .before .before .before .before .before .before .args in
-    Reads (a .contract .now) (a .n) (a .n - 1) (getD (a .contract .now) (recordBytes * (a .n - 1) + 2) 0) (c .before .before .before .before .before .wide .result)
+    Reads (a .contract .now) (a .n) (getD (a .contract .now) (recordBytes * (a .n - 1) + 2) 0) (c .before .before .before .before .before .wide .result)
     (c .before .before .before .wide2 .result) (c .before .operands .result) (c .before .before .plan-of .result)
 reads t c =
     record {
-      last-is = refl;
       kind-is = refl;
       party-is = c .before .before .before .before .before .wide .ensures .0;
       action-is = c .before .before .before .wide2 .ensures .0;

@@ -1,14 +1,19 @@
 -- `compiler::plan_of` meets its contract: the program's plans are the definition's at every kind's number.
 -- Assumes nothing.
-use Prim.Native.Nat.{_-_}
+use Prim.Native.Nat.{ℕ, _-_, _≤_}
 use native.Mathlib.Omega.{arith}
-use mathlib.Core.Path.{sym, ap, _∙_}
-use mathlib.Core.Option.{Option·some-injective, Option·none-ne-some}
+use mathlib.Core.Path.{_≡_, sym, ap, _∙_}
+use mathlib.Core.Option.{some, Option·some-injective, Option·none-ne-some}
 use borrow.Author.Needs.{needs}
+use Rattle.contract.specs.Table.{Kind, kindOf}
 use Rattle.contract.proofs.Table.{clause-kind, expression-kind, no-kind, table-at}
 use Rattle.compiler.specs.Plans.{planOf}
 use Rattle.compiler.proofs.plan_of.Statement.{statement}
 use Rattle.compiler.proofs.plan_of.Tie as tie
+
+-- a number of no kind
+of-none : (n : ℕ) (k : Kind) → kindOf n ≡ some k → ¬ ((1 ≤ n) × (n ≤ 9)) → ¬ ((16 ≤ n) × (n ≤ 23)) → ⊥
+of-none n k e no-clause no-expression = Option·none-ne-some k (sym (no-kind n no-clause no-expression) ∙ e)
 
 sub-result : tie.Need-sub-result
 sub-result c = search needs
@@ -47,18 +52,18 @@ returns-2 c k e =
 returns-3 : tie.Need-returns-3
 returns-3 c k e =
     let h = c .if1 .taken in
-    absurd (Option·none-ne-some k (sym (no-kind (c .before .args .kind) (λ k. omega arith) (λ k. omega arith)) ∙ e))
+    absurd (of-none (c .before .args .kind) k e (λ i. omega arith) (λ i. omega arith))
 
 returns-4 : tie.Need-returns-4
 returns-4 c k e =
     let h = c .before .if2 .left in
     let i = c .if3 .taken in
-    absurd (Option·none-ne-some k (sym (no-kind (c .before .before .before .args .kind) (λ k. omega arith) (λ k. omega arith)) ∙ e))
+    absurd (of-none (c .before .before .before .args .kind) k e (λ j. omega arith) (λ j. omega arith))
 
 returns-5 : tie.Need-returns-5
 returns-5 c k e =
     let h = c .if4 .left in
-    absurd (Option·none-ne-some k (sym (no-kind (c .before .before .before .before .args .kind) (λ k. omega arith) (λ k. omega arith)) ∙ e))
+    absurd (of-none (c .before .before .before .before .args .kind) k e (λ i. omega arith) (λ i. omega arith))
 
 pub plan-of-spec : {M : Type 1} → statement M
 plan-of-spec =

@@ -12,14 +12,13 @@ use Rattle.records.specs.Fields.{bytes}
 use Rattle.records.proofs.Fields.{length-bytes}
 use Rattle.records.proofs.Written.{sets-append}
 use Rattle.runner.specs.Limits.{rowBytes}
-use Rattle.compiler.specs.Plans.{endRecord}
+use Rattle.runner.specs.Images.{endRecord}
 use Rattle.compiler.proofs.put_end.Statement.{statement}
 use Rattle.compiler.proofs.put_end.Tie as tie
 
 end-written : (l : List ℕ) (i sat one two : ℕ)
     → sets l i (endRecord sat one two)
     ≡ sets (sets (sets (set (set l i 0x54) (i + 1) 0x45) (i + 2) (bytes 2 sat)) (i + 4) (bytes 2 one)) (i + 6) (bytes 2 two)
-unfolding endRecord
 end-written l i sat one two =
     let e : i + 1 ≡ suc i = omega arith in
     rw e (simp (sets-append, length-bytes, add-assoc))

@@ -6,7 +6,7 @@ use mathlib.Core.Path.{_≡_}
 use borrow.Author.Needs.{needs}
 use borrow.Author.Tests.{eq-eqb, ne-eqb}
 use lib.Dec.{eqb}
-use Rattle.compiler.specs.Plans.{ownWritten, ownBlock}
+use Rattle.compiler.specs.Plans.{recordWritten, recordBlock}
 use Rattle.compiler.proofs.Writing.{length-written}
 use Rattle.compiler.proofs.put_record.Statement.{statement}
 use Rattle.compiler.proofs.put_record.Tie as tie
@@ -14,29 +14,29 @@ use Rattle.compiler.proofs.put_record.Tie as tie
 bases-requires : tie.Need-bases-requires
 bases-requires c κs = search needs
 
-put-own-requires : tie.Need-put-own-requires
-put-own-requires c κs = rw (c .before .before .bases .ensures) (c .before .before .before .before .pre .first)
+put-rows-requires : tie.Need-put-rows-requires
+put-rows-requires c κs = rw (c .before .before .bases .ensures) (c .before .before .before .before .pre .first)
 
-add-put-own : tie.Need-add-put-own
-add-put-own c = search needs
+add-put-rows : tie.Need-add-put-rows
+add-put-rows c = search needs
 
-put-own-requires-2 : tie.Need-put-own-requires-2
-put-own-requires-2 c κs =
+put-rows-requires-2 : tie.Need-put-rows-requires-2
+put-rows-requires-2 c κs =
     let h = c .before .before .before .before .before .before .before .before .before .pre .second in
     rw (c .before .before .before .before .before .before .before .bases .ensures) (record {
       bases-small = h .bases-small;
       listed = h .listed;
-      room = rw (c .before .before .before .before .put-own .ensures, length-written) (h .room);
+      room = rw (c .before .before .before .before .put-rows .ensures, length-written) (h .room);
       few = h .few;
     })
 
-row-at-requires : tie.Need-row-at-requires
-row-at-requires c κs =
+value-at-requires : tie.Need-value-at-requires
+value-at-requires c κs =
     let b = c .before .before .before .before .before .before .before .before .before .before .before in
     rw (b .bases .ensures) (b .before .before .pre .first .bases-small)
 
-row-at-requires-2 : tie.Need-row-at-requires-2
-row-at-requires-2 c κs =
+value-at-requires-2 : tie.Need-value-at-requires-2
+value-at-requires-2 c κs =
     let b = c .before .before .before .before .before .before .before .before .before .before .before .before .before in
     rw (b .bases .ensures) (b .before .before .pre .first .bases-small)
 
@@ -46,8 +46,8 @@ cast-t45 c = search needs
 add-t46 : tie.Need-add-t46
 add-t46 c = search needs
 
-row-at-requires-3 : tie.Need-row-at-requires-3
-row-at-requires-3 c κs =
+value-at-requires-3 : tie.Need-value-at-requires-3
+value-at-requires-3 c κs =
     let b = c .before .before .before .before .before .before .before .before .before .before .before .before .before .before .before in
     rw (b .bases .ensures) (b .before .before .pre .first .bases-small)
 
@@ -58,20 +58,20 @@ same-length : tie.Need-same-length
 same-length c = search needs
 
 returns : tie.Need-returns
-unfolding ownWritten ownBlock
+unfolding recordWritten recordBlock
 returns c =
     let n = c .before .before .before .before .before .before .before .before .before .before .before in
     let m = n .before .before .before .before .before in
     let b = m .before .before .before in
     let a = b .before .before .args in
-    let own = c .before .before .before .before .before .before .before .row-at in
-    let others = c .before .before .before .before .before .row-at2 in
+    let own = c .before .before .before .before .before .before .before .value-at in
+    let others = c .before .before .before .before .before .value-at2 in
     let second : c .before .before .if1 .t53 ≡ cond (eqb (a .party) 2) (others .result) (own .result) =
     ⊎-elim (λ w. rw (eq-eqb _ _ (w .0 .taken)) (w .1)) (λ w. rw (ne-eqb _ _ (w .0 .left)) (w .1)) (c .before .before .if1 .came) in
     let third : c .before .if2 .t57 ≡ cond (eqb (a .party) 2) (own .result) (others .result) =
     ⊎-elim (λ w. rw (eq-eqb _ _ (w .0 .taken)) (w .1)) (λ w. rw (ne-eqb _ _ (w .0 .left)) (w .1)) (c .before .if2 .came) in (
-      rw (n .put-own2 .ensures, m .put-own .ensures, b .bases .ensures),
-      rw (c .before .before .before .row-at3 .ensures, second, third, own .ensures, others .ensures, c .completed .ensures, b .bases .ensures),
+      rw (n .put-rows2 .ensures, m .put-rows .ensures, b .bases .ensures),
+      rw (c .before .before .before .value-at3 .ensures, second, third, own .ensures, others .ensures, c .completed .ensures, b .bases .ensures),
     )
 
 pub put-record-spec : {M : Type 1} → statement M
@@ -79,14 +79,14 @@ put-record-spec =
     tie.close
     (tie.spec
     bases-requires
-    put-own-requires
-    add-put-own
-    put-own-requires-2
-    row-at-requires
-    row-at-requires-2
+    put-rows-requires
+    add-put-rows
+    put-rows-requires-2
+    value-at-requires
+    value-at-requires-2
     cast-t45
     add-t46
-    row-at-requires-3
+    value-at-requires-3
     completed-requires
     same-length
     returns)

@@ -11,14 +11,13 @@ use Rattle.records.specs.Fields.{bytes}
 use Rattle.records.proofs.Fields.{length-bytes}
 use Rattle.records.proofs.Written.{sets-append}
 use Rattle.runner.specs.Limits.{rowBytes}
-use Rattle.compiler.specs.Plans.{rowNumbersBytes}
+use Rattle.runner.specs.Rows.{rowRecord}
 use Rattle.compiler.proofs.put_row.Statement.{statement}
 use Rattle.compiler.proofs.put_row.Tie as tie
 
 row-written : (l : List ℕ) (i kind x y : ℕ)
-    → sets l i (rowNumbersBytes kind x y)
+    → sets l i (rowRecord kind x y)
     ≡ sets (sets (set (set (set (set l i 0x54) (i + 1) 0x52) (i + 2) kind) (i + 3) 0) (i + 4) (bytes 2 x)) (i + 6) (bytes 2 y)
-unfolding rowNumbersBytes
 row-written l i kind x y =
     let one : i + 1 ≡ suc i = omega arith in
     let two : i + 2 ≡ suc (suc i) = omega arith in

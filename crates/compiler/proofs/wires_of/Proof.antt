@@ -15,18 +15,18 @@ no-block-requires-2 c κs = search needs
 bases-requires : tie.Need-bases-requires
 bases-requires c κs = search needs
 
-row-at-requires : tie.Need-row-at-requires
-row-at-requires c κs =
+value-at-requires : tie.Need-value-at-requires
+value-at-requires c κs =
     let t = c .before in
     rw (t .bases .ensures, t .before .no-block2 .ensures, t .before .before .no-block .ensures) (t .before .before .before .pre)
 
-row-at-requires-2 : tie.Need-row-at-requires-2
-row-at-requires-2 c κs =
+value-at-requires-2 : tie.Need-value-at-requires-2
+value-at-requires-2 c κs =
     let t = c .before .before .before in
     rw (t .bases .ensures, t .before .no-block2 .ensures, t .before .before .no-block .ensures) (t .before .before .before .pre)
 
-row-at-requires-3 : tie.Need-row-at-requires-3
-row-at-requires-3 c κs =
+value-at-requires-3 : tie.Need-value-at-requires-3
+value-at-requires-3 c κs =
     let t = c .before .before .before .before .before in
     rw (t .bases .ensures, t .before .no-block2 .ensures, t .before .before .no-block .ensures) (t .before .before .before .pre)
 
@@ -39,7 +39,7 @@ returns c =
     let a = t .before .before .before .args in
     let e : t .bases .result ≡ basesOf (a .at) (a .s) (a .k) (noBlock 0 0) (noBlock 0 0) 0 0 =
     rw (t .bases .ensures, t .before .no-block2 .ensures, t .before .before .no-block .ensures) in
-    rw (c .row-at3 .ensures, q .row-at2 .ensures, p .row-at .ensures, e)
+    rw (c .value-at3 .ensures, q .value-at2 .ensures, p .value-at .ensures, e)
 
 pub wires-of-spec : {M : Type 1} → statement M
 wires-of-spec =
@@ -48,7 +48,7 @@ wires-of-spec =
     no-block-requires
     no-block-requires-2
     bases-requires
-    row-at-requires
-    row-at-requires-2
-    row-at-requires-3
+    value-at-requires
+    value-at-requires-2
+    value-at-requires-3
     returns)

@@ -1,4 +1,4 @@
--- `compiler::row_at` meets its contract: a base and so many rows on from it are less than a number of four bytes holds.
+-- `compiler::value_at` meets its contract: a base and so many rows on from it are less than a number of four bytes holds.
 -- Assumes nothing.
 use Prim.Native.Nat.{_/_, _%_}
 use native.Mathlib.Omega.{arith}
@@ -6,8 +6,8 @@ use mathlib.Core.Path.{sym}
 use lib.ListN.{getD}
 use borrow.Author.Needs.{needs}
 use Rattle.compiler.proofs.Goodness.{⊹-plus}
-use Rattle.compiler.proofs.row_at.Statement.{statement}
-use Rattle.compiler.proofs.row_at.Tie as tie
+use Rattle.compiler.proofs.value_at.Statement.{statement}
+use Rattle.compiler.proofs.value_at.Tie as tie
 
 cast-result : tie.Need-cast-result
 cast-result c = search needs
@@ -27,7 +27,7 @@ add-result c = omega (arith, c .before .pre .small (c .before .args .x / 16))
 returns : tie.Need-returns
 returns c = sym (⊹-plus (getD (c .before .args .bases .now) (c .before .args .x / 16) 0) (c .before .args .x % 16))
 
-pub row-at-spec : {M : Type 1} → statement M
-row-at-spec =
+pub value-at-spec : {M : Type 1} → statement M
+value-at-spec =
     tie.close
     (tie.spec cast-result mul-result element-copy-out-result cast-result-2 add-result returns)
