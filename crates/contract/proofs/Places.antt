@@ -14,7 +14,7 @@ use Rattle.records.specs.Marks.{contractMark, marked}
 use Rattle.records.proofs.Written.{drop-take}
 use Rattle.contract.specs.declared.Fault.{Fault}
 use Rattle.contract.specs.declared.Fault.the-variants.{BadLength, BadMark, UnknownKind, BadField, BadOperands, NotOneClause, EmptyList}
-use Rattle.contract.specs.Limits.{recordBytes}
+use Rattle.contract.specs.Limits.{maxRecords, recordBytes}
 use Rattle.contract.specs.Table.{clause, expression, kindOf, line}
 use Rattle.contract.specs.Trees.{node}
 use Rattle.contract.specs.Reader.{Result, refused, taken, next, require, demand, fieldsOf, Operand, operand, operandsOf, holdsEmptyUnder, readRecord, readRecords, justOne, recordCount, goodLength, read, ofRecord, Faultless, FirstFault}
@@ -164,7 +164,7 @@ end-refused n (operand expression e ∷ p ∷ st) f k h = (cc, cc)
 data Refusal (l : List ℕ) (f : Fault) (k : ℕ) : Type 0 where
   at-length : goodLength l ≡ false → BadLength ≡ f → 0 ≡ k → Refusal l f k
   at-record : WholeRecords l → readRecords 0 (recordCount l) [] l ≡ refused f k → Refusal l f k
-  at-end : (st : List Operand) → readRecords 0 (recordCount l) [] l ≡ taken st → NotOneClause ≡ f → recordCount l ≡ k → Refusal l f k
+  at-end : WholeRecords l → (st : List Operand) → readRecords 0 (recordCount l) [] l ≡ taken st → NotOneClause ≡ f → recordCount l ≡ k → Refusal l f k
 
 refusal : (l : List ℕ) (f : Fault) (k : ℕ) → read l ≡ refused f k → Refusal l f k
 unfolding read
@@ -177,7 +177,7 @@ refusal l f k h = go (goodLength l) refl (readRecords 0 (recordCount l) [] l) re
         let m : g ≡ f = cc in
         let p : j ≡ k = cc in
         at-record (good-length l .0 e) (rw (m, p) at i)
-    go true e (taken st) i = let d = end-refused (recordCount l) st f k (rw (e, i) at h) in at-end st i (d .0) (d .1)
+    go true e (taken st) i = let d = end-refused (recordCount l) st f k (rw (e, i) at h) in at-end (good-length l .0 e) st i (d .0) (d .1)
 
 faultless : (l : List ℕ) (st : List Operand) → readRecords 0 (recordCount l) [] l ≡ taken st → Faultless l
 faultless l st h = record { none-met = λ f k e. go f k (refusal l f k e) }
@@ -185,7 +185,7 @@ faultless l st h = record { none-met = λ f k e. go f k (refusal l f k e) }
     go : (f : Fault) (k : ℕ) → Refusal l f k → ofRecord f ≡ false
     go f k (at-length g e i) = rw (← e)
     go f k (at-record w s) = absurd (refused-taken (sym s ∙ h))
-    go f k (at-end st′ g e i) = rw (← e)
+    go f k (at-end w st′ g e i) = rw (← e)
 
 -- where the first m records are passed, no beginning of them meets a fault of a record
 faultless-fronts : (l : List ℕ) (m : ℕ) (st : List Operand) → m ≤ recordCount l → readRecords 0 m [] l ≡ taken st
@@ -201,7 +201,7 @@ first-fault l f k h o = go (refusal l f k h)
   where
     go : Refusal l f k → FirstFault l f k
     go (at-length g e i) = absurd (false≢true (rw (← e) at o))
-    go (at-end st g e i) = absurd (false≢true (rw (← e) at o))
+    go (at-end w st g e i) = absurd (false≢true (rw (← e) at o))
     go (at-record w r) =
         let s = stopped 0 (recordCount l) [] l f k r in
         let p : s .passed ≡ k = omega (arith, s .place) in
@@ -220,7 +220,7 @@ fault-stays l f k g c o h = go (refusal (take (recordBytes * suc k) l) f k h)
   where
     go : Refusal (take (recordBytes * suc k) l) f k → read l ≡ refused f k
     go (at-length e b i) = absurd (false≢true (rw (← b) at o))
-    go (at-end st e b i) = absurd (false≢true (rw (← b) at o))
+    go (at-end w st e b i) = absurd (false≢true (rw (← b) at o))
     go (at-record w r) =
         let here : readRecords 0 (suc k) [] l ≡ refused f k =
         rw (count-front l (suc k) c, records-take 0 (suc k) (suc k) [] l (le-refl (suc k))) at r in
@@ -232,7 +232,7 @@ refused-length l k h = go (refusal l BadLength k h)
     go : Refusal l BadLength k → (goodLength l ≡ false) × (k ≡ 0)
     go (at-length g e i) = (g, sym i)
     go (at-record w r) = absurd (false≢true (stopped 0 (recordCount l) [] l BadLength k r .of-record))
-    go (at-end st g e i) = (cc, cc)
+    go (at-end w st g e i) = (cc, cc)
 
 pub refused-end : (l : List ℕ) (k : ℕ) → read l ≡ refused NotOneClause k
     → (k ≡ recordCount l) × ((n : ℕ) → n ≤ recordCount l → Faultless (take (recordBytes * n) l))
@@ -241,4 +241,13 @@ refused-end l k h = go (refusal l NotOneClause k h)
     go : Refusal l NotOneClause k → (k ≡ recordCount l) × ((n : ℕ) → n ≤ recordCount l → Faultless (take (recordBytes * n) l))
     go (at-length g e i) = let z : _≡_ {A = ℕ} 0 1 = cc in absurd (omega arith)
     go (at-record w r) = absurd (false≢true (stopped 0 (recordCount l) [] l NotOneClause k r .of-record))
-    go (at-end st g e i) = (sym i, faultless-fronts l (recordCount l) st (le-refl (recordCount l)) g)
+    go (at-end w st g e i) = (sym i, faultless-fronts l (recordCount l) st (le-refl (recordCount l)) g)
+
+-- a place is never above the most records
+pub place-most : (l : List ℕ) (f : Fault) (k : ℕ) → read l ≡ refused f k → k ≤ maxRecords
+place-most l f k h = go (refusal l f k h)
+  where
+    go : Refusal l f k → k ≤ maxRecords
+    go (at-length g e i) = omega arith
+    go (at-record w r) = let s = stopped 0 (recordCount l) [] l f k r in omega (arith, s .place, s .within, w .few-records)
+    go (at-end w st g e i) = omega (arith, w .few-records)

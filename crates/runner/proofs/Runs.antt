@@ -52,7 +52,7 @@ module _ (trace : List ℕ) (k : ℕ) (h : periodBytes * k + periodBytes ≤ len
   field-at j w i =
       ap value (rw (drop-take j periodBytes (drop (periodBytes * k) trace), drop-drop j (periodBytes * k) trace) (take-take w (periodBytes - j) (drop (periodBytes * k + j) trace) (omega arith)))
 
-  record-period : periodAt (recordAt trace k) 0 ≡ periodAt trace (periodBytes * k)
+  pub record-period : periodAt (recordAt trace k) 0 ≡ periodAt trace (periodBytes * k)
   unfolding periodAt
   record-period = rw (field-at 2 2 (omega arith), field-at 4 2 (omega arith))
 
@@ -62,7 +62,7 @@ module _ (trace : List ℕ) (k : ℕ) (h : periodBytes * k + periodBytes ≤ len
       let first : getD (recordAt trace k) 0 0 ≡ getD trace (periodBytes * k) 0 = byte-at 0 (omega arith) ∙ rw add-zero in
       rw (first, byte-at 1 (omega arith))
 
-  record-test : markedAt trace k ≡ true → recordTest (recordAt trace k) ≡ Passed
+  pub record-test : markedAt trace k ≡ true → recordTest (recordAt trace k) ≡ Passed
   unfolding recordTest marksTest recordCount firstFailing
   record-test m = rw (length-recordAt, record-marked ∙ m)
 

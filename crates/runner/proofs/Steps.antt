@@ -227,13 +227,17 @@ pub run-ready : (image state trace : List ℕ) → runTest image state trace ≡
 unfolding runTest
 run-ready image state trace e = tests-ready image state (traceTest trace) (recordCount trace) e .0
 
-pub run-marks : (image state trace : List ℕ) → runTest image state trace ≡ Passed → (i : ℕ) → i < recordCount trace → markedAt trace i ≡ true
-unfolding runTest traceTest marksTest
-run-marks image state trace e =
+pub trace-marks : (trace : List ℕ) → traceTest trace ≡ Passed → (i : ℕ) → i < recordCount trace → markedAt trace i ≡ true
+unfolding traceTest marksTest
+trace-marks trace e =
     let n = recordCount trace in
     let bad = firstFailing (markedAt trace) 0 n in
-    let t = first-passed (require (eqb (length trace % periodBytes) 0) (BadPeriod 0)) (marksTest trace) (tests-ready image state (traceTest trace) n e .1) in
+    let t = first-passed (require (eqb (length trace % periodBytes) 0) (BadPeriod 0)) (marksTest trace) e in
     all-passed (markedAt trace) n (eqb-true bad n (require-passed (eqb bad n) (BadPeriod bad) (period-refused bad) (t .1)))
+
+pub run-marks : (image state trace : List ℕ) → runTest image state trace ≡ Passed → (i : ℕ) → i < recordCount trace → markedAt trace i ≡ true
+unfolding runTest
+run-marks image state trace e = trace-marks trace (tests-ready image state (traceTest trace) (recordCount trace) e .1)
 
 -- the state after one period is read back, and its answer can be given
 pub step-read : (image l : List ℕ) → Ready image l 1 → (p : Period)

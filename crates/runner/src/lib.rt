@@ -48,7 +48,7 @@ pub enum Test {
 }
 
 // A refusal's number in replies, 0 for none.
-fn number(t: Test) -> u32
+pub fn number(t: Test) -> u32
     ensures { λ r. ⌜ r ≡ numberOf t ⌝ }
 {
     match t {
@@ -61,7 +61,7 @@ fn number(t: Test) -> u32
 }
 
 // Its place.
-fn place(t: Test) -> u64
+pub fn place(t: Test) -> u64
     ensures { λ r. ⌜ r ≡ placeOf t ⌝ }
 {
     match t {
@@ -232,7 +232,7 @@ fn state_test(n: usize, state: &[u8]) -> Test
 // ---- refusals 11 and 12
 
 // How many period records a trace has.
-fn record_count(trace: &[u8]) -> usize
+pub fn record_count(trace: &[u8]) -> usize
     ensures { λ r. ⌜ r ≡ recordCount (now (trace .entry)) ⌝ }
 {
     trace.len() / records::PERIOD_BYTES
@@ -276,7 +276,7 @@ fn record_test(period: &[u8]) -> Test
 }
 
 // A run's trace: its length, then its marks.
-fn trace_test(trace: &[u8]) -> Test
+pub fn trace_test(trace: &[u8]) -> Test
     ensures { λ r. ⌜ r ≡ traceTest (now (trace .entry)) ⌝ }
 {
     if trace.len() % records::PERIOD_BYTES != 0 {

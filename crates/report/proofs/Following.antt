@@ -1,0 +1,243 @@
+-- Laws of the lines of a trace: each step's reply holds what its line says.
+-- Assumes nothing.
+use Prim.Native.Nat.{ℕ, suc, _+_, _*_, _-_, _^_, _≤_, _<_}
+use native.Mathlib.Numerals.{add-one}
+use native.Mathlib.Omega.{arith}
+use mathlib.Core.Bool.{true}
+use mathlib.Core.List.{List, [], _∷_}
+use mathlib.Core.Path.{_≡_, refl, sym, _∙_}
+use borrow.Author.Tests.{lt-ltb}
+use lib.ListN.{length, replicate, take, drop}
+use lib.Seq.{sets}
+use Rattle.records.specs.Limits.{periodBytes}
+use Rattle.records.specs.Fields.{HoldsField}
+use Rattle.records.specs.Periods.{Period, party1, party2}
+use Rattle.records.specs.Verdicts.{Verdict, «open», met, broken, met-after, broken-after, verdictNumber}
+use Rattle.runner.specs.declared.Test.the-variants.{Passed}
+use Rattle.runner.specs.Limits.{maxPeriods}
+use Rattle.runner.specs.Refusals.{recordCount, markedAt}
+use Rattle.runner.specs.Calls.{beginReplyBytes, stepReplyBytes, Gives, begin, periodsOf, step}
+use Rattle.runner.specs.StepCalls.{StepCall, stateAfterCall, recordAt}
+use Rattle.runner.proofs.Calls.{long-verdict, long-blame, long-decision}
+use Rattle.runner.proofs.Steps.{length-periodsOf, trace-marks}
+use Rattle.runner.proofs.Runs.{record-period, record-test}
+use Rattle.contract.specs.Meaning.{Clause, only, bothParties, Decision, undecided, satisfied, violated, meaning}
+use Rattle.contract.specs.Verdicts.{decisionPeriod, blame, verdict}
+use Rattle.contract.specs.Reader.{taken, read}
+use Rattle.contract.proofs.Reader.{taken-spells}
+use Rattle.contract.proofs.Meaning.{within, within-period}
+use Rattle.compiler.specs.Monitors.{callTest, accepts, periodsAfter, meantReply, AnswersCalls, Monitors}
+use Rattle.report.specs.declared.Seen.{Seen}
+use Rattle.report.specs.Limits.{lineBytes, mostPeriods}
+use Rattle.report.specs.Texts.{periodLine, decidedLine}
+use Rattle.report.specs.Reports.{meantLine, periodLines, lines}
+use Rattle.report.specs.Putting.{Puts, Stepping, Follows, Listing, Listed, Following, Followed}
+use Rattle.report.proofs.Texts.{puts-both, short-period, short-decided}
+
+-- ---- a step's reply
+
+-- what a step on a part of the trace leaves, the part being its record k
+pub stepped : (image state trace : List ℕ) (k : ℕ) (result : ℕ) (later reply : List ℕ)
+    → Gives (step image state (take (periodBytes * k + periodBytes - periodBytes * k) (drop (periodBytes * k) trace)) (replicate stepReplyBytes 0)) result later reply
+    → (s : Seen) → HoldsField reply 4 4 (s .verdict) → HoldsField reply 16 4 (s .blame) → HoldsField reply 20 4 (s .decision)
+    → Stepping image state trace k later s
+unfolding recordAt
+stepped image state trace k result later reply g s v b d =
+    let e : periodBytes * k + periodBytes - periodBytes * k ≡ periodBytes = omega arith in
+    let h = rw e at g in
+    record {
+      state-is = h .state-is;
+      verdict-is = rw (← h .reply-is) (v .is);
+      blame-is = rw (← h .reply-is) (b .is);
+      decision-is = rw (← h .reply-is) (d .is);
+    }
+
+-- the fields of a reply are small
+small-verdict : (v : Verdict) → verdictNumber v < 256 ^ 4
+small-verdict «open» = omega arith
+small-verdict met = omega arith
+small-verdict broken = omega arith
+small-verdict met-after = omega arith
+small-verdict broken-after = omega arith
+
+pub small-blame : (d : Decision) → blame d < 10
+small-blame undecided = omega arith
+small-blame (satisfied k) = omega arith
+small-blame (violated k (only party1)) = omega arith
+small-blame (violated k (only party2)) = omega arith
+small-blame (violated k bothParties) = omega arith
+
+-- ---- a step on record k, from a state that follows the clause after the k records before it
+
+module _ (c : Clause) (image state trace : List ℕ) (k : ℕ) (later : List ℕ) (s : Seen)
+    (f : Follows c image state (periodsOf trace k)) (h : periodBytes * k + periodBytes ≤ length trace) (m : markedAt trace k ≡ true)
+    (few : k < mostPeriods) (g : Stepping image state trace k later s) where
+  abbrev before : List Period
+  before = periodsOf trace k
+
+  abbrev next : List Period
+  next = periodsOf trace (suc k)
+
+  abbrev the-call : StepCall
+  the-call = record { period = recordAt trace k; reply = replicate stepReplyBytes 0 }
+
+  is-accepted : accepts (length before) the-call ≡ true
+  unfolding accepts callTest
+  is-accepted = rw (record-test trace k h m, length-periodsOf trace k, lt-ltb k maxPeriods (omega arith))
+
+  periods-next : periodsAfter before the-call ≡ next
+  unfolding periodsAfter periodsOf
+  periods-next = rw (is-accepted, record-period trace k h)
+
+  reply-meant : step image state (recordAt trace k) (replicate stepReplyBytes 0) .reply ≡ sets (replicate stepReplyBytes 0) 0 (meantReply c next)
+  unfolding AnswersCalls
+  reply-meant = rw periods-next at (f .answers (the-call ∷ []) .1 .accepted is-accepted .1)
+
+  pub next-follows : Follows c image later next
+  unfolding AnswersCalls stateAfterCall
+  next-follows = record { free = f .free; answers = λ calls. rw (g .state-is, ← periods-next) (f .answers (the-call ∷ calls) .2) }
+
+  abbrev decided : Decision
+  decided = meaning c next
+
+  pub seen-verdict : s .verdict ≡ verdictNumber (verdict decided (length next))
+  unfolding meantReply
+  seen-verdict =
+      g .verdict-is
+      ∙ rw reply-meant
+      (long-verdict (replicate stepReplyBytes 0) Passed (verdictNumber (verdict decided (length next))) (blame decided) (decisionPeriod decided) (omega arith)
+      (small-verdict (verdict decided (length next))))
+
+  pub seen-blame : s .blame ≡ blame decided
+  unfolding meantReply
+  seen-blame =
+      g .blame-is
+      ∙ rw reply-meant
+      (long-blame (replicate stepReplyBytes 0) Passed (verdictNumber (verdict decided (length next))) (blame decided) (decisionPeriod decided) (omega arith)
+      (omega (arith, small-blame decided)))
+
+  pub seen-decision : s .decision ≡ decisionPeriod decided
+  unfolding meantReply
+  seen-decision =
+      let e : length next ≡ suc k = length-periodsOf trace (suc k) in
+      g .decision-is
+      ∙ rw reply-meant
+      (long-decision (replicate stepReplyBytes 0) Passed (verdictNumber (verdict decided (length next))) (blame decided) (decisionPeriod decided) (omega arith)
+      (omega (arith, within-period (length next) decided (within c (f .free) next))))
+
+-- ---- the loop over the periods
+
+-- after k periods this state follows the clause and the text holds their lines
+pub record Held (c : Clause) (image trace text₀ : List ℕ) (k : ℕ) (state text : List ℕ) (at decision : ℕ) : Type 0 where
+  pub follows : Follows c image state (periodsOf trace k)
+  pub puts : Puts text₀ 0 (periodLines c trace k) text at
+  pub decides : decision ≡ decisionPeriod (meaning c (periodsOf trace k))
+
+module _ (c : Clause) (image trace text₀ state : List ℕ) where
+  pub held-first : Follows c image state [] → Held c image trace text₀ 0 state text₀ 0 0
+  unfolding periodsOf periodLines
+  held-first f =
+      let z : decisionPeriod (meaning c []) ≤ 0 = within-period 0 (meaning c []) (within c (f .free) []) in
+      record { follows = f; puts = record { text-is = refl; end-is = refl }; decides = omega arith }
+
+  -- one period more
+  pub held-next : (k : ℕ) (text later last : List ℕ) (at r decision : ℕ) (s : Seen)
+      → Held c image trace text₀ k state text at decision → periodBytes * k + periodBytes ≤ length trace → markedAt trace k ≡ true → k < mostPeriods
+      → Stepping image state trace k later s
+      → ((v : Verdict) → s .verdict ≡ verdictNumber v → Puts text at (periodLine (k + 1) v (s .blame)) last r)
+      → Held c image trace text₀ (k + 1) later last r (s .decision)
+  unfolding periodLines meantLine
+  held-next k text later last at r decision s h l m few g p =
+      let f = h .follows in
+      let w = periodsOf trace (suc k) in
+      let e : length w ≡ k + 1 = length-periodsOf trace (suc k) ∙ sym (add-one k) in
+      let line = rw (seen-blame c image state trace k later s f l m few g, ← e) at (p (verdict (meaning c w) (length w)) (seen-verdict c image state trace k later s f l m few g)) in
+      rw add-one record {
+        follows = next-follows c image state trace k later s f l m few g;
+        puts = puts-both text₀ 0 (periodLines c trace k) (meantLine c w) (h .puts) line;
+        decides = seen-decision c image state trace k later s f l m few g;
+      }
+
+-- ---- the loop, for whichever clause the first state follows
+
+module _ {image state₀ trace text₀ : List ℕ} {n : ℕ} (a : Listing image state₀ trace n text₀) where
+  module _ (k : ℕ) (i : k < n) where
+    pub next-whole : periodBytes * k + periodBytes ≤ length trace
+    next-whole = omega (arith, a .whole)
+
+    next-few : k < mostPeriods
+    next-few = omega (arith, a .few)
+
+  module _ (k : ℕ) (state text : List ℕ) (at decision : ℕ) (h : (c : Clause) → Follows c image state₀ [] → Held c image trace text₀ k state text at decision) where
+    -- a step on record k
+    module _ (i : k < n) (later : List ℕ) (s : Seen) (g : Stepping image state trace k later s) where
+      here : Held (a .clause) image trace text₀ k state text at decision
+      here = h (a .clause) (a .follows)
+
+      pub next-blame : s .blame < 10
+      next-blame =
+          rw (seen-blame (a .clause) image state trace k later s (here .follows) (next-whole k i) (a .marks k i) (next-few k i) g)
+          (small-blame (meaning (a .clause) (periodsOf trace (suc k))))
+
+      module _ (last : List ℕ) (r : ℕ) (p : (v : Verdict) → s .verdict ≡ verdictNumber v → Puts text at (periodLine (k + 1) v (s .blame)) last r) where
+        pub next-short : r ≤ at + lineBytes
+        next-short =
+            let w = periodsOf trace (suc k) in
+            let v = verdict (meaning (a .clause) w) (length w) in
+            let q = p v (seen-verdict (a .clause) image state trace k later s (here .follows) (next-whole k i) (a .marks k i) (next-few k i) g) in
+            omega (arith, q .end-is, short-period (k + 1) v (s .blame) (omega (arith, next-few k i)) next-blame)
+
+        pub next-held : (c : Clause) → Follows c image state₀ [] → Held c image trace text₀ (k + 1) later last r (s .decision)
+        next-held c f =
+            held-next c image trace text₀ state k text later last at r decision s (h c f) (next-whole k i) (a .marks k i) (next-few k i) g p
+
+    -- the decision is among the periods
+    pub small-decision : k ≤ n → decision ≤ mostPeriods
+    small-decision i =
+        let q = h (a .clause) (a .follows) in
+        let w = periodsOf trace k in
+        let e : length w ≡ k = length-periodsOf trace k in
+        omega (arith, q .decides, a .few, within-period (length w) (meaning (a .clause) w) (within (a .clause) (q .follows .free) w))
+
+    -- there is room for the last line
+    pub last-room : k ≤ n → at ≤ lineBytes * k → length text ≡ length text₀ → at + length (decidedLine decision) ≤ length text
+    last-room i j e = omega (arith, a .room, short-decided decision (omega (arith, small-decision i)))
+
+    -- with the last line the report is whole
+    pub all-listed : k ≡ n → (last : List ℕ) (r : ℕ) → Puts text at (decidedLine decision) last r → Listed image state₀ trace n text₀ last r
+    unfolding lines
+    all-listed e last r p =
+        record {
+          puts = λ c f.
+              let q = h c f in
+              rw (← e) (puts-both text₀ 0 (periodLines c trace k) (decidedLine (decisionPeriod (meaning c (periodsOf trace k)))) (q .puts) (rw (q .decides) at p));
+        }
+
+-- ---- a state that begin leaves
+
+module _ {image state trace text : List ℕ} (a : Following image state trace text) where
+  -- begin's state follows the clause of whichever contract the image monitors
+  pub begun : (contract : List ℕ) (c : Clause) → Monitors contract image → read contract ≡ taken c → (reply : List ℕ) → beginReplyBytes ≤ length reply
+      → Follows c image (begin image state reply .state) []
+  begun contract c m e reply r =
+      let i : m .clause ≡ c = let g = sym (m .means) ∙ e in cc in
+      record { free = taken-spells contract c e .empty-free; answers = rw i at (m .answers state reply (a .state-long) r .1) }
+
+  -- the lines can be put
+  pub may-list : (reply later : List ℕ) → beginReplyBytes ≤ length reply → later ≡ begin image state reply .state
+      → Listing image later trace (recordCount trace) text
+  unfolding recordCount
+  may-list reply later r e =
+      rw e record {
+        clause = a .monitors .clause;
+        follows = begun (a .contract) (a .monitors .clause) (a .monitors) (a .monitors .means) reply r;
+        whole = omega arith;
+        marks = trace-marks trace (a .passed);
+        few = omega (arith, a .short);
+        room = omega (arith, a .short, a .room);
+      }
+
+  pub all-followed : (reply later : List ℕ) → beginReplyBytes ≤ length reply → later ≡ begin image state reply .state → (last : List ℕ) (n : ℕ)
+      → Listed image later trace (recordCount trace) text last n → Followed image trace text last n
+  all-followed reply later r e last n l =
+      record { puts = λ contract c m d. l .puts c (rw e (begun contract c m d reply r)) }

@@ -1,0 +1,52 @@
+-- Laws of the input's two parts.
+-- Assumes nothing.
+use Prim.Native.Nat.{ℕ, _*_, _≤_}
+use native.Mathlib.Omega.{arith}
+use mathlib.Core.Bool.{Bool, true, false, cond}
+use mathlib.Core.List.{List}
+use mathlib.Core.Path.{_≡_, sym, _∙_}
+use lib.Dec.{eqb}
+use lib.ListN.{length}
+use borrow.Author.Tests.{eq-eqb, ne-eqb}
+use Rattle.records.specs.Limits.{periodBytes}
+use Rattle.runner.specs.Refusals.{firstFailing, recordCount}
+use Rattle.runner.proofs.Refusals.{failing-most}
+use Rattle.report.specs.Split.{unmarkedAt, firstPeriod, contractLength}
+
+module _ (input : List ℕ) where
+  -- all the whole six bytes are within the input
+  pub sixes-within : periodBytes * recordCount input ≤ length input
+  unfolding recordCount
+  sixes-within = omega arith
+
+  -- the first with the mark is one of them, or past the last
+  pub first-within : firstPeriod input ≤ recordCount input
+  unfolding firstPeriod
+  first-within = omega (arith, failing-most (unmarkedAt input) 0 (recordCount input))
+
+  -- n whole six bytes, the first of which with the mark is number k, or k is n where none has it
+  module _ (n k : ℕ) (e : n ≡ recordCount input) (f : k ≡ firstFailing (unmarkedAt input) 0 n) where
+    first-is : firstPeriod input ≡ k
+    unfolding firstPeriod
+    first-is = rw (← e, ← f)
+
+    pub found-within : k ≤ n
+    found-within = omega (arith, first-is, first-within)
+
+    -- "Without such a record all is contract."
+    pub none-found : k ≡ n → length input ≡ contractLength input
+    unfolding contractLength
+    none-found h = rw (eq-eqb (firstPeriod input) (recordCount input) (first-is ∙ h ∙ e))
+
+    pub one-found : ¬ (k ≡ n) → periodBytes * k ≡ contractLength input
+    unfolding contractLength
+    one-found h = rw (ne-eqb (firstPeriod input) (recordCount input) (λ i. h (sym first-is ∙ i ∙ sym e)), first-is)
+
+  -- the contract is within the input
+  pub contract-within : contractLength input ≤ length input
+  unfolding contractLength
+  contract-within = go (eqb (firstPeriod input) (recordCount input))
+    where
+      go : (t : Bool) → cond t (length input) (periodBytes * firstPeriod input) ≤ length input
+      go true = omega arith
+      go false = omega (arith, sixes-within, first-within)

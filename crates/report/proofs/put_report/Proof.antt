@@ -1,0 +1,28 @@
+-- `report::put_report` meets its contract: longer than the limit, or the report of the input's parts.
+-- Assumes nothing.
+use borrow.Author.Needs.{needs}
+use native.Mathlib.Omega.{arith}
+use lib.Dec.{lit<}
+use Rattle.report.proofs.Texts.{short-refused}
+use Rattle.report.proofs.Reports.{longer, no-longer}
+use Rattle.report.proofs.put_report.Statement.{statement}
+use Rattle.report.proofs.put_report.Tie as tie
+
+cast-put-refused : tie.Need-cast-put-refused
+cast-put-refused c = search needs
+
+put-refused-requires : tie.Need-put-refused-requires
+put-refused-requires c κs = omega (arith, short-refused 13 0 (lit< tt) (lit< tt))
+
+returns : tie.Need-returns
+returns c = rw (longer _ (c .before .before .if1 .taken)) (c .put-refused .ensures)
+
+put-parts-requires : tie.Need-put-parts-requires
+put-parts-requires c κs = search needs
+
+returns-2 : tie.Need-returns-2
+returns-2 c = rw (no-longer _ (c .before .before .before .before .if1 .left)) (c .put-parts .ensures)
+
+pub put-report-spec : {M : Type 1} → statement M
+put-report-spec =
+    tie.close (tie.spec cast-put-refused put-refused-requires returns put-parts-requires returns-2)

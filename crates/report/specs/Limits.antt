@@ -1,0 +1,22 @@
+-- How much `watch` reads, and how much it prints at most. Document 01, "Watch", and "Replies that refuse", 13.
+use Prim.Native.Nat.{ℕ, _+_, _*_}
+
+-- "reads standard input up to 65,520 bytes"
+abbrev pub inputBytes : ℕ
+inputBytes = 65520
+
+-- 13: "input over 65,520 bytes; 0"
+abbrev pub tooLong : ℕ
+tooLong = 13
+
+-- the most period records of an input
+abbrev pub mostPeriods : ℕ
+mostPeriods = 10920
+
+-- the most bytes of a line, as of "10919 broken-after 3" with its end
+abbrev pub lineBytes : ℕ
+lineBytes = 21
+
+-- room for a line for each period and one more
+abbrev pub textBytes : ℕ
+textBytes = lineBytes * (mostPeriods + 1)

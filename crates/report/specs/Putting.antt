@@ -1,0 +1,76 @@
+-- What the program's functions compute with.
+use Prim.Native.Nat.{ℕ, _+_, _*_, _≤_, _<_}
+use mathlib.Core.Bool.{true}
+use mathlib.Core.List.{List, []}
+use mathlib.Core.Path.{_≡_}
+use lib.ListN.{length, replicate}
+use lib.Seq.{sets}
+use Rattle.records.specs.Limits.{periodBytes}
+use Rattle.records.specs.Fields.{field}
+use Rattle.records.specs.Periods.{Period}
+use Rattle.runner.specs.declared.Test.the-variants.{Passed}
+use Rattle.runner.specs.Limits.{headBytes}
+use Rattle.runner.specs.Images.{rowCount}
+use Rattle.runner.specs.Refusals.{recordCount, markedAt, traceTest}
+use Rattle.runner.specs.Calls.{stepReplyBytes, step}
+use Rattle.runner.specs.StepCalls.{StepCall, recordAt}
+use Rattle.contract.specs.Meaning.{Clause, EmptyFree}
+use Rattle.contract.specs.Reader.{taken, read}
+use Rattle.compiler.specs.Calls.{compileReplyBytes, Compiles}
+use Rattle.compiler.specs.Monitors.{AnswersCalls, Monitors}
+use Rattle.report.specs.declared.Seen.{Seen}
+use Rattle.report.specs.declared.Compiled.{Compiled}
+use Rattle.report.specs.Limits.{inputBytes, lineBytes, mostPeriods, textBytes}
+use Rattle.report.specs.Reports.{lines}
+
+-- these bytes stand in the text from byte `at` on, the others are as they were, and r is the byte after them
+pub record Puts (text : List ℕ) (at : ℕ) (vs : List ℕ) (later : List ℕ) (r : ℕ) : Type 0 where
+  pub text-is : later ≡ sets text at vs
+  pub end-is : r ≡ at + length vs
+
+-- what compile leaves where its reply is read from an area of zeros
+pub record Compiling (contract buffer later : List ℕ) (r : Compiled) : Type 0 where
+  pub result : ℕ
+  pub reply : List ℕ
+  pub compiles : Compiles contract buffer (replicate compileReplyBytes 0) result later reply
+  pub number-is : r .number ≡ field reply 0 4
+  pub rows-is : r .rows ≡ field reply 4 4
+  pub place-is : r .place ≡ field reply 8 8
+
+-- what a step on record k of a trace leaves where its reply is read from an area of zeros
+pub record Stepping (image state trace : List ℕ) (k : ℕ) (later : List ℕ) (r : Seen) : Type 0 where
+  pub state-is : later ≡ step image state (recordAt trace k) (replicate stepReplyBytes 0) .state
+  pub verdict-is : r .verdict ≡ field (step image state (recordAt trace k) (replicate stepReplyBytes 0) .reply) 4 4
+  pub blame-is : r .blame ≡ field (step image state (recordAt trace k) (replicate stepReplyBytes 0) .reply) 16 4
+  pub decision-is : r .decision ≡ field (step image state (recordAt trace k) (replicate stepReplyBytes 0) .reply) 20 4
+
+-- from this state, after the periods w, every list of step calls is answered by what the clause means
+pub record Follows (c : Clause) (image state : List ℕ) (w : List Period) : Type 0 where
+  pub free : EmptyFree c
+  pub answers : (calls : List StepCall) → AnswersCalls c image state w calls
+
+-- a state to begin with, a trace of n good records and room for their lines
+pub record Listing (image state trace : List ℕ) (n : ℕ) (text : List ℕ) : Type 0 where
+  pub clause : Clause
+  pub follows : Follows clause image state []
+  pub whole : periodBytes * n ≤ length trace
+  pub marks : (i : ℕ) → i < n → markedAt trace i ≡ true
+  pub few : n ≤ mostPeriods
+  pub room : lineBytes * (n + 1) ≤ length text
+
+-- the lines are those of whichever clause the state follows
+pub record Listed (image state trace : List ℕ) (n : ℕ) (text later : List ℕ) (r : ℕ) : Type 0 where
+  pub puts : (c : Clause) → Follows c image state [] → Puts text 0 (lines c trace n) later r
+
+-- an image that monitors a contract with its clause, a state for its rows, a trace without a fault and room for its lines
+pub record Following (image state trace text : List ℕ) : Type 0 where
+  pub contract : List ℕ
+  pub monitors : Monitors contract image
+  pub state-long : length state ≡ headBytes + rowCount image
+  pub passed : traceTest trace ≡ Passed
+  pub short : length trace ≤ inputBytes
+  pub room : textBytes ≤ length text
+
+-- the lines are those of whichever contract the image monitors
+pub record Followed (image trace text later : List ℕ) (r : ℕ) : Type 0 where
+  pub puts : (contract : List ℕ) (c : Clause) → Monitors contract image → read contract ≡ taken c → Puts text 0 (lines c trace (recordCount trace)) later r
