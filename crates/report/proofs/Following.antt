@@ -138,7 +138,7 @@ module _ (c : Clause) (image trace text₀ state : List ℕ) where
   unfolding periodsOf periodLines
   held-first f =
       let z : decisionPeriod (meaning c []) ≤ 0 = within-period 0 (meaning c []) (within c (f .free) []) in
-      record { follows = f; puts = record { text-is = refl; end-is = refl }; decides = omega arith }
+      record { follows = f; puts = record { text-is = refl; end-is = refl; fits = omega arith }; decides = omega arith }
 
   -- one period more
   pub held-next : (k : ℕ) (text later last : List ℕ) (at r decision : ℕ) (s : Seen)

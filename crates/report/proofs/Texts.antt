@@ -24,6 +24,7 @@ puts-both text at vs ws p q =
     record {
       text-is = rw (sets-append text at vs ws, ← p .text-is, ← p .end-is) (q .text-is);
       end-is = rw length-append (omega (arith, p .end-is, q .end-is));
+      fits = omega (arith, q .fits, ap length (p .text-is) ∙ length-sets text at vs);
     }
 
 pub puts-length : {text vs later : List ℕ} {at r : ℕ} → Puts text at vs later r → length later ≡ length text
@@ -34,14 +35,14 @@ pub puts-ends : {text vs later : List ℕ} {at r : ℕ} → Puts text at vs late
 puts-ends p = (p .end-is, puts-length p)
 
 -- a store is a put of one
-pub puts-one : (text : List ℕ) (at v : ℕ) → Puts text at (v ∷ []) (set text at v) (at + 1)
-puts-one text at v = record { text-is = refl; end-is = refl }
+pub puts-one : (text : List ℕ) (at v : ℕ) → at < length text → Puts text at (v ∷ []) (set text at v) (at + 1)
+puts-one text at v h = record { text-is = refl; end-is = refl; fits = omega arith }
 
 -- one byte more of a word
-pub puts-next : (text : List ℕ) (at : ℕ) (word : List ℕ) (k : ℕ) {later : List ℕ} → k < length word → Puts text at (take k word) later (at + k)
+pub puts-next : (text : List ℕ) (at : ℕ) (word : List ℕ) (k : ℕ) {later : List ℕ} → k < length word → at + k < length text → Puts text at (take k word) later (at + k)
     → Puts text at (take (k + 1) word) (set later (at + k) (getD word k 0)) (at + (k + 1))
-puts-next text at word k {later} h p =
-    rw (add-one, take-suc word k 0, add-suc, ← add-one) (puts-both text at (take k word) (getD word k 0 ∷ []) p (puts-one later (at + k) (getD word k 0)))
+puts-next text at word k {later} h l p =
+    rw (add-one, take-suc word k 0, add-suc, ← add-one) (puts-both text at (take k word) (getD word k 0 ∷ []) p (puts-one later (at + k) (getD word k 0) (omega (arith, puts-length p))))
 
 -- ---- verdicts and their numbers
 

@@ -23,10 +23,11 @@ use Rattle.report.specs.declared.Compiled.{Compiled}
 use Rattle.report.specs.Limits.{inputBytes, lineBytes, mostPeriods, textBytes}
 use Rattle.report.specs.Reports.{lines}
 
--- these bytes stand in the text from byte `at` on, the others are as they were, and r is the byte after them
+-- these bytes stand in the text from byte `at` on, all within it, the others are as they were, and r is the byte after them
 pub record Puts (text : List ℕ) (at : ℕ) (vs : List ℕ) (later : List ℕ) (r : ℕ) : Type 0 where
   pub text-is : later ≡ sets text at vs
   pub end-is : r ≡ at + length vs
+  pub fits : r ≤ length text
 
 -- what compile leaves where its reply is read from an area of zeros
 pub record Compiling (contract buffer later : List ℕ) (r : Compiled) : Type 0 where

@@ -48,7 +48,7 @@ put-decimal-same-length t c = simp length-set
 put-decimal-returns : (t : ℕ) → put-decimal-lts.Need-returns (callees t) (put-decimal-at t) put-decimal.Post
 put-decimal-returns t c =
     let a = c .before .before .args in
-    rw (decimal-one (a .n) (c .if1 .taken)) (puts-one (a .text .now) (a .at) (digit (a .n)))
+    rw (decimal-one (a .n) (c .if1 .taken)) (puts-one (a .text .now) (a .at) (digit (a .n)) (omega (arith, length-decimal-one (a .n) (c .if1 .taken), c .before .before .pre .1)))
 
 put-decimal-put-decimal-requires : (t : ℕ) → put-decimal-lts.Need-put-decimal-requires (callees t) (put-decimal-at t) put-decimal.Post
 put-decimal-put-decimal-requires t c κs =
@@ -81,7 +81,9 @@ put-decimal-same-length-2 t c = simp length-set (puts-length (c .before .before 
 put-decimal-returns-2 : (t : ℕ) → put-decimal-lts.Need-returns-2 (callees t) (put-decimal-at t) put-decimal.Post
 put-decimal-returns-2 t c =
     let a = c .before .before .before .before .before .before .args in
-    rw (decimal-more (a .n) (c .before .before .before .before .if1 .left)) (puts-both (a .text .now) (a .at) (decimal (a .n / 10)) (digit (a .n % 10) ∷ []) (c .before .before .put-decimal .ensures) (puts-one (c .before .before .put-decimal .last .0) (c .before .before .put-decimal .result) (digit (a .n % 10))))
+    let e = c .before .before .put-decimal .ensures in
+    let l = length-decimal-more (a .n) (c .before .before .before .before .if1 .left) in
+    rw (decimal-more (a .n) (c .before .before .before .before .if1 .left)) (puts-both (a .text .now) (a .at) (decimal (a .n / 10)) (digit (a .n % 10) ∷ []) e (puts-one (c .before .before .put-decimal .last .0) (c .before .before .put-decimal .result) (digit (a .n % 10)) (omega (arith, puts-ends e, l, c .before .before .before .before .before .before .pre .1))))
 
 pub +put-decimal-spec : {M : Type 1} → statement M
 +put-decimal-spec = close μ-put-decimal λ t. put-decimal-lts.spec (callees t) (put-decimal-at t) put-decimal.Post

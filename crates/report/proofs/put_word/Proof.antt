@@ -17,7 +17,7 @@ abbrev μ-loop : tie.MeasureT-loop
 μ-loop text₀ at word k₀ text k = length word - k
 
 loop-holds : tie.Need-loop-holds Inv-loop μ-loop
-loop-holds c = (omega arith, record { text-is = refl; end-is = refl })
+loop-holds c = (omega arith, record { text-is = refl; end-is = refl; fits = omega arith })
 
 shared-slice-read-text : tie.Need-shared-slice-read-text Inv-loop μ-loop
 shared-slice-read-text c = omega arith
@@ -38,7 +38,7 @@ loop-again : tie.Need-loop-again Inv-loop μ-loop
 loop-again c =
     let a = c .before .before .before .args in
     let l = c .before .before .loop in
-    (omega arith, puts-next (a .text .now) (a .at) (a .word .now) (l .k) (omega arith) (l .inv .1))
+    (omega arith, puts-next (a .text .now) (a .at) (a .word .now) (l .k) (omega arith) (omega arith) (l .inv .1))
 
 add-result : tie.Need-add-result Inv-loop μ-loop
 add-result c = omega arith
