@@ -3,3 +3,4 @@ pub mod Texts
 pub mod Split
 pub mod Following
 pub mod Reports
+pub mod Examples

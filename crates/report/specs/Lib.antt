@@ -4,3 +4,4 @@ pub mod Texts
 pub mod Split
 pub mod Reports
 pub mod Putting
+pub mod Examples

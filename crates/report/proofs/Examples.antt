@@ -1,0 +1,35 @@
+-- The vectors hold of the definitions, by computation.
+use mathlib.Core.Path.{refl}
+use Rattle.records.specs.Fields.{field, value}
+use Rattle.records.specs.Marks.{marked}
+use Rattle.records.specs.Periods.{tries, bit, periodAt}
+use Rattle.runner.specs.Refusals.{firstFailing, recordCount, marksTest, traceTest}
+use Rattle.runner.specs.Calls.{periodsOf}
+use Rattle.contract.specs.Table.{numbered, kindOf}
+use Rattle.contract.specs.Trees.{node}
+use Rattle.contract.specs.Meaning.{meaning, repeatMeaning}
+use Rattle.contract.specs.Reader as Reader
+use Rattle.contract.specs.Reader.{fieldsOf, operandsOf, readRecord, readRecords, read}
+use Rattle.report.specs.Texts.{digits, decimal, periodLine, decidedLine, refusedLine}
+use Rattle.report.specs.Split.{firstPeriod, contractLength}
+use Rattle.report.specs.Reports.{meantLine, periodLines, lines, onTrace, report}
+use Rattle.report.specs.Examples.{ReportVectors}
+
+pub report-vectors : ReportVectors
+unfolding
+    report contractLength firstPeriod firstFailing recordCount marked read Reader.goodLength Reader.recordCount readRecords readRecord numbered
+    kindOf fieldsOf operandsOf node onTrace traceTest marksTest lines periodLines meantLine periodsOf periodAt field value meaning repeatMeaning
+    tries bit periodLine decidedLine refusedLine decimal digits
+report-vectors =
+    record {
+      watched = refl;
+      empty-input = refl;
+      contract-only = refl;
+      trace-only = refl;
+      decided-first = refl;
+      never-decided = refl;
+      cut-record = refl;
+      cut-contract = refl;
+      bad-mark = refl;
+      contract-first = refl;
+    }
