@@ -132,13 +132,12 @@ static struct monitor_reply take(uint32_t rows, const uint8_t *records, size_t l
 
 /* ---- the contract and the trace of "Watch" */
 
-#define RECORD(kind, party, action) 0x54, 0x43, kind, party, action, 0
-#define DUTY RECORD(1, 1, 0)
-#define REPEAT RECORD(7, 0, 0)
-#define PERIOD(first, second) 0x54, 0x50, first, 0, second, 0
+#define DUTY MONITOR_RECORD(MONITOR_DUTY, 1, 0)
+#define REPEAT MONITOR_RECORD(MONITOR_REPEAT, 0, 0)
+#define ANY MONITOR_RECORD(MONITOR_ANY, 0, 0)
 
-static const uint8_t watched[] = {DUTY, RECORD(1, 1, 1), RECORD(6, 0, 0), REPEAT};
-static const uint8_t trace[] = {PERIOD(1, 1), PERIOD(0, 0), PERIOD(2, 0), PERIOD(1, 1)};
+static const uint8_t watched[] = {DUTY, MONITOR_RECORD(MONITOR_DUTY, 1, 1), MONITOR_RECORD(MONITOR_REPAIR, 0, 0), REPEAT};
+static const uint8_t trace[] = {MONITOR_PERIOD(1, 1), MONITOR_PERIOD(0, 0), MONITOR_PERIOD(2, 0), MONITOR_PERIOD(1, 1)};
 
 static const char *name(uint32_t verdict)
 {
@@ -191,11 +190,11 @@ static const struct { const char *label; const uint8_t *contract; size_t length;
     {"0 bytes", (const uint8_t *)"", 0},
     {"5 bytes", BYTES(0x54, 0x43, 1, 1, 0)},
     {"mark 54 44", BYTES(0x54, 0x44, 1, 1, 0, 0)},
-    {"kind 10", BYTES(RECORD(10, 0, 0))},
-    {"duty, party 3", BYTES(RECORD(1, 3, 0))},
+    {"kind 10", BYTES(MONITOR_RECORD(10, 0, 0))},
+    {"duty, party 3", BYTES(MONITOR_RECORD(MONITOR_DUTY, 3, 0))},
     {"repeat", BYTES(REPEAT)},
-    {"any", BYTES(RECORD(16, 0, 0))},
-    {"any, star, duty, when", BYTES(RECORD(16, 0, 0), RECORD(23, 0, 0), DUTY, RECORD(8, 0, 0))},
+    {"any", BYTES(ANY)},
+    {"any, star, duty, when", BYTES(ANY, MONITOR_RECORD(MONITOR_STAR, 0, 0), DUTY, MONITOR_RECORD(MONITOR_WHEN, 0, 0))},
     {"duty, duty", BYTES(DUTY, DUTY)},
 };
 

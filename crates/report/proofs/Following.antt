@@ -29,9 +29,9 @@ use Rattle.contract.proofs.Meaning.{within, within-period}
 use Rattle.compiler.specs.Monitors.{callTest, accepts, periodsAfter, meantReply, AnswersCalls, Monitors}
 use Rattle.report.specs.declared.Seen.{Seen}
 use Rattle.report.specs.Limits.{lineBytes, mostPeriods}
-use Rattle.report.specs.Texts.{periodLine, decidedLine}
+use Rattle.report.specs.Texts.{periodLine, decidedLine, Puts}
 use Rattle.report.specs.Reports.{meantLine, periodLines, lines}
-use Rattle.report.specs.Putting.{Puts, Stepping, Follows, Listing, Listed, Following, Followed}
+use Rattle.report.specs.Putting.{Stepping, Follows, Listing, Listed, Following, Followed}
 use Rattle.report.proofs.Texts.{puts-both, short-period, short-decided}
 
 -- ---- a step's reply

@@ -36,10 +36,10 @@ use Rattle.compiler.specs.Monitors.{Monitors}
 use Rattle.compiler.specs.Calls.{compileReply, compileReplyBytes, compile, Usable}
 use Rattle.report.specs.declared.Compiled.{Compiled}
 use Rattle.report.specs.Limits.{inputBytes, tooLong, textBytes}
-use Rattle.report.specs.Texts.{refusedLine}
+use Rattle.report.specs.Texts.{refusedLine, Puts}
 use Rattle.report.specs.Split.{contractLength, contractOf, traceOf}
 use Rattle.report.specs.Reports.{lines, onTrace, onContract, report}
-use Rattle.report.specs.Putting.{Puts, Compiling, Following, Followed}
+use Rattle.report.specs.Putting.{Compiling, Following, Followed}
 use Rattle.report.proofs.Split.{contract-within}
 
 -- ---- the input's length

@@ -13,9 +13,8 @@ use lib.Seq.{take-suc, length-sets}
 use borrow.Author.Tests.{lt-ltb, le-ltb, ltb-false}
 use Rattle.records.specs.Verdicts.{Verdict, «open», met, broken, met-after, broken-after, verdictNumber, verdictName}
 use Rattle.records.proofs.Written.{sets-append}
-use Rattle.report.specs.Limits.{lineBytes}
-use Rattle.report.specs.Texts.{ascii, digit, digits, decimal, periodLine, decidedLine, refusedLine}
-use Rattle.report.specs.Putting.{Puts}
+use Rattle.report.specs.Limits.{nameBytes, lineBytes}
+use Rattle.report.specs.Texts.{ascii, digit, digits, decimal, periodLine, decidedLine, refusedLine, Puts}
 
 -- two puts, one behind the other, are one
 pub puts-both : (text : List ℕ) (at : ℕ) (vs ws : List ℕ) {later last : List ℕ} {r s : ℕ}
@@ -114,7 +113,7 @@ pub few-digits : (d n : ℕ) → n < 10 ^ suc d → length (decimal n) ≤ suc d
 unfolding decimal
 few-digits d n h = length-digits (suc n) d n h
 
-pub short-name : (v : Verdict) → length (ascii (verdictName v)) ≤ 12
+pub short-name : (v : Verdict) → length (ascii (verdictName v)) ≤ nameBytes
 short-name «open» = omega arith
 short-name met = omega arith
 short-name broken = omega arith

@@ -13,6 +13,10 @@ tooLong = 13
 abbrev pub mostPeriods : ℕ
 mostPeriods = 10920
 
+-- the most bytes of a verdict's name
+abbrev pub nameBytes : ℕ
+nameBytes = 12
+
 -- the most bytes of a line, as of "10919 broken-after 3" with its end
 abbrev pub lineBytes : ℕ
 lineBytes = 21

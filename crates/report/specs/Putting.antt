@@ -1,10 +1,9 @@
--- What the program's functions compute with.
+-- What the inner functions need and give.
 use Prim.Native.Nat.{ℕ, _+_, _*_, _≤_, _<_}
 use mathlib.Core.Bool.{true}
 use mathlib.Core.List.{List, []}
 use mathlib.Core.Path.{_≡_}
 use lib.ListN.{length, replicate}
-use lib.Seq.{sets}
 use Rattle.records.specs.Limits.{periodBytes}
 use Rattle.records.specs.Fields.{field}
 use Rattle.records.specs.Periods.{Period}
@@ -21,13 +20,8 @@ use Rattle.compiler.specs.Monitors.{AnswersCalls, Monitors}
 use Rattle.report.specs.declared.Seen.{Seen}
 use Rattle.report.specs.declared.Compiled.{Compiled}
 use Rattle.report.specs.Limits.{inputBytes, lineBytes, mostPeriods, textBytes}
+use Rattle.report.specs.Texts.{Puts}
 use Rattle.report.specs.Reports.{lines}
-
--- these bytes stand in the text from byte `at` on, all within it, the others are as they were, and r is the byte after them
-pub record Puts (text : List ℕ) (at : ℕ) (vs : List ℕ) (later : List ℕ) (r : ℕ) : Type 0 where
-  pub text-is : later ≡ sets text at vs
-  pub end-is : r ≡ at + length vs
-  pub fits : r ≤ length text
 
 -- what compile leaves where its reply is read from an area of zeros
 pub record Compiling (contract buffer later : List ℕ) (r : Compiled) : Type 0 where

@@ -1,10 +1,13 @@
 -- The lines, in bytes. Document 01, "Watch".
-use Prim.Native.Nat.{ℕ, zero, suc, _+_, _/_, _%_}
+use Prim.Native.Nat.{ℕ, zero, suc, _+_, _/_, _%_, _≤_}
 use Prim.Native.Char.{code}
 use Prim.Native.String.{String, [], _∷_}
 use mathlib.Core.Bool.{cond}
 use mathlib.Core.List.{List, [] as []ᴸ, _∷_ as _∷ᴸ_, _++_}
+use mathlib.Core.Path.{_≡_}
 use lib.Dec.{ltb}
+use lib.ListN.{length}
+use lib.Seq.{sets}
 use Rattle.records.specs.Verdicts.{Verdict, verdictName}
 
 -- a text's bytes
@@ -36,3 +39,9 @@ decidedLine k = ascii "decided " ++ decimal k ++ ascii "\n"
 -- "A refusal prints only `refused`, number, place"
 unfoldable pub refusedLine : (number place : ℕ) → List ℕ
 refusedLine number place = ascii "refused " ++ decimal number ++ ascii " " ++ decimal place ++ ascii "\n"
+
+-- these bytes stand in the text from byte `at` on, all within it, the others are as they were, and r is the byte after them
+pub record Puts (text : List ℕ) (at : ℕ) (vs : List ℕ) (later : List ℕ) (r : ℕ) : Type 0 where
+  pub text-is : later ≡ sets text at vs
+  pub end-is : r ≡ at + length vs
+  pub fits : r ≤ length text

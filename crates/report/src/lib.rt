@@ -4,13 +4,16 @@ ghost use Prim.Native.Nat.{_+_, _*_, _≤_, _<_};
 ghost use lib.ListN.{length};
 ghost use Rattle.records.specs.Limits.{periodBytes};
 ghost use Rattle.records.specs.Verdicts.{Verdict, verdictNumber, verdictName};
+ghost use Rattle.runner.specs.Limits.{maxRows, headBytes};
 ghost use Rattle.runner.specs.Refusals.{firstFailing};
+ghost use Rattle.contract.specs.Limits.{maxRecords};
 ghost use Rattle.contract.specs.Reader.{read};
-ghost use Rattle.report.specs.Limits.{inputBytes, lineBytes, textBytes};
-ghost use Rattle.report.specs.Texts.{ascii, decimal, periodLine, decidedLine, refusedLine};
+ghost use Rattle.compiler.specs.Widths.{bufferBytes};
+ghost use Rattle.report.specs.Limits.{inputBytes, nameBytes, lineBytes, textBytes};
+ghost use Rattle.report.specs.Texts.{ascii, decimal, periodLine, decidedLine, refusedLine, Puts};
 ghost use Rattle.report.specs.Split.{unmarkedAt, contractLength, contractOf, traceOf};
 ghost use Rattle.report.specs.Reports.{onContract, report};
-ghost use Rattle.report.specs.Putting.{Puts, Compiling, Stepping, Listing, Listed, Following, Followed};
+ghost use Rattle.report.specs.Putting.{Compiling, Stepping, Listing, Listed, Following, Followed};
 use runner::Test;
 
 // The most bytes of an input.
@@ -57,9 +60,9 @@ fn put_decimal(text: &mut [u8], at: usize, n: u64) -> usize
 
 // Puts a verdict's name.
 fn put_name(text: &mut [u8], at: usize, verdict: u32) -> usize
-    requires { ⌜ at + 12 ≤ length (now text) ⌝ }
+    requires { ⌜ at + nameBytes ≤ length (now text) ⌝ }
     ensures { λ r. ⌜ ((v : Verdict) → verdict ≡ verdictNumber v → Puts (now (text .entry)) at (ascii (verdictName v)) (now (text .exit)) r) ⌝ }
-    ensures { λ r. ⌜ r ≤ at + 12 ⌝ }
+    ensures { λ r. ⌜ r ≤ at + nameBytes ⌝ }
 {
     match verdict {
         0 => put_word(text, at, b"open"),
@@ -216,8 +219,8 @@ fn follow(image: &[u8], state: &mut [u8], trace: &[u8], text: &mut [u8]) -> usiz
 // Puts the report of an input of at most so many bytes.
 fn put_parts(input: &[u8], image: &mut [u8], state: &mut [u8], text: &mut [u8]) -> usize
     requires { ⌜ length (now input) ≤ inputBytes ⌝ }
-    requires { ⌜ length (now image) ≡ 16904 ⌝ }
-    requires { ⌜ length (now state) ≡ 2122 ⌝ }
+    requires { ⌜ length (now image) ≡ bufferBytes maxRecords ⌝ }
+    requires { ⌜ length (now state) ≡ headBytes + maxRows ⌝ }
     requires { ⌜ length (now text) ≡ textBytes ⌝ }
     ensures { λ r. ⌜ Puts (now (text .entry)) 0 (onContract (read (contractOf (now (input .entry)))) (traceOf (now (input .entry)))) (now (text .exit)) r ⌝ }
 {
@@ -246,9 +249,9 @@ fn put_parts(input: &[u8], image: &mut [u8], state: &mut [u8], text: &mut [u8]) 
 // afterwards is left open.
 pub fn put_report(
     input: &[u8],
-    image: &mut [u8; 16904],
-    state: &mut [u8; 2122],
-    text: &mut [u8; 229341],
+    image: &mut [u8; IMAGE_BYTES],
+    state: &mut [u8; STATE_BYTES],
+    text: &mut [u8; TEXT_BYTES],
 ) -> usize
     ensures { λ r. ⌜ Puts (now (text .entry)) 0 (report (now (input .entry))) (now (text .exit)) r ⌝ }
 {

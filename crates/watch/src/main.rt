@@ -2,12 +2,6 @@
 ghost use Prim.Native.Nat.{_≤_};
 ghost use lib.ListN.{length};
 
-const STANDARD_INPUT: i32 = 0;
-
-const STANDARD_OUTPUT: i32 = 1;
-
-const STANDARD_ERROR: i32 = 2;
-
 // What was read: how many bytes, and whether a read failed.
 pub struct Input {
     pub length: usize,
@@ -20,7 +14,7 @@ fn read_input(buffer: &mut [u8]) -> Input
 {
     let mut length = 0;
     while length < buffer.len() {
-        let got = libc::read(STANDARD_INPUT, &mut buffer[length..]);
+        let got = libc::read(libc::STDIN_FILENO, &mut buffer[length..]);
         if got < 0 {
             return Input {
                 length: 0,
@@ -41,19 +35,22 @@ fn read_input(buffer: &mut [u8]) -> Input
 
 fn main() {
     // One byte more than an input may have, so that a longer one is seen.
-    let mut input = [0u8; 65521];
-    let mut image = [0u8; 16904];
-    let mut state = [0u8; 2122];
-    let mut text = [0u8; 229341];
+    let mut input = [0u8; report::INPUT_BYTES + 1];
+    let mut image = [0u8; report::IMAGE_BYTES];
+    let mut state = [0u8; report::STATE_BYTES];
+    let mut text = [0u8; report::TEXT_BYTES];
     let got = read_input(&mut input);
     if got.failed {
-        io::write_all(STANDARD_ERROR, b"watch: standard input cannot be read\n");
+        io::write_all(
+            libc::STDERR_FILENO,
+            b"watch: standard input cannot be read\n",
+        );
         return;
     }
     let length = report::put_report(&input[..got.length], &mut image, &mut state, &mut text);
-    if !io::write_all(STANDARD_OUTPUT, &text[..length]) {
+    if !io::write_all(libc::STDOUT_FILENO, &text[..length]) {
         io::write_all(
-            STANDARD_ERROR,
+            libc::STDERR_FILENO,
             b"watch: standard output cannot be written\n",
         );
     }

@@ -5,7 +5,7 @@ use native.Mathlib.Omega.{arith}
 use mathlib.Core.Path.{refl}
 use lib.ListN.{length, take}
 use lib.Seq.{take-all}
-use Rattle.report.specs.Putting.{Puts}
+use Rattle.report.specs.Texts.{Puts}
 use Rattle.report.proofs.Texts.{puts-length, puts-next}
 use Rattle.report.proofs.put_word.Statement.{statement}
 use Rattle.report.proofs.put_word.Tie as tie

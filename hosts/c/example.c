@@ -1,0 +1,82 @@
+/* An example host in C: compiles a contract between a plugin and its host, and steps it over four periods. */
+/* cc -std=c11 -Ihosts/c hosts/c/example.c target/staticlib/libcompiler.a target/staticlib/librunner.a */
+#include <stdio.h>
+
+#include "monitor.h"
+
+/* The plugin is party 1, the host party 2. In each period (here a recalculation) each of them tries some actions, */
+/* and an action succeeds when both try it. Actions are 0 to 15. */
+enum { PLUGIN = 1 };
+enum {
+    VALUES = 0,                 /* the plugin hands over its cells' values, the host takes them */
+    CORRECTION = 1              /* the plugin hands over a correction, the host takes it */
+};
+
+/* In each recalculation the plugin owes its values, or if that fails, a correction in the next one. */
+/* Operands stand before their operator: repeat (repair (duty values, duty correction)). */
+static const uint8_t contract[] = {
+    MONITOR_RECORD(MONITOR_DUTY, PLUGIN, VALUES),
+    MONITOR_RECORD(MONITOR_DUTY, PLUGIN, CORRECTION),
+    MONITOR_RECORD(MONITOR_REPAIR, 0, 0),
+    MONITOR_RECORD(MONITOR_REPEAT, 0, 0),
+};
+
+/* What the plugin and the host try in each recalculation: bit a is set when the party tries action a. */
+static const struct { uint16_t plugin, host; } attempts[] = {
+    {1 << VALUES, 1 << VALUES},
+    {0, 0},
+    {1 << CORRECTION, 0},
+    {1 << VALUES, 1 << VALUES},
+};
+
+/* Compile wants a buffer of MONITOR_BUFFER_BYTES. The image is the beginning of it, and how many rows it has follows */
+/* from the contract, so the state has room for the most. A host with many states takes MONITOR_STATE_BYTES(rows) for each. */
+static uint8_t image[MONITOR_BUFFER_BYTES(sizeof contract / MONITOR_RECORD_BYTES)];
+static uint8_t state[MONITOR_STATE_BYTES(MONITOR_MOST_ROWS)];
+
+static const char *const verdicts[] = {
+    [MONITOR_OPEN] = "open",
+    [MONITOR_MET] = "met",
+    [MONITOR_BROKEN] = "broken",
+    [MONITOR_MET_AFTER] = "met-after",
+    [MONITOR_BROKEN_AFTER] = "broken-after",
+};
+
+/* Prints why a call was refused: the number's meaning, and what the place counts, stand in monitor.h. */
+static int refused(const char *call, uint32_t number, uint64_t place)
+{
+    printf("%s refused %u %llu\n", call, (unsigned)number, (unsigned long long)place);
+    return 1;
+}
+
+int main(void)
+{
+    /* A call's result is 0 only where its reply area is too short, and a whole struct never is. */
+    struct monitor_compile_reply compiled;
+    struct monitor_begin_reply begun;
+    struct monitor_reply reply = {0};
+
+    monitor_compile(contract, sizeof contract, image, sizeof image, (uint8_t *)&compiled, sizeof compiled);
+    if (compiled.number != MONITOR_ACCEPTED)
+        return refused("compile", compiled.number, compiled.place);
+
+    /* From here on image and state are lent with just the lengths that the rows give. */
+    size_t image_length = MONITOR_IMAGE_BYTES(compiled.rows);
+    size_t state_length = MONITOR_STATE_BYTES(compiled.rows);
+
+    monitor_begin(image, image_length, state, state_length, (uint8_t *)&begun, sizeof begun);
+    if (begun.number != MONITOR_ACCEPTED)
+        return refused("begin", begun.number, begun.place);
+
+    for (size_t k = 0; k < sizeof attempts / sizeof attempts[0]; k++) {
+        const uint8_t period[MONITOR_PERIOD_BYTES] = {MONITOR_PERIOD(attempts[k].plugin, attempts[k].host)};
+        monitor_step(image, image_length, state, state_length, period, sizeof period, (uint8_t *)&reply, sizeof reply);
+        if (reply.number != MONITOR_ACCEPTED)
+            return refused("step", reply.number, reply.place);
+        /* Blame is 0 for nobody, 1 or 2 for a party, 3 for both. */
+        printf("%u %s %u\n", (unsigned)(k + 1), verdicts[reply.verdict], (unsigned)reply.blame);
+    }
+
+    printf("decided %u\n", (unsigned)reply.decision);
+    return 0;
+}
