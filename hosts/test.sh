@@ -1,14 +1,18 @@
 #!/usr/bin/env bash
-# The host tests: builds both archives and the hosts in C, runs them and compares what they print.
+# The host tests: builds the archives, `watch` and the hosts, runs them and compares what they print. A line `ok ..` for each.
 set -euo pipefail
 cd "$(dirname "${BASH_SOURCE[0]}")/.."
 
 rt staticlib runner
 rt staticlib compiler
+rt check watch
 runner=target/staticlib/librunner.a
 compiler=target/staticlib/libcompiler.a
-built=target/hosts
+watch=$PWD/target/bin/watch
+built=$PWD/target/hosts
 mkdir -p "$built"
+
+# ---- C
 
 # The header is C++ too.
 if command -v c++ >/dev/null; then
@@ -33,6 +37,26 @@ try_host() {
 try_host smoke "$runner"
 try_host samples "$runner"
 try_host compile "$compiler" "$runner"
+try_host example "$compiler" "$runner"
+
+# ---- watch
+
+bash hosts/watch.sh "$watch"
+
+# ---- Rust
+
+cd hosts
+cargo fmt --check
+echo "ok the Rust hosts are formatted"
+cargo test --release --workspace --quiet
+echo "ok tests of the Rust wrapper, the reference and the comparison"
+cargo run --release --quiet -p monitor --example plugin >"$built/plugin.out"
+diff -u rust/examples/plugin.expected "$built/plugin.out"
+echo "ok plugin"
+cargo run --release --quiet -p compare -- --seed 1 --cases 200000 --watch "$watch" --watch-cases 2000
+echo "ok comparison with the reference"
+
+cd ..
 
 # The benchmark is run for what it compares, not for its times: both machines end in the same row values.
 cc -std=c11 -Wall -Wextra -Werror -O2 -Ihosts/c -o "$built/run_ratio" hosts/bench/run_ratio.c "$runner"

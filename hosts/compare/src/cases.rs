@@ -1,0 +1,302 @@
+//! Random cases by family.
+
+use crate::contracts;
+use crate::images;
+use crate::random::Random;
+use crate::traces;
+use reference::contract::{least_buffer, read};
+use reference::Period;
+
+#[derive(Clone, Copy, Debug, PartialEq, Eq)]
+pub enum Family {
+    Contracts,
+    DamagedContracts,
+    Images,
+    DamagedImages,
+}
+
+/// The families with their names, in the summary's order.
+pub const FAMILIES: [(Family, &str); 4] = [
+    (Family::Contracts, "contracts"),
+    (Family::DamagedContracts, "damaged contracts"),
+    (Family::Images, "images"),
+    (Family::DamagedImages, "damaged images, states, traces"),
+];
+
+/// How a case gets its image and state.
+#[derive(Clone)]
+pub enum Start {
+    /// Compile with a buffer and a reply area of these lengths; the state holds random bytes.
+    Contract {
+        bytes: Vec<u8>,
+        buffer: usize,
+        reply: usize,
+    },
+    Image {
+        bytes: Vec<u8>,
+        state: Vec<u8>,
+    },
+}
+
+/// A call on the image and the state, with a reply area of that length.
+#[derive(Clone)]
+pub enum Call {
+    Begin { reply: usize },
+    Step { period: Vec<u8>, reply: usize },
+    Run { trace: Vec<u8>, reply: usize },
+}
+
+#[derive(Clone)]
+pub struct Case {
+    pub family: Family,
+    /// The seed of what guard bytes and areas to be written hold.
+    pub fill: u64,
+    pub start: Start,
+    pub calls: Vec<Call>,
+}
+
+impl Case {
+    /// The case of that number.
+    pub fn of_seed(seed: u64) -> Case {
+        let mut random = Random::new(seed);
+        let fill = random.next();
+        let (family, start, calls) = match random.below(100) {
+            0..=39 => contract_case(&mut random),
+            40..=64 => damaged_contract_case(&mut random),
+            65..=79 => image_case(&mut random),
+            _ => damaged_image_case(&mut random),
+        };
+        Case {
+            family,
+            fill,
+            start,
+            calls,
+        }
+    }
+}
+
+/// A length of a reply area with room for `least` bytes.
+fn room(random: &mut Random, least: usize) -> usize {
+    match random.below(4) {
+        0 => least,
+        1 => least + 1,
+        2 => least + random.below(17),
+        _ => 2048,
+    }
+}
+
+/// A length of a reply area that may be too short.
+fn any_room(random: &mut Random, least: usize) -> usize {
+    match random.below(8) {
+        0 => least - 1,
+        1 => random.below(41),
+        2 => random.below(least),
+        _ => room(random, least),
+    }
+}
+
+type Parts = (Family, Start, Vec<Call>);
+
+/// A contract that is taken, with steps and runs.
+fn contract_case(random: &mut Random) -> Parts {
+    let bytes = contracts::good(random);
+    let least = least_buffer(bytes.len() / 6);
+    let buffer = random
+        .pick(&[least, least, least + 1, least + 8, 16904, 20000])
+        .max(least);
+    let reply = room(random, 16);
+    let length = traces::length(random);
+    let periods = match read(&bytes) {
+        Ok(clause) => traces::for_clause(random, &clause, length),
+        Err(_) => traces::any(random, length),
+    };
+    let mut calls = vec![Call::Begin {
+        reply: room(random, 16),
+    }];
+    take(random, &periods, &mut calls);
+    if random.percent(5) {
+        calls.push(Call::Begin {
+            reply: any_room(random, 16),
+        });
+        take(random, &periods, &mut calls);
+    }
+    if random.percent(2) {
+        // Without begin the state holds any bytes.
+        calls.remove(0);
+    }
+    (
+        Family::Contracts,
+        Start::Contract {
+            bytes,
+            buffer,
+            reply,
+        },
+        calls,
+    )
+}
+
+/// Steps and runs that take these periods, with refused calls between them.
+fn take(random: &mut Random, periods: &[Period], calls: &mut Vec<Call>) {
+    let refused = random.pick(&[0, 5, 15, 40]);
+    let runs = random.pick(&[0, 20, 60, 100]);
+    let mut rest = periods;
+    while !rest.is_empty() {
+        if random.percent(refused) {
+            calls.push(refused_call(random, rest));
+            continue;
+        }
+        if random.percent(runs) {
+            let (now, later) = rest.split_at(random.below(rest.len().min(30) + 1));
+            calls.push(Call::Run {
+                trace: traces::bytes(now),
+                reply: room(random, 24),
+            });
+            rest = later;
+        } else {
+            let (now, later) = rest.split_at(1);
+            calls.push(Call::Step {
+                period: traces::bytes(now),
+                reply: room(random, 24),
+            });
+            rest = later;
+        }
+    }
+    if random.percent(30) {
+        calls.push(Call::Run {
+            trace: Vec::new(),
+            reply: room(random, 24),
+        });
+    }
+}
+
+/// A call that is refused, mostly.
+fn refused_call(random: &mut Random, rest: &[Period]) -> Call {
+    let some = traces::bytes(&rest[..random.between(1, rest.len().min(20))]);
+    match random.below(4) {
+        0 => Call::Step {
+            period: traces::bad_period(random),
+            reply: any_room(random, 24),
+        },
+        1 => Call::Step {
+            period: traces::bytes(&rest[..1]),
+            reply: random.below(24),
+        },
+        2 => Call::Run {
+            trace: some,
+            reply: random.below(24),
+        },
+        _ => {
+            let mut trace = some;
+            traces::damage(random, &mut trace);
+            Call::Run {
+                trace,
+                reply: any_room(random, 24),
+            }
+        }
+    }
+}
+
+/// A contract with faults, with a buffer of a length around the least one.
+fn damaged_contract_case(random: &mut Random) -> Parts {
+    let bytes = if random.percent(15) {
+        contracts::good(random)
+    } else {
+        contracts::damaged(random)
+    };
+    let least = least_buffer(bytes.len() / 6);
+    let buffer = match random.below(8) {
+        0 => least - 1,
+        1 => 0,
+        2 => random.below(least),
+        3 => least - 8,
+        4 => least + 1,
+        5 => 20000,
+        _ => least,
+    };
+    let reply = any_room(random, 16);
+    let mut calls = vec![Call::Begin {
+        reply: any_room(random, 16),
+    }];
+    let periods = traces::any(random, 3);
+    take(random, &periods, &mut calls);
+    (
+        Family::DamagedContracts,
+        Start::Contract {
+            bytes,
+            buffer,
+            reply,
+        },
+        calls,
+    )
+}
+
+/// A good image that compile needn't have written, and a sound state.
+fn image_case(random: &mut Random) -> Parts {
+    let bytes = images::good(random);
+    let state = images::state(random, images::rows_of(&bytes));
+    let length = traces::length(random);
+    let periods = traces::any(random, length);
+    let mut calls = Vec::new();
+    take(random, &periods, &mut calls);
+    if random.percent(10) {
+        let at = random.below(calls.len() + 1);
+        calls.insert(
+            at,
+            Call::Begin {
+                reply: any_room(random, 16),
+            },
+        );
+    }
+    (Family::Images, Start::Image { bytes, state }, calls)
+}
+
+/// Faults in the image, the state or the trace, or in several of them.
+fn damaged_image_case(random: &mut Random) -> Parts {
+    let mut bytes = if random.percent(15) {
+        images::odd(random)
+    } else {
+        images::good(random)
+    };
+    let mut state = images::state(random, images::rows_of(&bytes));
+    let [image_fault, state_fault, trace_fault] = [35, 45, 50].map(|chance| random.percent(chance));
+    if image_fault {
+        for _ in 0..random.between(1, 2) {
+            images::damage(random, &mut bytes);
+        }
+        if random.percent(50) {
+            // A state that fits the damaged image's length.
+            state = images::state(random, images::rows_of(&bytes));
+        }
+    }
+    if state_fault {
+        images::damage_state(random, &mut state);
+    }
+    let mut calls = Vec::new();
+    for _ in 0..random.between(1, 3) {
+        let length = random.below(16);
+        let mut trace = traces::bytes(&traces::any(random, length));
+        if trace_fault {
+            traces::damage(random, &mut trace);
+        }
+        let reply = any_room(random, 24);
+        calls.push(match random.below(5) {
+            0 => Call::Begin {
+                reply: any_room(random, 16),
+            },
+            1 | 2 => Call::Step {
+                period: step_record(random, trace_fault),
+                reply,
+            },
+            _ => Call::Run { trace, reply },
+        });
+    }
+    (Family::DamagedImages, Start::Image { bytes, state }, calls)
+}
+
+fn step_record(random: &mut Random, fault: bool) -> Vec<u8> {
+    if fault {
+        traces::bad_period(random)
+    } else {
+        traces::bytes(&traces::any(random, 1))
+    }
+}

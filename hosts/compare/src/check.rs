@@ -1,0 +1,307 @@
+//! One case on the product and on the reference.
+
+use crate::cases::{Call, Case, Start};
+use crate::guard::Lent;
+use crate::random::Random;
+use crate::report::{Difference, Tally};
+use monitor::calls as product;
+use reference::calls::{self, short_reply, LONG_REPLY, SHORT_REPLY};
+use reference::contract::{compile, least_buffer, most_rows};
+use reference::records::{four_bytes, RECORD_BYTES};
+use reference::{image, Clause, Monitor, Period};
+use std::rc::Rc;
+
+/// Runs the case; an error is the first difference.
+pub fn check(case: &Case, tally: &mut Tally) -> Result<(), Difference> {
+    let mut random = Random::new(case.fill);
+    match &case.start {
+        Start::Contract {
+            bytes,
+            buffer,
+            reply,
+        } => {
+            let lent = Lent::new("contract", bytes, &mut random);
+            let compiled = check_compile(&lent, *buffer, *reply, &mut random, tally)?;
+            let Some((clause, image)) = compiled else {
+                return Ok(());
+            };
+            check_again(&lent, &image, &mut random)?;
+            let state = random.bytes(10 + image.len() / 8 - 1);
+            Session::new(&image, &state, Some(clause), random).check(&case.calls, tally)
+        }
+        Start::Image { bytes, state } => {
+            Session::new(bytes, state, None, random).check(&case.calls, tally)
+        }
+    }
+}
+
+fn results(call: &str, expected: u32, came: u32) -> Result<(), Difference> {
+    Difference::unless_same(call, "the result", &expected, &came)
+}
+
+/// The clause and the image of a contract that both take.
+type Compiled = (Rc<Clause>, Vec<u8>);
+
+/// Compile: its result and reply, the rows it may pick, and the bytes it must leave.
+fn check_compile(
+    contract: &Lent,
+    buffer: usize,
+    reply: usize,
+    random: &mut Random,
+    tally: &mut Tally,
+) -> Result<Option<Compiled>, Difference> {
+    const CALL: &str = "compile";
+    let mut image = Lent::random("image buffer", buffer, random);
+    let mut reply = Lent::random("reply area", reply, random);
+    let came = product::compile(contract.product(), image.product_mut(), reply.product_mut());
+    let has_room = reply.reference().len() >= SHORT_REPLY;
+    results(CALL, u32::from(has_room), came)?;
+    let mut taken = None;
+    if has_room {
+        let answer = compile(contract.reference(), buffer);
+        tally.reply(
+            CALL,
+            answer.as_ref().err().map_or(0, |refusal| refusal.number),
+        );
+        let rows = four_bytes(reply.product(), 4);
+        let expected = short_reply(answer.as_ref().map(|_| rows).map_err(|refusal| *refusal));
+        reply.reference_mut()[..SHORT_REPLY].copy_from_slice(&expected);
+        reply.compare(CALL)?;
+        if let Ok(clause) = answer {
+            let records = contract.reference().len() / RECORD_BYTES;
+            let bytes = picked(&image, rows as usize, records)?.to_vec();
+            image.reference_mut()[..bytes.len()].copy_from_slice(&bytes);
+            tally.compiled(records, rows as usize);
+            taken = Some((clause, bytes));
+        }
+    } else {
+        tally.no_room(CALL);
+    }
+    for lent in [contract, &image, &reply] {
+        lent.compare(CALL)?;
+    }
+    Ok(taken)
+}
+
+/// The image in the first 8 × (rows + 1) bytes, with no more rows than the buffer must hold, and
+/// a good one.
+fn picked(buffer: &Lent, rows: usize, records: usize) -> Result<&[u8], Difference> {
+    let most = most_rows(records);
+    if !(1..=most).contains(&rows) {
+        return Err(Difference::new(
+            "compile",
+            "the row count",
+            format!("1 to {most}"),
+            rows,
+        ));
+    }
+    let bytes = &buffer.product()[..8 * (rows + 1)];
+    match image::read(bytes) {
+        Ok(_) => Ok(bytes),
+        Err(refusal) => {
+            let came = format!("one that meets 9 at {}", refusal.place);
+            Err(Difference::new(
+                "compile",
+                "the image",
+                "a good one".to_string(),
+                came,
+            ))
+        }
+    }
+}
+
+/// Another compile, with a buffer of another length and content: the rows "follow from the
+/// contract's bytes alone".
+fn check_again(contract: &Lent, first: &[u8], random: &mut Random) -> Result<(), Difference> {
+    const CALL: &str = "another compile";
+    let least = least_buffer(contract.reference().len() / RECORD_BYTES);
+    let mut image = Lent::random("image buffer", least + random.below(100), random);
+    let mut reply = Lent::random("reply area", 2048, random);
+    let came = product::compile(contract.product(), image.product_mut(), reply.product_mut());
+    results(CALL, 1, came)?;
+    image.reference_mut()[..first.len()].copy_from_slice(first);
+    let expected = short_reply(Ok((first.len() / 8 - 1) as u32));
+    reply.reference_mut()[..SHORT_REPLY].copy_from_slice(&expected);
+    for lent in [contract, &reply, &image] {
+        lent.compare(CALL)?;
+    }
+    Ok(())
+}
+
+/// Calls on one image and one state.
+struct Session {
+    image: Lent,
+    state: Lent,
+    /// The contract's clause, if the image is compile's.
+    clause: Option<Rc<Clause>>,
+    /// The meaning of the periods since begin, where there is a clause.
+    meaning: Option<Monitor>,
+    random: Random,
+}
+
+impl Session {
+    fn new(image: &[u8], state: &[u8], clause: Option<Rc<Clause>>, mut random: Random) -> Session {
+        Session {
+            image: Lent::new("image", image, &mut random),
+            state: Lent::new("state", state, &mut random),
+            clause,
+            meaning: None,
+            random,
+        }
+    }
+
+    fn check(mut self, calls: &[Call], tally: &mut Tally) -> Result<(), Difference> {
+        for (number, call) in calls.iter().enumerate() {
+            match call {
+                Call::Begin { reply } => {
+                    self.begin(&format!("call {number}, begin"), *reply, tally)?
+                }
+                Call::Step { period, reply } => {
+                    self.step(&format!("call {number}, step"), period, *reply, tally)?
+                }
+                Call::Run { trace, reply } => {
+                    self.run(&format!("call {number}, run"), trace, *reply, tally)?
+                }
+            }
+        }
+        if let Some(meaning) = &self.meaning {
+            tally.decided(meaning);
+        }
+        Ok(())
+    }
+
+    fn begin(&mut self, call: &str, reply: usize, tally: &mut Tally) -> Result<(), Difference> {
+        let mut reply = Lent::random("reply area", reply, &mut self.random);
+        let came = product::begin(
+            self.image.product(),
+            self.state.product_mut(),
+            reply.product_mut(),
+        );
+        let expected = calls::begin(
+            self.image.reference(),
+            self.state.reference_mut(),
+            reply.reference_mut(),
+        );
+        results(call, expected, came)?;
+        self.compare(call, &reply)?;
+        if tally.result("begin", expected, reply.reference()) {
+            self.meaning = self.clause.as_ref().map(|clause| Monitor::new(clause));
+        }
+        Ok(())
+    }
+
+    fn step(
+        &mut self,
+        call: &str,
+        period: &[u8],
+        reply: usize,
+        tally: &mut Tally,
+    ) -> Result<(), Difference> {
+        let period = Lent::new("period record", period, &mut self.random);
+        let mut reply = Lent::random("reply area", reply, &mut self.random);
+        let came = product::step(
+            self.image.product(),
+            self.state.product_mut(),
+            period.product(),
+            reply.product_mut(),
+        );
+        let expected = calls::step(
+            self.image.reference(),
+            self.state.reference_mut(),
+            period.reference(),
+            reply.reference_mut(),
+        );
+        results(call, expected, came)?;
+        period.compare(call)?;
+        self.compare(call, &reply)?;
+        if tally.result("step", expected, reply.reference()) {
+            self.taken(call, period.reference(), reply.product(), tally)?;
+        }
+        Ok(())
+    }
+
+    fn run(
+        &mut self,
+        call: &str,
+        trace: &[u8],
+        reply: usize,
+        tally: &mut Tally,
+    ) -> Result<(), Difference> {
+        let before = self.state.product().to_vec();
+        let trace = Lent::new("trace", trace, &mut self.random);
+        let mut reply = Lent::random("reply area", reply, &mut self.random);
+        let came = product::run(
+            self.image.product(),
+            self.state.product_mut(),
+            trace.product(),
+            reply.product_mut(),
+        );
+        let expected = calls::run(
+            self.image.reference(),
+            self.state.reference_mut(),
+            trace.reference(),
+            reply.reference_mut(),
+        );
+        results(call, expected, came)?;
+        trace.compare(call)?;
+        self.compare(call, &reply)?;
+        if tally.result("run", expected, reply.reference()) {
+            self.taken(call, trace.reference(), reply.product(), tally)?;
+            self.same_as_steps(call, before, trace.reference(), reply.product())?;
+        }
+        Ok(())
+    }
+
+    fn compare(&self, call: &str, reply: &Lent) -> Result<(), Difference> {
+        reply.compare(call)?;
+        self.state.compare(call)?;
+        self.image.compare(call)
+    }
+
+    /// An accepted call: its reply tells the meaning of the periods so far.
+    fn taken(
+        &mut self,
+        call: &str,
+        trace: &[u8],
+        reply: &[u8],
+        tally: &mut Tally,
+    ) -> Result<(), Difference> {
+        tally.verdict(four_bytes(reply, 4));
+        let Some(meaning) = &mut self.meaning else {
+            return Ok(());
+        };
+        for record in trace.chunks(RECORD_BYTES) {
+            let period = Period::of_record(record);
+            meaning.step(period.one, period.two);
+        }
+        let expected = [
+            meaning.verdict().number(),
+            meaning.blame().into(),
+            meaning.decision_period() as u32,
+        ];
+        let came = [4, 16, 20].map(|at| four_bytes(reply, at));
+        let what = "the contract's verdict, blame and decision period";
+        Difference::unless_same(call, what, &expected, &came)
+    }
+
+    /// A run "ends as that many steps would".
+    fn same_as_steps(
+        &self,
+        call: &str,
+        mut state: Vec<u8>,
+        trace: &[u8],
+        reply: &[u8],
+    ) -> Result<(), Difference> {
+        let mut last = [0; LONG_REPLY];
+        for record in trace.chunks(RECORD_BYTES) {
+            product::step(self.image.product(), &mut state, record, &mut last);
+        }
+        let what = "the state after a run and after its steps";
+        Difference::unless_same(call, what, &state.as_slice(), &self.state.product())?;
+        if trace.is_empty() {
+            return Ok(());
+        }
+        let what = "the reply of a run and of its last step";
+        Difference::unless_same(call, what, &last.as_slice(), &&reply[..LONG_REPLY])
+    }
+}

@@ -1,0 +1,126 @@
+//! Compares the monitor with the reference on random inputs.
+//!
+//! `compare [--cases N] [--seed S] [--watch PATH] [--watch-cases M]`: case number i is that of the
+//! seed S + i, so `compare --seed S --cases 1` repeats one case, and
+//! `compare --seed S --cases 0 --watch PATH --watch-cases 1` one input of `watch`.
+
+#![forbid(unsafe_code)]
+
+mod cases;
+mod check;
+mod contracts;
+mod guard;
+mod images;
+mod random;
+mod report;
+mod shrink;
+mod traces;
+mod watch;
+
+use cases::{Case, Start, FAMILIES};
+use report::{Summary, Tally};
+use std::env;
+use std::path::{Path, PathBuf};
+use std::process::ExitCode;
+
+const USAGE: &str = "usage: compare [--cases N] [--seed S] [--watch PATH] [--watch-cases M]";
+
+struct Options {
+    cases: u64,
+    seed: u64,
+    watch: Option<PathBuf>,
+    watch_cases: u64,
+}
+
+fn options() -> Option<Options> {
+    let mut options = Options {
+        cases: 100000,
+        seed: 1,
+        watch: None,
+        watch_cases: 1000,
+    };
+    let mut words = env::args().skip(1);
+    while let Some(word) = words.next() {
+        let value = words.next()?;
+        match word.as_str() {
+            "--cases" => options.cases = value.parse().ok()?,
+            "--seed" => options.seed = value.parse().ok()?,
+            "--watch" => options.watch = Some(value.into()),
+            "--watch-cases" => options.watch_cases = value.parse().ok()?,
+            _ => return None,
+        }
+    }
+    Some(options)
+}
+
+/// Compares one case; false after a difference, which is printed.
+fn compare_case(seed: u64, summary: &mut Summary) -> bool {
+    let case = Case::of_seed(seed);
+    let family = FAMILIES
+        .iter()
+        .position(|(family, _)| *family == case.family);
+    let tally = &mut summary.families[family.expect("every family is listed")];
+    tally.case();
+    if let Start::Contract { bytes, .. } = &case.start {
+        tally.contract_kinds(bytes);
+    }
+    if check::check(&case, tally).is_ok() {
+        return true;
+    }
+    println!("seed {seed}: a difference");
+    let mut differs = |case: &Case| check::check(case, &mut Tally::default()).is_err();
+    let smaller = shrink::case(case, &mut differs);
+    report::print_case(&smaller);
+    if let Err(difference) = check::check(&smaller, &mut Tally::default()) {
+        difference.print();
+    }
+    false
+}
+
+/// Compares one input of `watch`; false after a difference, which is printed.
+fn compare_watch(program: &Path, seed: u64, tally: &mut Tally) -> bool {
+    tally.case();
+    let input = watch::input_of_seed(seed);
+    if watch::check(program, &input, tally).is_ok() {
+        return true;
+    }
+    println!("seed {seed}: a difference of watch");
+    let mut differs =
+        |input: &Vec<u8>| watch::check(program, input, &mut Tally::default()).is_err();
+    let smaller = shrink::input(input, &mut differs);
+    report::print_input(&smaller);
+    if let Err(difference) = watch::check(program, &smaller, &mut Tally::default()) {
+        difference.print();
+    }
+    false
+}
+
+fn main() -> ExitCode {
+    let Some(options) = options() else {
+        eprintln!("{USAGE}");
+        return ExitCode::from(2);
+    };
+    let mut summary = Summary::default();
+    for number in 0..options.cases {
+        if !compare_case(options.seed.wrapping_add(number), &mut summary) {
+            return ExitCode::FAILURE;
+        }
+    }
+    let mut watched = 0;
+    if let Some(program) = &options.watch {
+        if !program.is_file() {
+            eprintln!("{} is missing", program.display());
+            return ExitCode::from(2);
+        }
+        for number in 0..options.watch_cases {
+            let seed = options.seed.wrapping_add(number);
+            if !compare_watch(program, seed, &mut summary.watch) {
+                return ExitCode::FAILURE;
+            }
+            watched += 1;
+        }
+    }
+    summary.print();
+    println!("compared {} cases, no difference", options.cases + watched);
+    ExitCode::SUCCESS
+}

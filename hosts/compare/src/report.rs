@@ -1,0 +1,258 @@
+//! What was seen, and what differed.
+
+use crate::cases::{Call, Case, Start, FAMILIES};
+use reference::contract::KINDS;
+use reference::{Decision, Monitor};
+use std::collections::BTreeMap;
+use std::fmt::Debug;
+
+/// A first difference between the product and the reference.
+#[derive(Clone, Debug)]
+pub struct Difference {
+    pub call: String,
+    pub what: String,
+    pub expected: String,
+    pub came: String,
+}
+
+impl Difference {
+    pub fn new(call: &str, what: &str, expected: String, came: impl ToString) -> Difference {
+        let (call, what) = (call.to_string(), what.to_string());
+        Difference {
+            call,
+            what,
+            expected,
+            came: came.to_string(),
+        }
+    }
+
+    /// That two values are the same.
+    pub fn unless_same<T: PartialEq + Debug>(
+        call: &str,
+        what: &str,
+        expected: &T,
+        came: &T,
+    ) -> Result<(), Difference> {
+        if expected == came {
+            return Ok(());
+        }
+        Err(Difference::new(
+            call,
+            what,
+            format!("{expected:?}"),
+            format!("{came:?}"),
+        ))
+    }
+
+    pub fn print(&self) {
+        println!("difference at {}: {}", self.call, self.what);
+        println!("  expected {}", self.expected);
+        println!("  came     {}", self.came);
+    }
+}
+
+/// Bytes in hexadecimal, with spaces.
+pub fn hex(bytes: &[u8]) -> String {
+    let words: Vec<String> = bytes.iter().map(|byte| format!("{byte:02x}")).collect();
+    words.join(" ")
+}
+
+/// Most lines of bytes that are printed of one list.
+const MOST_LINES: usize = 200;
+
+fn print_lines(name: &str, bytes: &[u8], width: usize) {
+    println!("{name}, {} bytes:", bytes.len());
+    for line in bytes.chunks(width).take(MOST_LINES) {
+        println!("  {}", hex(line));
+    }
+    if bytes.len() > MOST_LINES * width {
+        println!("  and so on");
+    }
+}
+
+/// Prints the inputs of a case.
+pub fn print_case(case: &Case) {
+    match &case.start {
+        Start::Contract {
+            bytes,
+            buffer,
+            reply,
+        } => {
+            print_lines("contract", bytes, 6);
+            println!("image buffer of {buffer} bytes, reply area of {reply}");
+        }
+        Start::Image { bytes, state } => {
+            print_lines("image", bytes, 8);
+            print_lines("state", state, 1000);
+        }
+    }
+    for (number, call) in case.calls.iter().enumerate() {
+        match call {
+            Call::Begin { reply } => println!("call {number}: begin, reply area of {reply}"),
+            Call::Step { period, reply } => {
+                println!("call {number}: step, reply area of {reply}");
+                print_lines("  period record", period, 1000);
+            }
+            Call::Run { trace, reply } => {
+                println!("call {number}: run, reply area of {reply}");
+                print_lines("  trace", trace, 6);
+            }
+        }
+    }
+}
+
+/// Prints an input of `watch`.
+pub fn print_input(input: &[u8]) {
+    print_lines("input", input, 6);
+}
+
+/// Counts of one family, or of `watch`.
+#[derive(Default)]
+pub struct Tally {
+    cases: usize,
+    /// By call and number; 99 stands for a reply area without room.
+    replies: BTreeMap<(&'static str, u32), usize>,
+    verdicts: [usize; 5],
+    /// Contracts undecided, satisfied and violated at the end of their periods.
+    outcomes: [usize; 3],
+    blames: [usize; 3],
+    /// Decisions by period: 1, 2 to 4, 5 to 16, 17 to 64, later.
+    periods: [usize; 5],
+    /// Compiled contracts by records: 1, 2 to 8, 9 to 32, 33 to 63, 64.
+    records: [usize; 5],
+    kinds: BTreeMap<u8, usize>,
+    most_rows: usize,
+}
+
+const NO_ROOM: u32 = 99;
+
+/// The index of the first limit that isn't below the value.
+fn bucket(value: usize, limits: [usize; 4]) -> usize {
+    limits.iter().position(|limit| value <= *limit).unwrap_or(4)
+}
+
+impl Tally {
+    pub fn case(&mut self) {
+        self.cases += 1;
+    }
+
+    pub fn reply(&mut self, call: &'static str, number: u32) {
+        *self.replies.entry((call, number)).or_default() += 1;
+    }
+
+    pub fn no_room(&mut self, call: &'static str) {
+        self.reply(call, NO_ROOM);
+    }
+
+    /// Counts a call; true if it was accepted.
+    pub fn result(&mut self, call: &'static str, result: u32, reply: &[u8]) -> bool {
+        if result == 0 {
+            self.no_room(call);
+            return false;
+        }
+        let number = reference::records::four_bytes(reply, 0);
+        self.reply(call, number);
+        number == 0
+    }
+
+    pub fn verdict(&mut self, verdict: u32) {
+        self.verdicts[verdict as usize] += 1;
+    }
+
+    pub fn compiled(&mut self, records: usize, rows: usize) {
+        self.records[bucket(records, [1, 8, 32, 63])] += 1;
+        self.most_rows = self.most_rows.max(rows);
+    }
+
+    /// Counts the kinds of a contract's records.
+    pub fn contract_kinds(&mut self, contract: &[u8]) {
+        for record in contract.chunks_exact(6) {
+            *self.kinds.entry(record[2]).or_default() += 1;
+        }
+    }
+
+    pub fn decided(&mut self, meaning: &Monitor) {
+        let outcome = match meaning.decision() {
+            Decision::Undecided => 0,
+            Decision::Satisfied { .. } => 1,
+            Decision::Violated { .. } => 2,
+        };
+        self.outcomes[outcome] += 1;
+        if meaning.blame() > 0 {
+            self.blames[meaning.blame() as usize - 1] += 1;
+        }
+        if outcome > 0 {
+            self.periods[bucket(meaning.decision_period(), [1, 4, 16, 64])] += 1;
+        }
+    }
+
+    fn print(&self, name: &str) {
+        println!("{name}: {} cases", self.cases);
+        for call in ["compile", "begin", "step", "run", "watch"] {
+            let counts: Vec<String> = self
+                .replies
+                .iter()
+                .filter(|((of, _), _)| *of == call)
+                .map(|((_, number), count)| match *number {
+                    0 => format!("accepted {count}"),
+                    NO_ROOM => format!("no room {count}"),
+                    number => format!("{number}: {count}"),
+                })
+                .collect();
+            if !counts.is_empty() {
+                println!("  {call}: {}", counts.join(", "));
+            }
+        }
+        let verdicts = ["open", "met", "broken", "met-after", "broken-after"];
+        print_counts("verdicts", &verdicts, &self.verdicts);
+        let outcomes = ["undecided", "satisfied", "violated"];
+        print_counts("contracts at the end", &outcomes, &self.outcomes);
+        print_counts("blames", &["1:", "2:", "3:"], &self.blames);
+        let periods = ["1:", "2 to 4:", "5 to 16:", "17 to 64:", "later:"];
+        print_counts("decision periods", &periods, &self.periods);
+        let records = ["1:", "2 to 8:", "9 to 32:", "33 to 63:", "64:"];
+        print_counts("compiled, by records", &records, &self.records);
+        if self.most_rows > 0 {
+            println!("  most rows of an image: {}", self.most_rows);
+        }
+        if !self.kinds.is_empty() {
+            let count = |number: u8| self.kinds.get(&number).copied().unwrap_or(0);
+            let known: Vec<String> = KINDS
+                .iter()
+                .map(|kind| format!("{}: {}", kind.number, count(kind.number)))
+                .collect();
+            println!("  records by kind: {}", known.join(", "));
+        }
+    }
+}
+
+/// A line of counts, if there are any.
+fn print_counts(what: &str, names: &[&str], counts: &[usize]) {
+    if counts.iter().any(|count| *count > 0) {
+        let named = names
+            .iter()
+            .zip(counts)
+            .map(|(name, count)| format!("{name} {count}"));
+        println!("  {what}: {}", named.collect::<Vec<String>>().join(", "));
+    }
+}
+
+/// The counts by family, and those of `watch`.
+#[derive(Default)]
+pub struct Summary {
+    pub families: [Tally; FAMILIES.len()],
+    pub watch: Tally,
+}
+
+impl Summary {
+    pub fn print(&self) {
+        for ((_, name), tally) in FAMILIES.iter().zip(&self.families) {
+            if tally.cases > 0 {
+                tally.print(name);
+            }
+        }
+        if self.watch.cases > 0 {
+            self.watch.print("watch");
+        }
+    }
+}

@@ -1,0 +1,319 @@
+//! Makes an input that shows a difference smaller, greedily: each change is kept while the
+//! difference remains.
+
+use crate::cases::{Call, Case, Start};
+use crate::images::{rows_of, ROW};
+use reference::contract::{kind_of, least_buffer};
+
+/// Most changes that are tried.
+const MOST_TRIED: usize = 60000;
+
+struct Shrinker<'a, T> {
+    now: T,
+    differs: &'a mut dyn FnMut(&T) -> bool,
+    tried: usize,
+    most: usize,
+    changed: bool,
+}
+
+impl<T> Shrinker<'_, T> {
+    /// Keeps the candidate if it still differs.
+    fn offer(&mut self, candidate: T) -> bool {
+        if self.tried >= self.most {
+            return false;
+        }
+        self.tried += 1;
+        let keeps = (self.differs)(&candidate);
+        if keeps {
+            self.now = candidate;
+            self.changed = true;
+        }
+        keeps
+    }
+}
+
+/// A smaller case that differs.
+pub fn case(case: Case, differs: &mut dyn FnMut(&Case) -> bool) -> Case {
+    let mut s = Shrinker {
+        now: case,
+        differs,
+        tried: 0,
+        most: MOST_TRIED,
+        changed: true,
+    };
+    while s.changed && s.tried < s.most {
+        s.changed = false;
+        drop_calls(&mut s);
+        match s.now.start {
+            Start::Contract { .. } => shrink_contract(&mut s),
+            Start::Image { .. } => shrink_image(&mut s),
+        }
+        for call in 0..s.now.calls.len() {
+            shrink_call(&mut s, call);
+        }
+        zero_bytes(&mut s);
+    }
+    s.now
+}
+
+/// A smaller input of `watch` that differs.
+pub fn input(input: Vec<u8>, differs: &mut dyn FnMut(&Vec<u8>) -> bool) -> Vec<u8> {
+    let mut s = Shrinker {
+        now: input,
+        differs,
+        tried: 0,
+        most: 6000,
+        changed: true,
+    };
+    while s.changed && s.tried < s.most {
+        s.changed = false;
+        quiet_periods(&mut s);
+        while replace_in_input(&mut s) {}
+        drop_parts(&mut s, 6, |input| input);
+        drop_parts(&mut s, 1, |input| input);
+        for at in 0..s.now.len() {
+            if s.now[at] != 0 {
+                let mut candidate = s.now.clone();
+                candidate[at] = 0;
+                s.offer(candidate);
+            }
+        }
+    }
+    s.now
+}
+
+/// Puts an operand in the place of what an operator of the contract completes.
+fn replace_in_input(s: &mut Shrinker<Vec<u8>>) -> bool {
+    let is_period = |record: &[u8]| record.starts_with(&[0x54, 0x50]);
+    let records = s
+        .now
+        .chunks_exact(6)
+        .take_while(|record| !is_period(record))
+        .count();
+    let (contract, trace) = s.now.split_at(records * 6);
+    let candidates: Vec<Vec<u8>> = smaller_trees(contract)
+        .into_iter()
+        .map(|smaller| [&smaller, trace].concat())
+        .collect();
+    candidates.into_iter().any(|candidate| s.offer(candidate))
+}
+
+/// Takes the attempts out of many period records at once, and then of few.
+fn quiet_periods(s: &mut Shrinker<Vec<u8>>) {
+    let mut size = s.now.len() / 6;
+    while size > 0 {
+        for from in (0..s.now.len()).step_by(size * 6) {
+            let mut candidate = s.now.clone();
+            let to = (from + size * 6).min(candidate.len());
+            for record in candidate[from..to].chunks_exact_mut(6) {
+                if record.starts_with(&[0x54, 0x50]) {
+                    record[2..].fill(0);
+                }
+            }
+            if candidate != s.now {
+                s.offer(candidate);
+            }
+        }
+        size /= 2;
+    }
+}
+
+/// Drops parts of `unit` elements of a list, many at once and then few.
+fn drop_parts<T: Clone, E>(s: &mut Shrinker<T>, unit: usize, list: impl Fn(&mut T) -> &mut Vec<E>) {
+    let mut size = list(&mut s.now).len() / unit / 2;
+    loop {
+        let mut at = 0;
+        while (at + 1) * unit <= list(&mut s.now).len() {
+            let mut candidate = s.now.clone();
+            let elements = list(&mut candidate);
+            let to = ((at + size.max(1)) * unit).min(elements.len());
+            elements.drain(at * unit..to);
+            if !s.offer(candidate) {
+                at += size.max(1);
+            }
+        }
+        if size <= 1 {
+            return;
+        }
+        size /= 2;
+    }
+}
+
+fn drop_calls(s: &mut Shrinker<Case>) {
+    drop_parts(s, 1, |case| &mut case.calls);
+}
+
+fn start_bytes(case: &mut Case) -> &mut Vec<u8> {
+    match &mut case.start {
+        Start::Contract { bytes, .. } | Start::Image { bytes, .. } => bytes,
+    }
+}
+
+/// For each record of a contract the first record of what it completes, and of its operands; none
+/// if the records don't fit together.
+fn spans(contract: &[u8]) -> Option<Vec<Vec<usize>>> {
+    let mut stack: Vec<usize> = Vec::new();
+    let mut spans = Vec::new();
+    for (number, record) in contract.chunks_exact(6).enumerate() {
+        let operands = kind_of(record[2])?.operands.len();
+        let mut starts = stack.split_off(stack.len().checked_sub(operands)?);
+        if starts.is_empty() {
+            starts.push(number);
+        }
+        stack.push(starts[0]);
+        spans.push(starts);
+    }
+    Some(spans)
+}
+
+fn shrink_contract(s: &mut Shrinker<Case>) {
+    while replace_by_operand(s) {}
+    drop_parts(s, 6, start_bytes);
+    if let Start::Contract { bytes, buffer, .. } = &s.now.start {
+        let (least, buffer) = (least_buffer(bytes.len() / 6), *buffer);
+        for lengths in [(least, 16), (0, 16), (buffer, 16)] {
+            if offer_lengths(s, lengths) {
+                return;
+            }
+        }
+    }
+}
+
+/// Other lengths of the image buffer and compile's reply area; true if they are kept, or are those
+/// already.
+fn offer_lengths(s: &mut Shrinker<Case>, lengths: (usize, usize)) -> bool {
+    let mut candidate = s.now.clone();
+    if let Start::Contract { buffer, reply, .. } = &mut candidate.start {
+        if (*buffer, *reply) == lengths {
+            return true;
+        }
+        (*buffer, *reply) = lengths;
+    }
+    s.offer(candidate)
+}
+
+/// Contracts with an operand in the place of what an operator completes, the largest operators
+/// first.
+fn smaller_trees(contract: &[u8]) -> Vec<Vec<u8>> {
+    let mut smaller = Vec::new();
+    for (number, starts) in spans(contract).unwrap_or_default().iter().enumerate().rev() {
+        let operands = starts.iter().filter(|start| **start < number).enumerate();
+        for (operand, start) in operands {
+            let end = starts.get(operand + 1).copied().unwrap_or(number);
+            let before = &contract[..starts[0] * 6];
+            let after = &contract[(number + 1) * 6..];
+            smaller.push([before, &contract[start * 6..end * 6], after].concat());
+        }
+    }
+    smaller
+}
+
+fn replace_by_operand(s: &mut Shrinker<Case>) -> bool {
+    for smaller in smaller_trees(&start_bytes(&mut s.now).clone()) {
+        let mut candidate = s.now.clone();
+        if let Start::Contract { bytes, buffer, .. } = &mut candidate.start {
+            if *buffer >= least_buffer(bytes.len() / 6) {
+                *buffer = least_buffer(smaller.len() / 6);
+            }
+            *bytes = smaller;
+        }
+        if s.offer(candidate) {
+            return true;
+        }
+    }
+    false
+}
+
+/// Drops rows, with their values in the state; the rows after them get lower numbers.
+fn shrink_image(s: &mut Shrinker<Case>) {
+    let mut number = rows_of(start_bytes(&mut s.now));
+    while number > 0 {
+        number -= 1;
+        let mut candidate = s.now.clone();
+        if let Start::Image { bytes, state } = &mut candidate.start {
+            drop_row(bytes, state, number);
+        }
+        if !s.offer(candidate) {
+            let mut candidate = s.now.clone();
+            let bytes = start_bytes(&mut candidate);
+            let row = &mut bytes[number * ROW..(number + 1) * ROW];
+            if row != [0x54, 0x52, 0, 0, 0, 0, 0, 0] {
+                row.copy_from_slice(&[0x54, 0x52, 0, 0, 0, 0, 0, 0]);
+                s.offer(candidate);
+            }
+        }
+    }
+    drop_parts(s, 1, |case| match &mut case.start {
+        Start::Contract { bytes, .. } => bytes,
+        Start::Image { state, .. } => state,
+    });
+}
+
+fn drop_row(bytes: &mut Vec<u8>, state: &mut Vec<u8>, number: usize) {
+    bytes.drain(number * ROW..(number + 1) * ROW);
+    if state.len() > 10 + number {
+        state.remove(10 + number);
+    }
+    for row in bytes.chunks_exact_mut(ROW) {
+        let fields: &[usize] = match (row[1], row[2]) {
+            (0x52, 3 | 6) => &[4],
+            (0x52, 4 | 5) => &[4, 6],
+            (0x45, _) => &[2, 4, 6],
+            _ => &[],
+        };
+        for at in fields {
+            let named = u16::from_le_bytes([row[*at], row[*at + 1]]);
+            if named as usize > number {
+                row[*at..*at + 2].copy_from_slice(&(named - 1).to_le_bytes());
+            }
+        }
+    }
+}
+
+fn call_bytes(call: &mut Call) -> Option<&mut Vec<u8>> {
+    match call {
+        Call::Begin { .. } => None,
+        Call::Step { period, .. } => Some(period),
+        Call::Run { trace, .. } => Some(trace),
+    }
+}
+
+/// Fewer records and an ample reply area.
+fn shrink_call(s: &mut Shrinker<Case>, call: usize) {
+    if let Call::Run { .. } = s.now.calls[call] {
+        drop_parts(s, 6, move |case| {
+            call_bytes(&mut case.calls[call]).expect("a run has a trace")
+        });
+    }
+    let mut candidate = s.now.clone();
+    let (reply, ample) = match &mut candidate.calls[call] {
+        Call::Begin { reply } => (reply, 16),
+        Call::Step { reply, .. } | Call::Run { reply, .. } => (reply, 24),
+    };
+    if *reply != ample {
+        *reply = ample;
+        s.offer(candidate);
+    }
+}
+
+/// The lists of bytes in a case: the start's, the state, those of the calls.
+fn byte_lists(case: &mut Case) -> Vec<&mut Vec<u8>> {
+    let mut lists = match &mut case.start {
+        Start::Contract { bytes, .. } => vec![bytes],
+        Start::Image { bytes, state } => vec![bytes, state],
+    };
+    lists.extend(case.calls.iter_mut().filter_map(call_bytes));
+    lists
+}
+
+fn zero_bytes(s: &mut Shrinker<Case>) {
+    for list in 0..byte_lists(&mut s.now).len() {
+        for at in 0..byte_lists(&mut s.now)[list].len() {
+            if byte_lists(&mut s.now)[list][at] != 0 {
+                let mut candidate = s.now.clone();
+                byte_lists(&mut candidate)[list][at] = 0;
+                s.offer(candidate);
+            }
+        }
+    }
+}

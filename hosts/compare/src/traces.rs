@@ -1,0 +1,96 @@
+//! Random periods and traces.
+
+use crate::random::Random;
+use reference::{Clause, Decision, Monitor, Period};
+
+/// A period on the first `actions` actions, mostly; attempts coincide often.
+pub fn period(random: &mut Random, actions: usize) -> Period {
+    let mask = ((1u32 << actions) - 1) as u16;
+    let some = random.next() as u16 & mask;
+    let many = (random.next() | random.next()) as u16 & mask;
+    let (one, two) = match random.below(8) {
+        0 => (mask, mask),
+        1 => (0, 0),
+        2 | 3 => (some, some),
+        4 => (many, random.next() as u16 | many),
+        5 => (many, some),
+        6 => (some, many),
+        _ => (random.next() as u16, random.next() as u16),
+    };
+    Period { one, two }
+}
+
+/// Periods that leave the clause open with the given chance, if a few draws find such ones.
+pub fn for_clause(random: &mut Random, clause: &Clause, length: usize) -> Vec<Period> {
+    let care = random.pick(&[0, 50, 90, 98, 100]);
+    let actions = random.pick(&[1, 2, 3, 4, 16]);
+    let mut monitor = Monitor::new(clause);
+    let mut periods = Vec::with_capacity(length);
+    for _ in 0..length {
+        let mut next = period(random, actions);
+        if random.percent(care) && monitor.decision() == Decision::Undecided {
+            for _ in 0..8 {
+                let mut tried = monitor.clone();
+                tried.step(next.one, next.two);
+                if tried.decision() == Decision::Undecided {
+                    break;
+                }
+                next = period(random, actions);
+            }
+        }
+        monitor.step(next.one, next.two);
+        periods.push(next);
+    }
+    periods
+}
+
+/// Any periods.
+pub fn any(random: &mut Random, length: usize) -> Vec<Period> {
+    let actions = random.pick(&[1, 2, 4, 16]);
+    (0..length).map(|_| period(random, actions)).collect()
+}
+
+/// The records of these periods.
+pub fn bytes(periods: &[Period]) -> Vec<u8> {
+    periods.iter().flat_map(|period| period.record()).collect()
+}
+
+/// A length, mostly short.
+pub fn length(random: &mut Random) -> usize {
+    match random.below(10) {
+        0..=2 => random.below(8),
+        3..=7 => random.below(40),
+        _ => random.below(400),
+    }
+}
+
+/// Bytes that are no period record, mostly.
+pub fn bad_period(random: &mut Random) -> Vec<u8> {
+    let mut record = period(random, 4).record().to_vec();
+    match random.below(6) {
+        0 => record[0] = random.byte(),
+        1 => record[1] = random.pick(&[0x43, 0x45, 0x52, 0x51, 0x4f, 0]),
+        2 => record.truncate(random.below(6)),
+        3 => record.extend(random.bytes(1)),
+        4 => record.extend(period(random, 4).record()),
+        _ => record = random.bytes(6),
+    }
+    record
+}
+
+/// A trace with a bad mark or a bad length, mostly.
+pub fn damage(random: &mut Random, trace: &mut Vec<u8>) {
+    let records = trace.len() / 6;
+    match random.below(5) {
+        0 => trace.extend(random.bytes(5)),
+        1 => trace.truncate(random.below(trace.len() + 1)),
+        2 => trace.extend(bad_period(random)),
+        _ if records > 0 => {
+            for _ in 0..random.between(1, 2) {
+                let at = random.below(records) * 6 + random.below(2);
+                trace[at] = random.byte();
+            }
+        }
+        _ => trace.extend(bad_period(random)),
+    }
+}

@@ -1,0 +1,168 @@
+//! Random inputs of `watch`, and what it prints.
+
+use crate::contracts;
+use crate::random::Random;
+use crate::report::{Difference, Tally};
+use crate::traces;
+use reference::contract::read;
+use reference::watch::watch;
+use std::io::{self, Write};
+use std::path::Path;
+use std::process::{Command, Stdio};
+use std::thread;
+
+/// The input of that number.
+pub fn input_of_seed(seed: u64) -> Vec<u8> {
+    let mut random = Random::new(seed ^ 0x7761_7463_6800_0000);
+    let random = &mut random;
+    let mut input = match random.below(20) {
+        0..=9 => good(random),
+        10 => long(random),
+        11 => contracts::good(random),
+        12 => {
+            let mut input = contracts::damaged(random);
+            let periods = traces::any(random, 3);
+            input.extend(traces::bytes(&periods));
+            input
+        }
+        13 => {
+            let length = random.below(10);
+            traces::bytes(&traces::any(random, length))
+        }
+        14 => unaligned(random),
+        15 => {
+            let length = random.below(80);
+            random.bytes(length)
+        }
+        16 => contracts::soup(random),
+        _ => with_bad_trace(random),
+    };
+    if random.percent(10) {
+        let cut = random.below(12).min(input.len());
+        input.truncate(input.len() - cut);
+    }
+    input
+}
+
+/// A contract that is taken, and a trace.
+fn good(random: &mut Random) -> Vec<u8> {
+    let mut input = contracts::good(random);
+    let length = traces::length(random);
+    let clause = read(&input).expect("the contract is taken");
+    let periods = traces::for_clause(random, &clause, length);
+    input.extend(traces::bytes(&periods));
+    input
+}
+
+/// An input of the greatest length or a little more.
+fn long(random: &mut Random) -> Vec<u8> {
+    let mut input = good(random);
+    let length = random.pick(&[65514, 65519, 65520, 65520, 65520, 65521, 65526, 70000]);
+    let period = traces::period(random, 4);
+    while input.len() < length {
+        let next = if random.percent(20) {
+            traces::period(random, 4)
+        } else {
+            period
+        };
+        input.extend(next.record());
+    }
+    input.truncate(length);
+    input
+}
+
+/// `54 50` anywhere but at the start of a six.
+fn unaligned(random: &mut Random) -> Vec<u8> {
+    let mut input = good(random);
+    let at = random.below(input.len() / 6) * 6 + random.between(1, 4);
+    if random.percent(50) {
+        input[at..at + 2].copy_from_slice(&[0x54, 0x50]);
+    } else {
+        input.splice(at..at, [0x54, 0x50]);
+    }
+    input
+}
+
+fn with_bad_trace(random: &mut Random) -> Vec<u8> {
+    let mut input = contracts::good(random);
+    let length = random.below(30);
+    let mut trace = traces::bytes(&traces::any(random, length));
+    traces::damage(random, &mut trace);
+    input.extend(trace);
+    input
+}
+
+/// What the program prints for an input.
+fn printed(program: &Path, input: &[u8]) -> io::Result<Vec<u8>> {
+    let mut child = Command::new(program)
+        .stdin(Stdio::piped())
+        .stdout(Stdio::piped())
+        .spawn()?;
+    let mut standard_input = child.stdin.take().expect("standard input is a pipe");
+    let input = input.to_vec();
+    let writer = thread::spawn(move || match standard_input.write_all(&input) {
+        // The program needn't read more than it takes.
+        Err(error) if error.kind() != io::ErrorKind::BrokenPipe => Err(error),
+        _ => Ok(()),
+    });
+    let output = child.wait_with_output()?;
+    writer.join().expect("the writer ends")?;
+    Ok(output.stdout)
+}
+
+/// Runs the program on an input; an error is a difference.
+pub fn check(program: &Path, input: &[u8], tally: &mut Tally) -> Result<(), Difference> {
+    let expected = watch(input);
+    let came = match printed(program, input) {
+        Ok(came) => came,
+        Err(error) => return Err(Difference::new("watch", "its start", "a run".into(), error)),
+    };
+    tally_text(&expected, tally);
+    if came == expected.as_bytes() {
+        return Ok(());
+    }
+    let same = came
+        .iter()
+        .zip(expected.as_bytes())
+        .take_while(|(a, b)| a == b)
+        .count();
+    let from = expected.as_bytes()[..same]
+        .iter()
+        .rposition(|b| *b == b'\n')
+        .map_or(0, |n| n + 1);
+    let part = |text: &[u8]| {
+        let to = text.len().min(from + 200);
+        String::from_utf8_lossy(&text[from.min(to)..to])
+            .escape_debug()
+            .to_string()
+    };
+    let what = format!("the text from byte {from}, {} bytes long", expected.len());
+    Err(Difference::new(
+        "watch",
+        &what,
+        part(expected.as_bytes()),
+        part(&came),
+    ))
+}
+
+fn tally_text(text: &str, tally: &mut Tally) {
+    let mut words = text.split([' ', '\n']);
+    let number = match words.next() {
+        Some("refused") => words
+            .next()
+            .and_then(|number| number.parse().ok())
+            .unwrap_or(0),
+        _ => 0,
+    };
+    tally.reply("watch", number);
+    for line in text.lines() {
+        match line.split(' ').nth(1) {
+            Some("open") => tally.verdict(0),
+            Some("met") => tally.verdict(1),
+            Some("broken") => tally.verdict(2),
+            Some("met-after") => tally.verdict(3),
+            Some("broken-after") => tally.verdict(4),
+            _ => {}
+        }
+    }
+}

@@ -1,0 +1,115 @@
+//! What begin, step and run leave in the areas that they are lent.
+//!
+//! The result is 1, or 0 if the reply area "is too short for the reply": then "the call writes
+//! nothing anywhere". After a refusal "every lent buffer but the reply's area is unchanged".
+
+use crate::image;
+use crate::records::{read_trace, refused, Period, Refusal, PERIOD_MARK, RECORD_BYTES};
+use crate::state::{check_length, State};
+
+/// Bytes of the reply of compile and begin: number, a four-byte field, place.
+pub const SHORT_REPLY: usize = 16;
+/// Bytes of the reply of step and run: number, verdict, place, blame, decision period.
+pub const LONG_REPLY: usize = 24;
+
+/// The reply of compile: number, rows, place. Begin's has a zero in place of the rows.
+pub fn short_reply(answer: Result<u32, Refusal>) -> [u8; SHORT_REPLY] {
+    let (number, rows, place) = match answer {
+        Ok(rows) => (0, rows, 0),
+        Err(refusal) => (refusal.number, 0, refusal.place),
+    };
+    let mut reply = [0; SHORT_REPLY];
+    reply[0..4].copy_from_slice(&number.to_le_bytes());
+    reply[4..8].copy_from_slice(&rows.to_le_bytes());
+    reply[8..16].copy_from_slice(&place.to_le_bytes());
+    reply
+}
+
+/// The reply of step and run: "verdict, blame and decision period of the state they leave".
+pub fn long_reply(answer: &Result<State, Refusal>) -> [u8; LONG_REPLY] {
+    let mut reply = [0; LONG_REPLY];
+    match answer {
+        Ok(state) => {
+            let decision = state.decided();
+            let verdict = decision.verdict(state.periods as usize);
+            reply[4..8].copy_from_slice(&verdict.number().to_le_bytes());
+            reply[16..20].copy_from_slice(&u32::from(decision.blame()).to_le_bytes());
+            reply[20..24].copy_from_slice(&state.decision.to_le_bytes());
+        }
+        Err(refusal) => {
+            reply[0..4].copy_from_slice(&refusal.number.to_le_bytes());
+            reply[8..16].copy_from_slice(&refusal.place.to_le_bytes());
+        }
+    }
+    reply
+}
+
+/// "Begin sets a state to zeros."
+pub fn begin(image: &[u8], state: &mut [u8], reply: &mut [u8]) -> u32 {
+    if reply.len() < SHORT_REPLY {
+        return 0;
+    }
+    let answer = image::read(image).and_then(|image| check_length(state, &image));
+    if answer.is_ok() {
+        state.fill(0);
+    }
+    reply[..SHORT_REPLY].copy_from_slice(&short_reply(answer.map(|()| 0)));
+    1
+}
+
+/// "Step takes one period record."
+pub fn step(image: &[u8], state: &mut [u8], period: &[u8], reply: &mut [u8]) -> u32 {
+    take(image, state, || read_period(period), reply)
+}
+
+/// "Run takes a state and a trace of zero or more period records and ends as that many steps
+/// would."
+pub fn run(image: &[u8], state: &mut [u8], trace: &[u8], reply: &mut [u8]) -> u32 {
+    take(image, state, || read_trace(trace), reply)
+}
+
+/// The one period of a step, or refusal 11: "wrong mark (its number), or a length that isn't 6 in
+/// step".
+fn read_period(period: &[u8]) -> Result<Vec<Period>, Refusal> {
+    if period.len() != RECORD_BYTES || period[..2] != PERIOD_MARK {
+        return refused(11, 0);
+    }
+    Ok(vec![Period::of_record(period)])
+}
+
+/// Step and run, which differ in what they read.
+fn take(
+    image: &[u8],
+    state: &mut [u8],
+    read: impl FnOnce() -> Result<Vec<Period>, Refusal>,
+    reply: &mut [u8],
+) -> u32 {
+    if reply.len() < LONG_REPLY {
+        return 0;
+    }
+    let answer = after(image, state, read);
+    if let Ok(after) = &answer {
+        after.write(state);
+    }
+    reply[..LONG_REPLY].copy_from_slice(&long_reply(&answer));
+    1
+}
+
+/// The state after the periods, or the first of refusals 9, 10, 11, 12.
+fn after(
+    image: &[u8],
+    state: &[u8],
+    read: impl FnOnce() -> Result<Vec<Period>, Refusal>,
+) -> Result<State, Refusal> {
+    let image = image::read(image)?;
+    let mut state = State::read(state, &image)?;
+    let periods = read()?;
+    let room = (u32::MAX - state.periods) as usize;
+    if periods.len() > room {
+        return refused(12, room);
+    }
+    for period in periods {
+        state.step(&image, period);
+    }
+    Ok(state)
+}

@@ -1,0 +1,221 @@
+//! Reading a contract's bytes, with refusals 1 to 8.
+
+use crate::clause::{Clause, Expression, Shape};
+use crate::records::{refused, Refusal, CONTRACT_MARK, RECORD_BYTES};
+use std::rc::Rc;
+
+/// "A contract is 1 to 64 records."
+pub const MOST_RECORDS: usize = 64;
+
+/// The sort of an operand, or of what a record completes.
+#[derive(Clone, Copy, Debug, PartialEq, Eq)]
+pub enum Sort {
+    Clause,
+    Expression,
+}
+
+/// What a kind uses, and what a record of that kind completes.
+#[derive(Debug)]
+pub struct Kind {
+    pub number: u8,
+    pub completes: Sort,
+    pub operands: &'static [Sort],
+    pub party: bool,
+    pub action: bool,
+}
+
+const C: Sort = Sort::Clause;
+const E: Sort = Sort::Expression;
+
+const fn kind(number: u8, completes: Sort, operands: &'static [Sort]) -> Kind {
+    Kind {
+        number,
+        completes,
+        operands,
+        party: false,
+        action: false,
+    }
+}
+
+const fn with_fields(number: u8, completes: Sort, party: bool) -> Kind {
+    Kind {
+        number,
+        completes,
+        operands: &[],
+        party,
+        action: true,
+    }
+}
+
+/// "One fixed table gives for each kind its operands and the fields it uses."
+pub const KINDS: [Kind; 17] = [
+    with_fields(1, C, true),
+    with_fields(2, C, true),
+    with_fields(3, C, true),
+    kind(4, C, &[C, C]),
+    kind(5, C, &[C, C]),
+    kind(6, C, &[C, C]),
+    kind(7, C, &[C]),
+    kind(8, C, &[E, C]),
+    kind(9, C, &[C, E]),
+    kind(16, E, &[]),
+    with_fields(17, E, true),
+    with_fields(18, E, true),
+    with_fields(19, E, false),
+    with_fields(20, E, false),
+    kind(21, E, &[E, E]),
+    kind(22, E, &[E, E]),
+    kind(23, E, &[E]),
+];
+
+/// The table's line for a kind.
+pub fn kind_of(number: u8) -> Option<&'static Kind> {
+    KINDS.iter().find(|kind| kind.number == number)
+}
+
+/// What the records before have completed and no operator has taken yet.
+#[derive(Clone, Debug)]
+enum Operand {
+    Clause(Rc<Clause>),
+    Expression(Rc<Expression>),
+}
+
+impl Operand {
+    fn sort(&self) -> Sort {
+        match self {
+            Operand::Clause(_) => Sort::Clause,
+            Operand::Expression(_) => Sort::Expression,
+        }
+    }
+}
+
+/// The clause of a contract, or the first of refusals 1 to 7: "1, then for each record 2, 3, 4, 5,
+/// 7, then 6".
+pub fn read(contract: &[u8]) -> Result<Rc<Clause>, Refusal> {
+    let records = contract.len() / RECORD_BYTES;
+    if contract.is_empty() || !contract.len().is_multiple_of(RECORD_BYTES) || records > MOST_RECORDS
+    {
+        return refused(1, 0);
+    }
+    let mut stack = Vec::new();
+    for (number, record) in contract.chunks(RECORD_BYTES).enumerate() {
+        read_record(record, number, &mut stack)?;
+    }
+    match stack.as_slice() {
+        [Operand::Clause(clause)] => Ok(clause.clone()),
+        _ => refused(6, records),
+    }
+}
+
+/// One record: refusals 2, 3, 4, 5 and 7 in that order.
+fn read_record(record: &[u8], number: usize, stack: &mut Vec<Operand>) -> Result<(), Refusal> {
+    if record[..2] != CONTRACT_MARK {
+        return refused(2, number);
+    }
+    let Some(kind) = kind_of(record[2]) else {
+        return refused(3, number);
+    };
+    if !fields_are_good(kind, record) {
+        return refused(4, number);
+    }
+    let Some(operands) = take_operands(kind, stack) else {
+        return refused(5, number);
+    };
+    let completed = complete(kind.number, record[3], record[4], &operands);
+    if under_when_or_until(&completed).is_some_and(|expression| expression.holds_empty) {
+        return refused(7, number);
+    }
+    stack.push(completed);
+    Ok(())
+}
+
+/// "Party (1 or 2), action (0 to 15), a last byte that no kind uses. A field that a kind doesn't
+/// use is 0."
+fn fields_are_good(kind: &Kind, record: &[u8]) -> bool {
+    let party = if kind.party {
+        record[3] == 1 || record[3] == 2
+    } else {
+        record[3] == 0
+    };
+    let action = if kind.action {
+        record[4] <= 15
+    } else {
+        record[4] == 0
+    };
+    party && action && record[5] == 0
+}
+
+/// The operands of a record, first one first; none if some are "missing or of the wrong sort".
+fn take_operands(kind: &Kind, stack: &mut Vec<Operand>) -> Option<Vec<Operand>> {
+    let from = stack.len().checked_sub(kind.operands.len())?;
+    let sorts_match = stack[from..]
+        .iter()
+        .zip(kind.operands)
+        .all(|(o, sort)| o.sort() == *sort);
+    sorts_match.then(|| stack.split_off(from))
+}
+
+/// The clause or expression that a good record completes.
+fn complete(kind: u8, party: u8, action: u8, operands: &[Operand]) -> Operand {
+    use Operand::{Clause as C, Expression as E};
+    let clause = match (kind, operands) {
+        (1, []) => Clause::Duty(party, action),
+        (2, []) => Clause::Ban(party, action),
+        (3, []) => Clause::Power(party, action),
+        (4, [C(left), C(right)]) => Clause::Both(left.clone(), right.clone()),
+        (5, [C(left), C(right)]) => Clause::Then(left.clone(), right.clone()),
+        (6, [C(left), C(right)]) => Clause::Repair(left.clone(), right.clone()),
+        (7, [C(clause)]) => Clause::Repeat(clause.clone()),
+        (8, [E(expression), C(clause)]) => Clause::When(expression.clone(), clause.clone()),
+        (9, [C(clause), E(expression)]) => Clause::Until(clause.clone(), expression.clone()),
+        _ => return E(Expression::new(shape(kind, party, action, operands))),
+    };
+    C(Rc::new(clause))
+}
+
+/// The shape of the expression that a good record of kind 16 to 23 completes.
+fn shape(kind: u8, party: u8, action: u8, operands: &[Operand]) -> Shape {
+    use Operand::Expression as E;
+    match (kind, operands) {
+        (16, []) => Shape::Any,
+        (17, []) => Shape::Tries(party, action),
+        (18, []) => Shape::Idle(party, action),
+        (19, []) => Shape::Succeeds(action),
+        (20, []) => Shape::Fails(action),
+        (21, [E(left), E(right)]) => Shape::Seq(left.clone(), right.clone()),
+        (22, [E(left), E(right)]) => Shape::Or(left.clone(), right.clone()),
+        (23, [E(expression)]) => Shape::Star(expression.clone()),
+        _ => unreachable!("the operands are the table's"),
+    }
+}
+
+/// The expression that a clause has under `when` or `until` at its top.
+fn under_when_or_until(completed: &Operand) -> Option<&Expression> {
+    match completed {
+        Operand::Clause(clause) => match &**clause {
+            Clause::When(expression, _) | Clause::Until(_, expression) => Some(expression),
+            _ => None,
+        },
+        Operand::Expression(_) => None,
+    }
+}
+
+/// "Image buffer under 8 × (32 × records + 65) bytes": the least length that refusal 8 lets pass.
+pub fn least_buffer(records: usize) -> usize {
+    8 * (32 * records + 65)
+}
+
+/// The most rows of the image of a contract of so many records: what such a buffer has room for
+/// beside the end record.
+pub fn most_rows(records: usize) -> usize {
+    32 * records + 64
+}
+
+/// What compile reads: the clause, or the first of refusals 1 to 8.
+pub fn compile(contract: &[u8], buffer_length: usize) -> Result<Rc<Clause>, Refusal> {
+    let clause = read(contract)?;
+    if buffer_length < least_buffer(contract.len() / RECORD_BYTES) {
+        return refused(8, 0);
+    }
+    Ok(clause)
+}

@@ -1,0 +1,171 @@
+//! "Expressions" and "Meaning of clauses", on whole lists of periods and as the text has it: slow,
+//! and with no state between periods.
+
+use crate::clause::{other, Clause, Decision, Expression, Shape};
+use crate::records::Period;
+
+/// Whether the list is in the expression's set.
+pub fn holds(expression: &Expression, list: &[Period]) -> bool {
+    match &expression.shape {
+        Shape::Seq(left, right) => {
+            splits(list).any(|(first, rest)| holds(left, first) && holds(right, rest))
+        }
+        Shape::Or(left, right) => holds(left, list) || holds(right, list),
+        Shape::Star(each) => {
+            list.is_empty()
+                || splits(list).any(|(first, rest)| {
+                    !first.is_empty() && holds(each, first) && holds(expression, rest)
+                })
+        }
+        _ => matches!(list, [period] if atom_holds(expression, *period)),
+    }
+}
+
+/// "Kinds 16 to 20 hold the one-period lists where: all; the party tries it; doesn't try it; both
+/// try it; not both try it."
+pub fn atom_holds(atom: &Expression, period: Period) -> bool {
+    match atom.shape {
+        Shape::Any => true,
+        Shape::Tries(party, action) => period.tries(party, action),
+        Shape::Idle(party, action) => !period.tries(party, action),
+        Shape::Succeeds(action) => period.succeeds(action),
+        Shape::Fails(action) => !period.succeeds(action),
+        _ => false,
+    }
+}
+
+/// Every way to cut a list in two.
+fn splits(list: &[Period]) -> impl Iterator<Item = (&[Period], &[Period])> {
+    (0..=list.len()).map(|at| list.split_at(at))
+}
+
+/// Whether some list "that begins with those k periods is in the set".
+///
+/// Every atom holds some one-period list, so no expression's set is without lists, and a list of
+/// the left of a `seq` can always be joined by some list of the right.
+pub fn can_begin(expression: &Expression, list: &[Period]) -> bool {
+    match &expression.shape {
+        Shape::Seq(left, right) => {
+            can_begin(left, list)
+                || splits(list).any(|(first, rest)| holds(left, first) && can_begin(right, rest))
+        }
+        Shape::Or(left, right) => can_begin(left, list) || can_begin(right, list),
+        Shape::Star(each) => {
+            splits(list).any(|(first, rest)| holds(expression, first) && can_begin(each, rest))
+        }
+        _ => list.is_empty() || holds(expression, list),
+    }
+}
+
+/// What an expression says of a list.
+#[derive(Clone, Copy, Debug, PartialEq, Eq)]
+pub enum Reading {
+    Pending,
+    Accepted(usize),
+    Rejected(usize),
+}
+
+/// "It is accepted at the least k such that the first k periods are in the set. It is rejected at
+/// the least k such that no list at all that begins with those k periods is in the set, provided
+/// it wasn't accepted before."
+pub fn reading(expression: &Expression, list: &[Period]) -> Reading {
+    for k in 0..=list.len() {
+        if holds(expression, &list[..k]) {
+            return Reading::Accepted(k);
+        }
+        if !can_begin(expression, &list[..k]) {
+            return Reading::Rejected(k);
+        }
+    }
+    Reading::Pending
+}
+
+/// The decision of a clause on a list of periods.
+pub fn decision(clause: &Clause, list: &[Period]) -> Decision {
+    match clause {
+        Clause::Duty(..) | Clause::Ban(..) | Clause::Power(..) => match list.first() {
+            None => Decision::Undecided,
+            Some(first) => literal(clause, *first),
+        },
+        Clause::Both(left, right) => both(decision(left, list), decision(right, list)),
+        Clause::Then(left, right) => match decision(left, list) {
+            Decision::Satisfied { period } => from_after(right, list, period),
+            left => left,
+        },
+        Clause::Repair(left, right) => match decision(left, list) {
+            Decision::Violated { period, .. } => from_after(right, list, period),
+            left => left,
+        },
+        Clause::Repeat(each) => match decision(each, list) {
+            Decision::Satisfied { period } => from_after(clause, list, period),
+            each => each,
+        },
+        Clause::When(expression, then) => match reading(expression, list) {
+            Reading::Pending => Decision::Undecided,
+            Reading::Accepted(k) => from_after(then, list, k),
+            Reading::Rejected(k) => Decision::Satisfied { period: k },
+        },
+        Clause::Until(own, expression) => match (decision(own, list), reading(expression, list)) {
+            (Decision::Undecided, Reading::Accepted(k)) => Decision::Satisfied { period: k },
+            (own, Reading::Accepted(k)) if own.period() > k => Decision::Satisfied { period: k },
+            (own, _) => own,
+        },
+    }
+}
+
+/// "The right reads from period k+1."
+fn from_after(clause: &Clause, list: &[Period], k: usize) -> Decision {
+    decision(clause, &list[k..]).later_by(k)
+}
+
+/// "Duty, ban and power decide at period 1. Duty: satisfied if both try; blame p if p doesn't try,
+/// otherwise q. Ban: violated if both try, blame p. Power: violated if p tries and q doesn't,
+/// blame q."
+pub fn literal(clause: &Clause, first: Period) -> Decision {
+    let blame = match *clause {
+        Clause::Duty(_, action) if first.succeeds(action) => 0,
+        Clause::Duty(p, action) if !first.tries(p, action) => p,
+        Clause::Duty(p, _) => other(p),
+        Clause::Ban(p, action) if first.succeeds(action) => p,
+        Clause::Power(p, action) if first.tries(p, action) && !first.tries(other(p), action) => {
+            other(p)
+        }
+        _ => 0,
+    };
+    match blame {
+        0 => Decision::Satisfied { period: 1 },
+        blame => Decision::Violated { period: 1, blame },
+    }
+}
+
+/// "Violated at the earlier violation, with that one's blame; the two blames are united if they
+/// fall in the same period. Otherwise satisfied when the later half is satisfied."
+fn both(left: Decision, right: Decision) -> Decision {
+    use Decision::{Satisfied, Undecided, Violated};
+    match (left, right) {
+        (
+            Violated {
+                period: k,
+                blame: b,
+            },
+            Violated {
+                period: m,
+                blame: c,
+            },
+        ) if k == m => Violated {
+            period: k,
+            blame: b | c,
+        },
+        (Violated { period: k, .. }, Violated { period: m, .. }) => {
+            if k < m {
+                left
+            } else {
+                right
+            }
+        }
+        (Violated { .. }, _) => left,
+        (_, Violated { .. }) => right,
+        (Satisfied { period: k }, Satisfied { period: m }) => Satisfied { period: k.max(m) },
+        _ => Undecided,
+    }
+}

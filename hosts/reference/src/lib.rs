@@ -1,0 +1,23 @@
+//! The plugin contract monitor a second time, from document 01 alone, to compare the monitor with.
+//!
+//! Quotations in the comments are document 01's words. The meaning of a contract is here twice:
+//! [`definition`] decides whole lists of periods as the text says it, slowly; [`monitor`] goes from
+//! period to period and keeps what is left to read. Nothing here makes the rows of an image:
+//! "which rows compile picks is free".
+
+#![forbid(unsafe_code)]
+
+pub mod calls;
+pub mod clause;
+pub mod contract;
+pub mod definition;
+pub mod image;
+pub mod monitor;
+pub mod reading;
+pub mod records;
+pub mod state;
+pub mod watch;
+
+pub use clause::{Clause, Decision, Expression, Shape, Verdict};
+pub use monitor::Monitor;
+pub use records::{Period, Refusal};

@@ -1,0 +1,128 @@
+//! Contracts and traces for the tests.
+#![allow(dead_code)]
+
+use reference::records::Period;
+use reference::{Clause, Decision, Expression, Shape};
+use std::rc::Rc;
+
+/// A contract record.
+pub fn record(kind: u8, party: u8, action: u8) -> [u8; 6] {
+    [0x54, 0x43, kind, party, action, 0]
+}
+
+/// A contract of these kinds, parties and actions.
+pub fn contract(records: &[(u8, u8, u8)]) -> Vec<u8> {
+    records
+        .iter()
+        .flat_map(|(kind, party, action)| record(*kind, *party, *action))
+        .collect()
+}
+
+/// The periods of a text such as "a/-, ab/b": "party 1 before the slash; - is no attempt".
+pub fn periods(text: &str) -> Vec<Period> {
+    text.split(", ")
+        .filter(|period| !period.is_empty())
+        .map(period)
+        .collect()
+}
+
+fn period(text: &str) -> Period {
+    let (one, two) = text.split_once('/').expect("a slash");
+    Period {
+        one: attempts(one),
+        two: attempts(two),
+    }
+}
+
+fn attempts(text: &str) -> u16 {
+    text.bytes()
+        .filter(|letter| *letter != b'-')
+        .map(|letter| 1 << (letter - b'a'))
+        .sum()
+}
+
+pub const A: u8 = 0;
+pub const B: u8 = 1;
+
+pub fn duty(party: u8, action: u8) -> Rc<Clause> {
+    Rc::new(Clause::Duty(party, action))
+}
+
+pub fn ban(party: u8, action: u8) -> Rc<Clause> {
+    Rc::new(Clause::Ban(party, action))
+}
+
+pub fn power(party: u8, action: u8) -> Rc<Clause> {
+    Rc::new(Clause::Power(party, action))
+}
+
+pub fn both(left: Rc<Clause>, right: Rc<Clause>) -> Rc<Clause> {
+    Rc::new(Clause::Both(left, right))
+}
+
+pub fn then(left: Rc<Clause>, right: Rc<Clause>) -> Rc<Clause> {
+    Rc::new(Clause::Then(left, right))
+}
+
+pub fn repair(left: Rc<Clause>, right: Rc<Clause>) -> Rc<Clause> {
+    Rc::new(Clause::Repair(left, right))
+}
+
+pub fn repeat(clause: Rc<Clause>) -> Rc<Clause> {
+    Rc::new(Clause::Repeat(clause))
+}
+
+pub fn when(expression: Rc<Expression>, clause: Rc<Clause>) -> Rc<Clause> {
+    Rc::new(Clause::When(expression, clause))
+}
+
+pub fn until(clause: Rc<Clause>, expression: Rc<Expression>) -> Rc<Clause> {
+    Rc::new(Clause::Until(clause, expression))
+}
+
+pub fn any() -> Rc<Expression> {
+    Expression::new(Shape::Any)
+}
+
+pub fn tries(party: u8, action: u8) -> Rc<Expression> {
+    Expression::new(Shape::Tries(party, action))
+}
+
+pub fn seq(left: Rc<Expression>, right: Rc<Expression>) -> Rc<Expression> {
+    Expression::new(Shape::Seq(left, right))
+}
+
+pub fn or(left: Rc<Expression>, right: Rc<Expression>) -> Rc<Expression> {
+    Expression::new(Shape::Or(left, right))
+}
+
+pub fn star(each: Rc<Expression>) -> Rc<Expression> {
+    Expression::new(Shape::Star(each))
+}
+
+pub const OPEN: Decision = Decision::Undecided;
+
+pub fn satisfied(period: usize) -> Decision {
+    Decision::Satisfied { period }
+}
+
+pub fn violated(period: usize, blame: u8) -> Decision {
+    Decision::Violated { period, blame }
+}
+
+/// A small generator of random numbers.
+pub struct Random(pub u64);
+
+impl Random {
+    pub fn next(&mut self) -> u64 {
+        self.0 = self.0.wrapping_add(0x9e37_79b9_7f4a_7c15);
+        let mut z = self.0;
+        z = (z ^ (z >> 30)).wrapping_mul(0xbf58_476d_1ce4_e5b9);
+        z = (z ^ (z >> 27)).wrapping_mul(0x94d0_49bb_1331_11eb);
+        z ^ (z >> 31)
+    }
+
+    pub fn below(&mut self, limit: u64) -> u64 {
+        self.next() % limit
+    }
+}

@@ -1,0 +1,273 @@
+//! The table of refusals: its small inputs, the places, and the order of the tests.
+
+mod common;
+
+use common::*;
+use reference::calls::{begin, run, step};
+use reference::contract::{compile, least_buffer, read};
+use reference::{image, Refusal};
+
+fn refusal(number: u32, place: u64) -> Refusal {
+    Refusal { number, place }
+}
+
+fn refuses(bytes: &[u8], number: u32, place: u64) {
+    assert_eq!(
+        read(bytes).unwrap_err(),
+        refusal(number, place),
+        "{bytes:02x?}"
+    );
+}
+
+#[test]
+fn one_to_three() {
+    refuses(&[0; 5], 1, 0);
+    refuses(&[], 1, 0);
+    refuses(&contract(&[(1, 1, 0); 65]), 1, 0);
+    refuses(&[0x54, 0x44, 1, 1, 0, 0], 2, 0);
+    refuses(
+        &[contract(&[(1, 1, 0)]), vec![0x55, 0x43, 1, 1, 0, 0]].concat(),
+        2,
+        1,
+    );
+    for kind in [0, 10, 11, 12, 13, 14, 15, 24, 255] {
+        refuses(&contract(&[(kind, 0, 0)]), 3, 0);
+    }
+}
+
+#[test]
+fn fields() {
+    refuses(&contract(&[(1, 3, 0)]), 4, 0);
+    refuses(&contract(&[(1, 0, 0)]), 4, 0);
+    refuses(&contract(&[(1, 1, 16)]), 4, 0);
+    refuses(&contract(&[(19, 1, 0)]), 4, 0);
+    refuses(&contract(&[(16, 0, 1)]), 4, 0);
+    refuses(&contract(&[(1, 1, 0), (7, 0, 1)]), 4, 1);
+    refuses(&[0x54, 0x43, 1, 1, 0, 1], 4, 0);
+    assert!(read(&contract(&[(1, 2, 15)])).is_ok());
+}
+
+#[test]
+fn operands() {
+    refuses(&contract(&[(7, 0, 0)]), 5, 0);
+    refuses(&contract(&[(1, 1, 0), (4, 0, 0)]), 5, 1);
+    refuses(&contract(&[(16, 0, 0), (7, 0, 0)]), 5, 1);
+    refuses(&contract(&[(1, 1, 0), (16, 0, 0), (8, 0, 0)]), 5, 2);
+    refuses(&contract(&[(16, 0, 0), (1, 1, 0), (9, 0, 0)]), 5, 2);
+    refuses(&contract(&[(1, 1, 0), (23, 0, 0)]), 5, 1);
+    refuses(&contract(&[(16, 0, 0)]), 6, 1);
+    refuses(&contract(&[(1, 1, 0), (1, 1, 0)]), 6, 2);
+    refuses(&contract(&[(16, 0, 0), (1, 1, 0)]), 6, 2);
+    refuses(
+        &contract(&[(16, 0, 0), (23, 0, 0), (1, 1, 0), (8, 0, 0)]),
+        7,
+        3,
+    );
+    refuses(
+        &contract(&[(1, 1, 0), (16, 0, 0), (23, 0, 0), (9, 0, 0)]),
+        7,
+        3,
+    );
+}
+
+#[test]
+fn order_within_a_contract() {
+    // Record by record: 5 at record 0 goes before 2 at record 1.
+    refuses(
+        &[contract(&[(7, 0, 0)]), vec![0, 0, 0, 0, 0, 0]].concat(),
+        5,
+        0,
+    );
+    // 7 at record 3 goes before 3 at record 4, and before 6.
+    let empty = [(16, 0, 0), (23, 0, 0), (1, 1, 0), (8, 0, 0), (10, 0, 0)];
+    refuses(&contract(&empty), 7, 3);
+    refuses(
+        &contract(&[(1, 1, 0), (16, 0, 0), (23, 0, 0), (1, 1, 0), (8, 0, 0)]),
+        7,
+        4,
+    );
+    // 4 goes before 5 in one record.
+    refuses(&contract(&[(7, 1, 0)]), 4, 0);
+    refuses(&[0x54, 0x44, 10, 3, 16, 1], 2, 0);
+    refuses(&contract(&[(10, 3, 16)]), 3, 0);
+}
+
+#[test]
+fn buffers() {
+    let one = contract(&[(1, 1, 0)]);
+    assert_eq!(least_buffer(1), 776);
+    assert_eq!(compile(&one, 775).unwrap_err(), refusal(8, 0));
+    assert!(compile(&one, 776).is_ok());
+    assert_eq!(
+        compile(&contract(&[(7, 0, 0)]), 0).unwrap_err(),
+        refusal(5, 0)
+    );
+    let most = contract(&[[(1, 1, 0)].as_slice(), &[(7, 0, 0); 63]].concat());
+    assert!(compile(&most, least_buffer(64)).is_ok());
+    refuses(&[most, contract(&[(7, 0, 0)])].concat(), 1, 0);
+}
+
+fn row(kind: u8, x: u16, y: u16) -> Vec<u8> {
+    let (x, y) = (x.to_le_bytes(), y.to_le_bytes());
+    vec![0x54, 0x52, kind, 0, x[0], x[1], y[0], y[1]]
+}
+
+fn end(s: u16, v1: u16, v2: u16) -> Vec<u8> {
+    let (s, v1, v2) = (s.to_le_bytes(), v1.to_le_bytes(), v2.to_le_bytes());
+    vec![0x54, 0x45, s[0], s[1], v1[0], v1[1], v2[0], v2[1]]
+}
+
+/// Duty 1 a, by hand.
+fn duty_image() -> Vec<u8> {
+    let rows = [
+        row(2, 1, 0),
+        row(2, 2, 0),
+        row(4, 0, 1),
+        row(3, 0, 0),
+        row(3, 1, 0),
+        row(4, 0, 4),
+        end(2, 3, 5),
+    ];
+    rows.concat()
+}
+
+fn image_refused(bytes: &[u8], place: u64) {
+    assert_eq!(
+        image::read(bytes).unwrap_err(),
+        refusal(9, place),
+        "{bytes:02x?}"
+    );
+}
+
+#[test]
+fn images() {
+    for length in [0, 8, 15, 17, 16912] {
+        image_refused(&vec![0; length], 0);
+    }
+    image_refused(&[row(3, 0, 0), end(0, 0, 0)].concat(), 0);
+    image_refused(&[row(0, 0, 0), row(3, 1, 0), end(0, 0, 0)].concat(), 1);
+    image_refused(&[row(0, 0, 0), row(4, 0, 1), end(0, 0, 0)].concat(), 1);
+    image_refused(&[row(0, 0, 1), end(0, 0, 0)].concat(), 0);
+    image_refused(&[row(1, 1, 0), end(0, 0, 0)].concat(), 0);
+    image_refused(&[row(2, 0, 0), end(0, 0, 0)].concat(), 0);
+    image_refused(&[row(2, 3, 0), end(0, 0, 0)].concat(), 0);
+    image_refused(&[row(2, 1, 16), end(0, 0, 0)].concat(), 0);
+    image_refused(&[row(6, 1, 0), end(0, 0, 0)].concat(), 0);
+    image_refused(&[row(6, 0, 1), end(0, 0, 0)].concat(), 0);
+    image_refused(&[row(7, 0, 0), end(0, 0, 0)].concat(), 0);
+    image_refused(&[row(0, 0, 0), end(1, 0, 0)].concat(), 1);
+    image_refused(&[row(0, 0, 0), end(0, 1, 0)].concat(), 1);
+    image_refused(&[row(0, 0, 0), end(0, 0, 1)].concat(), 1);
+    image_refused(&[row(0, 0, 0), row(0, 0, 0)].concat(), 1);
+    assert!(image::read(&[row(6, 1, 0), row(1, 0, 0), end(1, 0, 0)].concat()).is_ok());
+    assert!(image::read(&[row(0, 0, 0).repeat(2112), end(0, 0, 2111)].concat()).is_ok());
+}
+
+/// Number and place of a reply.
+fn answer(reply: &[u8]) -> (u32, u64) {
+    let number = u32::from_le_bytes(reply[0..4].try_into().unwrap());
+    (number, u64::from_le_bytes(reply[8..16].try_into().unwrap()))
+}
+
+/// Verdict, blame and decision period of a reply.
+fn verdict(reply: &[u8]) -> (u8, u8, u8) {
+    (reply[4], reply[16], reply[20])
+}
+
+const GOOD: [u8; 6] = [0x54, 0x50, 1, 0, 0, 0];
+
+#[test]
+fn states() {
+    let image = duty_image();
+    let mut reply = [7; 24];
+    let mut short = [7; 15];
+    let mut state = [9; 16];
+    assert_eq!(begin(&image, &mut short, &mut reply), 1);
+    assert_eq!((answer(&reply), short), ((10, 0), [7; 15]));
+    assert_eq!(begin(&image, &mut state, &mut reply[..15]), 0);
+    assert_eq!(state, [9; 16]);
+    assert_eq!(begin(&image, &mut state, &mut reply), 1);
+    assert_eq!(
+        (state, &reply[..16], &reply[16..]),
+        ([0; 16], [0; 16].as_slice(), [7; 8].as_slice())
+    );
+    let unsound: [(&[u8], &str); 8] = [
+        (&[3, 0, 1, 0, 0, 0, 1], "outcome 3"),
+        (&[2, 0, 1, 0, 0, 0, 1], "blame 0 for outcome 2"),
+        (&[2, 4, 1, 0, 0, 0, 1], "blame 4"),
+        (&[1, 1, 1, 0, 0, 0, 1], "blame for outcome 1"),
+        (&[1, 0, 1, 0, 0, 0, 0], "decision 0 for outcome 1"),
+        (&[0, 0, 1, 0, 0, 0, 1], "a decision for outcome 0"),
+        (&[1, 0, 1, 0, 0, 0, 2], "decision above periods taken"),
+        (
+            &[0, 0, 0, 0, 0, 0, 0, 0, 0, 0, 1],
+            "a value before the first period",
+        ),
+    ];
+    for (bytes, what) in unsound {
+        let mut state = [0; 16];
+        state[..bytes.len()].copy_from_slice(bytes);
+        let before = state;
+        assert_eq!(step(&image, &mut state, &GOOD[..5], &mut reply), 1);
+        assert_eq!((answer(&reply), state), ((10, 0), before), "{what}");
+    }
+}
+
+#[test]
+fn periods_and_counts() {
+    let image = duty_image();
+    let mut reply = [7; 24];
+    let mut state = [0; 16];
+    for period in [
+        vec![],
+        GOOD[..5].to_vec(),
+        [GOOD.as_slice(), &[0]].concat(),
+        vec![0; 6],
+    ] {
+        assert_eq!(step(&image, &mut state, &period, &mut reply), 1);
+        assert_eq!((answer(&reply), state), ((11, 0), [0; 16]));
+    }
+    let bad = [GOOD.as_slice(), &GOOD, &[0x54, 0x51, 0, 0, 0, 0]].concat();
+    run(&image, &mut state, &bad, &mut reply);
+    assert_eq!((answer(&reply), state), ((11, 2), [0; 16]));
+    run(&image, &mut state, &bad[..17], &mut reply);
+    assert_eq!((answer(&reply), state), ((11, 0), [0; 16]));
+
+    let mut full = [0; 16];
+    full[2..6].fill(255);
+    step(&image, &mut full, &GOOD, &mut reply);
+    assert_eq!(answer(&reply), (12, 0));
+    run(&image, &mut full, &[], &mut reply);
+    assert_eq!((answer(&reply), verdict(&reply)), ((0, 0), (0, 0, 0)));
+    full[2] = 254;
+    let before = full;
+    run(&image, &mut full, &GOOD.repeat(3), &mut reply);
+    assert_eq!((answer(&reply), full), ((12, 1), before));
+    run(&image, &mut full, &bad, &mut reply);
+    assert_eq!((answer(&reply), full), ((11, 2), before));
+    step(&image, &mut full, &GOOD, &mut reply);
+    assert_eq!((answer(&reply), verdict(&reply)), ((0, 0), (2, 2, 255)));
+}
+
+#[test]
+fn steps_and_runs() {
+    let image = duty_image();
+    let mut reply = [7; 24];
+    let mut state = [0; 16];
+    assert_eq!(step(&image, &mut state, &GOOD, &mut reply[..23]), 0);
+    assert_eq!((state, reply), ([0; 16], [7; 24]));
+    assert_eq!(step(&image, &mut state, &GOOD, &mut reply), 1);
+    assert_eq!((answer(&reply), verdict(&reply)), ((0, 0), (2, 2, 1)));
+    assert_eq!(state, [2, 2, 1, 0, 0, 0, 1, 0, 0, 0, 1, 0, 0, 0, 1, 1]);
+    assert_eq!(
+        step(&image, &mut state, &[0x54, 0x50, 0, 0, 1, 0], &mut reply),
+        1
+    );
+    assert_eq!(verdict(&reply), (4, 2, 1));
+    assert_eq!(state, [2, 2, 2, 0, 0, 0, 1, 0, 0, 0, 1, 0, 0, 0, 1, 1]);
+    let mut other = [0; 16];
+    run(&image, &mut other, &[GOOD, GOOD].concat(), &mut reply);
+    assert_eq!((state, verdict(&reply)), (other, (4, 2, 1)));
+    run(&image, &mut other, &[], &mut reply);
+    assert_eq!((state, verdict(&reply)), (other, (4, 2, 1)));
+}

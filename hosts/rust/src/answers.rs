@@ -1,0 +1,67 @@
+//! The four calls with a reply area of the right length, and what the reply says.
+//!
+//! Three things are proved of the calls and taken for granted here, by a panic where they fail:
+//! the result is 1 where the reply has room; a number other than 0 is one of the refusals 1 to 12;
+//! verdict and blame of an accepted call are numbers of verdicts and blames.
+
+use std::num::NonZeroU32;
+
+use crate::{calls, Blame, Fault, Refusal, Reply, Verdict};
+
+/// The bytes of compile's and begin's reply.
+const SHORT_REPLY: usize = 16;
+/// The bytes of step's and run's reply.
+const LONG_REPLY: usize = 24;
+
+/// A four-byte field, low byte first.
+pub fn u32_at(bytes: &[u8], at: usize) -> u32 {
+    u32::from_le_bytes([bytes[at], bytes[at + 1], bytes[at + 2], bytes[at + 3]])
+}
+
+/// The row count.
+pub fn compile(contract: &[u8], image: &mut [u8]) -> Result<u32, Refusal> {
+    let mut reply = [0; SHORT_REPLY];
+    let result = calls::compile(contract, image, &mut reply);
+    accepted(result, &reply)?;
+    Ok(u32_at(&reply, 4))
+}
+
+pub fn begin(image: &[u8], state: &mut [u8]) -> Result<(), Refusal> {
+    let mut reply = [0; SHORT_REPLY];
+    let result = calls::begin(image, state, &mut reply);
+    accepted(result, &reply)
+}
+
+pub fn step(image: &[u8], state: &mut [u8], period: &[u8]) -> Result<Reply, Refusal> {
+    let mut reply = [0; LONG_REPLY];
+    let result = calls::step(image, state, period, &mut reply);
+    accepted(result, &reply)?;
+    Ok(answer(&reply))
+}
+
+pub fn run(image: &[u8], state: &mut [u8], trace: &[u8]) -> Result<Reply, Refusal> {
+    let mut reply = [0; LONG_REPLY];
+    let result = calls::run(image, state, trace, &mut reply);
+    accepted(result, &reply)?;
+    Ok(answer(&reply))
+}
+
+/// Every reply starts with the number, and has the place from byte 8.
+fn accepted(result: u32, reply: &[u8]) -> Result<(), Refusal> {
+    assert_eq!(result, 1, "the reply has room");
+    match u32_at(reply, 0) {
+        0 => Ok(()),
+        number => Err(Refusal {
+            fault: Fault::from_number(number).expect("a refusal is 1 to 12"),
+            place: u64::from(u32_at(reply, 8)) | u64::from(u32_at(reply, 12)) << 32,
+        }),
+    }
+}
+
+fn answer(reply: &[u8; LONG_REPLY]) -> Reply {
+    Reply {
+        verdict: Verdict::from_number(u32_at(reply, 4)).expect("a verdict is 0 to 4"),
+        blame: Blame::from_number(u32_at(reply, 16)).expect("a blame is 0 to 3"),
+        decision: NonZeroU32::new(u32_at(reply, 20)),
+    }
+}

@@ -1,0 +1,99 @@
+//! Monitors: an image and a state, stepped period by period.
+
+use crate::{answers, Image, Period, Refusal, Reply};
+
+/// A contract under way: its image and a state.
+///
+/// Its state is sound, of the image's length, and written by nobody else, so typed calls are
+/// refused only where the count of periods is full (refusal 12). A refused call changes nothing.
+#[derive(Clone, Debug, PartialEq, Eq)]
+pub struct Monitor {
+    image: Image,
+    state: Vec<u8>,
+}
+
+impl Monitor {
+    /// Begins: no period is taken.
+    pub fn begin(image: &Image) -> Monitor {
+        let mut state = vec![0; image.state_bytes()];
+        // Proved: begin accepts what compile wrote, and again what it accepted in `from_bytes`.
+        answers::begin(image.as_bytes(), &mut state).expect("the image is good");
+        Monitor {
+            image: image.clone(),
+            state,
+        }
+    }
+
+    /// Goes on from a stored state, as [`state`](Monitor::state) gave it. A run of no records
+    /// checks it.
+    ///
+    /// The check is that the state is sound and has the image's length. That it was left by this
+    /// very image isn't to be seen from it: store the two together.
+    ///
+    /// # Errors
+    /// Refusal 10, if the state's length is wrong or it isn't sound.
+    pub fn resume(image: &Image, state: impl Into<Vec<u8>>) -> Result<Monitor, Refusal> {
+        let mut state = state.into();
+        answers::run(image.as_bytes(), &mut state, &[])?;
+        Ok(Monitor {
+            image: image.clone(),
+            state,
+        })
+    }
+
+    /// Takes one period.
+    ///
+    /// # Errors
+    /// Refusal 12, after 4,294,967,295 periods.
+    pub fn step(&mut self, period: Period) -> Result<Reply, Refusal> {
+        self.step_bytes(&period.to_bytes())
+    }
+
+    /// Takes one period record as it stands.
+    ///
+    /// # Errors
+    /// Refusal 11, if it isn't a period record, and 12 as [`step`](Monitor::step).
+    pub fn step_bytes(&mut self, record: &[u8]) -> Result<Reply, Refusal> {
+        answers::step(self.image.as_bytes(), &mut self.state, record)
+    }
+
+    /// Takes any number of periods, all of them or none.
+    ///
+    /// # Errors
+    /// Refusal 12, if more than 4,294,967,295 periods would be taken.
+    pub fn run(&mut self, periods: &[Period]) -> Result<Reply, Refusal> {
+        let trace: Vec<u8> = periods.iter().flat_map(|p| p.to_bytes()).collect();
+        self.run_bytes(&trace)
+    }
+
+    /// Takes a trace, any number of period records as they stand, all of them or none.
+    ///
+    /// # Errors
+    /// Refusal 11, if it isn't a list of period records, and 12 as [`run`](Monitor::run).
+    pub fn run_bytes(&mut self, trace: &[u8]) -> Result<Reply, Refusal> {
+        answers::run(self.image.as_bytes(), &mut self.state, trace)
+    }
+
+    /// The answer after the periods taken so far: that of a run of no records.
+    pub fn look(&self) -> Reply {
+        // Proved: such a run is refused only for the image or the state, and every step and run
+        // leaves a sound state.
+        answers::run(self.image.as_bytes(), &mut self.state.clone(), &[])
+            .expect("the image is good and the state sound")
+    }
+
+    /// How many periods were taken.
+    pub fn periods(&self) -> u32 {
+        answers::u32_at(&self.state, 2)
+    }
+
+    /// The state's bytes, to be stored and resumed.
+    pub fn state(&self) -> &[u8] {
+        &self.state
+    }
+
+    /// The image that the monitor runs.
+    pub fn image(&self) -> &Image {
+        &self.image
+    }
+}

@@ -1,0 +1,110 @@
+//! What step and run answer.
+
+use std::fmt;
+use std::num::NonZeroU32;
+
+/// How a contract stands after the periods taken so far.
+#[derive(Clone, Copy, Debug, PartialEq, Eq, Hash)]
+#[repr(u32)]
+pub enum Verdict {
+    /// Undecided.
+    Open = 0,
+    /// Satisfied in the last period.
+    Met = 1,
+    /// Violated in the last period.
+    Broken = 2,
+    /// Satisfied in a period before.
+    MetAfter = 3,
+    /// Violated in a period before.
+    BrokenAfter = 4,
+}
+
+impl Verdict {
+    /// The verdict of this number, if it is at most 4.
+    pub const fn from_number(number: u32) -> Option<Verdict> {
+        Some(match number {
+            0 => Verdict::Open,
+            1 => Verdict::Met,
+            2 => Verdict::Broken,
+            3 => Verdict::MetAfter,
+            4 => Verdict::BrokenAfter,
+            _ => return None,
+        })
+    }
+
+    /// 0 to 4.
+    pub const fn number(self) -> u32 {
+        self as u32
+    }
+
+    /// The verdict's name, as `watch` prints it.
+    pub const fn name(self) -> &'static str {
+        match self {
+            Verdict::Open => "open",
+            Verdict::Met => "met",
+            Verdict::Broken => "broken",
+            Verdict::MetAfter => "met-after",
+            Verdict::BrokenAfter => "broken-after",
+        }
+    }
+}
+
+impl fmt::Display for Verdict {
+    fn fmt(&self, f: &mut fmt::Formatter<'_>) -> fmt::Result {
+        f.pad(self.name())
+    }
+}
+
+/// Who is to blame for a violation.
+#[derive(Clone, Copy, Debug, PartialEq, Eq, Hash)]
+#[repr(u32)]
+pub enum Blame {
+    /// Nobody: the contract isn't violated.
+    None = 0,
+    /// Party 1.
+    One = 1,
+    /// Party 2.
+    Two = 2,
+    /// Both parties.
+    Both = 3,
+}
+
+impl Blame {
+    /// The blame of this number, if it is at most 3.
+    pub const fn from_number(number: u32) -> Option<Blame> {
+        Some(match number {
+            0 => Blame::None,
+            1 => Blame::One,
+            2 => Blame::Two,
+            3 => Blame::Both,
+            _ => return None,
+        })
+    }
+
+    /// 0 to 3.
+    pub const fn number(self) -> u32 {
+        self as u32
+    }
+}
+
+impl fmt::Display for Blame {
+    fn fmt(&self, f: &mut fmt::Formatter<'_>) -> fmt::Result {
+        f.pad(match self {
+            Blame::None => "none",
+            Blame::One => "party 1",
+            Blame::Two => "party 2",
+            Blame::Both => "both parties",
+        })
+    }
+}
+
+/// The answer after the periods taken so far.
+#[derive(Clone, Copy, Debug, PartialEq, Eq, Hash)]
+pub struct Reply {
+    /// How the contract stands.
+    pub verdict: Verdict,
+    /// Who is to blame; [`Blame::None`] unless the contract is violated.
+    pub blame: Blame,
+    /// The period that decided, counted from 1; `None` while the contract is open.
+    pub decision: Option<NonZeroU32>,
+}

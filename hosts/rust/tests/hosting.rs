@@ -1,0 +1,122 @@
+//! What a host does with images and states: stores them, shares them, goes on from them.
+
+use monitor::{Action, Contract, Image, Monitor, Party, Period, Record, Verdict};
+
+const A: Action = Action::new(0).unwrap();
+const DUTY: Record = Record::Duty(Party::One, A);
+const GOOD: Period = Period::from_masks(1, 1);
+const BAD: Period = Period::from_masks(0, 1);
+
+/// A duty under so many repeats less one.
+fn nest(records: usize) -> Vec<Record> {
+    let mut nest = vec![Record::Repeat; records];
+    nest[0] = DUTY;
+    nest
+}
+
+fn compile(records: &[Record]) -> Image {
+    Image::compile(Contract::from_records(records)).unwrap()
+}
+
+#[test]
+fn sizes_follow_the_rows() {
+    for records in 1..=64 {
+        let image = compile(&nest(records));
+        assert_eq!(image.as_bytes().len(), 8 * (image.rows() + 1));
+        assert!((1..=32 * records + 64).contains(&image.rows()));
+        let monitor = Monitor::begin(&image);
+        assert_eq!(monitor.state(), vec![0; 10 + image.rows()]);
+    }
+}
+
+#[test]
+fn sixty_four_records_and_sixty_five() {
+    let mut monitor = Monitor::begin(&compile(&nest(64)));
+    assert_eq!(monitor.run(&[GOOD; 100]).unwrap().verdict, Verdict::Open);
+    let reply = monitor.step(BAD).unwrap();
+    assert_eq!(reply.verdict, Verdict::Broken);
+    assert_eq!(reply.decision.unwrap().get(), 101);
+
+    let refusal = Image::compile(Contract::from_records(&nest(65))).unwrap_err();
+    assert_eq!((refusal.fault.number(), refusal.place), (1, 0));
+}
+
+#[test]
+fn compile_takes_contracts_and_bytes_alike() {
+    let contract = Contract::from_records(&[DUTY]);
+    let image = Image::compile(&contract).unwrap();
+    assert_eq!(Image::compile([0x54, 0x43, 1, 1, 0, 0]), Ok(image.clone()));
+    assert_eq!(Image::compile(contract.as_bytes()), Ok(image));
+}
+
+#[test]
+fn stored_images() {
+    let image = compile(&[DUTY, Record::Repeat]);
+    let stored = image.as_bytes().to_vec();
+    let again = Image::from_bytes(stored).unwrap();
+    assert_eq!(again, image);
+    assert_eq!(again.rows(), image.rows());
+    let mut monitor = Monitor::begin(&again);
+    assert_eq!(monitor.run(&[GOOD, BAD]).unwrap().verdict, Verdict::Broken);
+}
+
+#[test]
+fn a_resumed_monitor_goes_on_as_if_never_stored() {
+    let image = compile(&[DUTY, DUTY, Record::Then, Record::Repeat]);
+    let trace = [GOOD, GOOD, GOOD, BAD, GOOD];
+    let mut straight = Monitor::begin(&image);
+    let mut stored = straight.state().to_vec();
+    for (taken, period) in (0..).zip(trace) {
+        let mut resumed = Monitor::resume(&image, stored).unwrap();
+        assert_eq!(resumed.look(), straight.look());
+        assert_eq!(resumed.periods(), taken);
+        assert_eq!(resumed.step(period), straight.step(period));
+        assert_eq!(resumed, straight);
+        stored = resumed.state().to_vec();
+    }
+    assert_eq!(straight.look().verdict, Verdict::BrokenAfter);
+    assert_eq!(straight.look().decision.unwrap().get(), 4);
+}
+
+#[test]
+fn monitors_of_one_image_are_apart() {
+    let image = compile(&[DUTY, Record::Repeat]);
+    let mut sheets = vec![Monitor::begin(&image); 3];
+    drop(image);
+    sheets[1].step(BAD).unwrap();
+    sheets[2].run(&[GOOD, GOOD]).unwrap();
+    let verdicts: Vec<_> = sheets.iter().map(|sheet| sheet.look().verdict).collect();
+    assert_eq!(verdicts, [Verdict::Open, Verdict::Broken, Verdict::Open]);
+    let taken: Vec<_> = sheets.iter().map(Monitor::periods).collect();
+    assert_eq!(taken, [0, 1, 2]);
+    let shared = sheets[0].image().as_bytes().as_ptr();
+    assert!(sheets
+        .iter()
+        .all(|sheet| sheet.image().as_bytes().as_ptr() == shared));
+}
+
+#[test]
+fn a_look_changes_nothing() {
+    let mut monitor = Monitor::begin(&compile(&[DUTY]));
+    let reply = monitor.step(GOOD).unwrap();
+    let before = monitor.clone();
+    assert_eq!(monitor.look(), reply);
+    assert_eq!(monitor.run(&[]), Ok(reply));
+    assert_eq!(monitor, before);
+}
+
+#[test]
+fn images_and_monitors_cross_threads() {
+    let image = compile(&[DUTY, Record::Repeat]);
+    let sheets: Vec<_> = (0..4)
+        .map(|periods| {
+            let mut monitor = Monitor::begin(&image);
+            std::thread::spawn(move || {
+                monitor.run(&vec![GOOD; periods]).unwrap();
+                monitor.step(BAD).unwrap().decision.unwrap().get()
+            })
+        })
+        .collect();
+    let decisions: Vec<_> = sheets.into_iter().map(|t| t.join().unwrap()).collect();
+    assert_eq!(decisions, [1, 2, 3, 4]);
+}

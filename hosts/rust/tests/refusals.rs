@@ -1,0 +1,185 @@
+//! Document 01's table of refusals: the small input of each, and a few more.
+
+use monitor::{calls, Action, Contract, Fault, Image, Monitor, Party, Period, Record, Refusal};
+
+const A: Action = Action::new(0).unwrap();
+const DUTY: Record = Record::Duty(Party::One, A);
+
+/// An image by hand: party 1 owes action 0 in each period.
+const BY_HAND: [u8; 32] = [
+    0x54, 0x52, 2, 0, 1, 0, 0, 0, // row 0: party 1 tries action 0
+    0x54, 0x52, 3, 0, 0, 0, 0, 0, // row 1: not row 0
+    0x54, 0x52, 0, 0, 0, 0, 0, 0, // row 2: false
+    0x54, 0x45, 2, 0, 1, 0, 2, 0, // S is row 2, V1 row 1, V2 row 2
+];
+
+#[track_caller]
+fn hold<T: std::fmt::Debug>(got: Result<T, Refusal>, number: u32, place: u64) {
+    let refusal = got.unwrap_err();
+    assert_eq!((refusal.fault.number(), refusal.place), (number, place));
+}
+
+fn compile(records: &[Record]) -> Result<Image, Refusal> {
+    Image::compile(Contract::from_records(records))
+}
+
+fn by_hand() -> Image {
+    Image::from_bytes(BY_HAND).unwrap()
+}
+
+#[test]
+fn lengths_of_contracts() {
+    hold(compile(&[]), 1, 0);
+    hold(Image::compile([0x54, 0x43, 1, 1, 0]), 1, 0);
+    hold(Image::compile([0; 7]), 1, 0);
+    hold(Image::compile(vec![0x54; 6 * 65]), 1, 0);
+    hold(Image::compile(vec![0x54; 1 << 20]), 1, 0);
+}
+
+#[test]
+fn records_at_fault() {
+    hold(Image::compile([0x54, 0x44, 1, 1, 0, 0]), 2, 0);
+    hold(Image::compile([0x54, 0x43, 10, 0, 0, 0]), 3, 0);
+    hold(Image::compile([0x54, 0x43, 1, 3, 0, 0]), 4, 0);
+    hold(Image::compile([0x54, 0x43, 1, 1, 16, 0]), 4, 0);
+    hold(Image::compile([0x54, 0x43, 1, 1, 0, 1]), 4, 0);
+    hold(compile(&[Record::Repeat]), 5, 0);
+    hold(compile(&[DUTY, Record::Any, Record::Both]), 5, 2);
+    hold(
+        compile(&[Record::Any, Record::Star, DUTY, Record::When]),
+        7,
+        3,
+    );
+
+    let mut second = Contract::from_records(&[DUTY, DUTY]).as_bytes().to_vec();
+    second[8] = 24;
+    hold(Image::compile(second), 3, 1);
+}
+
+#[test]
+fn not_just_one_clause() {
+    hold(compile(&[Record::Any]), 6, 1);
+    hold(compile(&[DUTY, DUTY]), 6, 2);
+}
+
+#[test]
+fn buffers_too_short_for_an_image() {
+    let contract = Contract::from_records(&[DUTY]);
+    for (length, number) in [(775, 8), (776, 0)] {
+        let (mut image, mut reply) = (vec![0xee; length], [0xee; 16]);
+        assert_eq!(
+            calls::compile(contract.as_bytes(), &mut image, &mut reply),
+            1
+        );
+        assert_eq!(reply[..4], [number, 0, 0, 0]);
+        assert_eq!(reply[8..], [0; 8]);
+        assert_eq!(image.iter().all(|&byte| byte == 0xee), number == 8);
+    }
+}
+
+#[test]
+fn areas_too_short_for_a_reply() {
+    let contract = Contract::from_records(&[DUTY]);
+    let (mut image, mut reply) = ([0xee; 776], [0xee; 15]);
+    assert_eq!(
+        calls::compile(contract.as_bytes(), &mut image, &mut reply),
+        0
+    );
+    assert_eq!((image, reply), ([0xee; 776], [0xee; 15]));
+}
+
+#[test]
+fn images() {
+    for length in [0, 8, 15, 17, 16_912] {
+        hold(Image::from_bytes(vec![0; length]), 9, 0);
+    }
+    let mut image = BY_HAND;
+    image[2] = 3; // not row 0, which isn't a lower row
+    image[4] = 0;
+    hold(Image::from_bytes(image), 9, 0);
+    let mut image = BY_HAND;
+    image[18] = 7;
+    hold(Image::from_bytes(image), 9, 2);
+    let mut image = BY_HAND;
+    image[26] = 3;
+    hold(Image::from_bytes(image), 9, 3);
+}
+
+#[test]
+fn states() {
+    let image = by_hand();
+    assert_eq!(image.state_bytes(), 13);
+    hold(Monitor::resume(&image, [0; 12]), 10, 0);
+    hold(Monitor::resume(&image, [0; 14]), 10, 0);
+    let mut state = [0; 13];
+    state[0] = 3;
+    hold(Monitor::resume(&image, state), 10, 0);
+    let mut state = [0; 13];
+    state[10] = 1; // a row value, though no period is taken
+    hold(Monitor::resume(&image, state), 10, 0);
+
+    let (mut state, mut reply) = ([0xee; 12], [0xee; 16]);
+    assert_eq!(calls::begin(image.as_bytes(), &mut state, &mut reply), 1);
+    assert_eq!(reply[..4], [10, 0, 0, 0]);
+    assert_eq!(state, [0xee; 12]);
+}
+
+#[test]
+fn periods() {
+    let image = by_hand();
+    let mut monitor = Monitor::begin(&image);
+    let good = Period::from_masks(1, 1).to_bytes();
+    let bad = [0x54, 0x43, 1, 0, 1, 0];
+
+    hold(monitor.step_bytes(&[0; 7]), 11, 0);
+    hold(monitor.step_bytes(&[]), 11, 0);
+    hold(monitor.step_bytes(&[good, good].concat()), 11, 0);
+    hold(monitor.step_bytes(&bad), 11, 0);
+    hold(monitor.run_bytes(&[0; 7]), 11, 0);
+    hold(monitor.run_bytes(&[good, good, bad, good].concat()), 11, 2);
+    assert_eq!(monitor, Monitor::begin(&image));
+
+    monitor.step_bytes(&good).unwrap();
+    monitor.run_bytes(&[good, good].concat()).unwrap();
+    assert_eq!(monitor.periods(), 3);
+}
+
+#[test]
+fn full_count() {
+    let image = by_hand();
+    let period = Period::from_masks(1, 0);
+    let mut state = [0; 13];
+    state[2..6].copy_from_slice(&(u32::MAX - 1).to_le_bytes());
+
+    let mut monitor = Monitor::resume(&image, state).unwrap();
+    hold(monitor.run(&[period, period, period]), 12, 1);
+    assert_eq!(monitor.state(), state);
+    monitor.step(period).unwrap();
+    assert_eq!(monitor.periods(), u32::MAX);
+    hold(monitor.step(period), 12, 0);
+    monitor.run(&[]).unwrap();
+}
+
+#[test]
+fn refusals_in_words() {
+    let words = [
+        "the contract is not 1 to 64 records of 6 bytes (refusal 1)",
+        "record 2: wrong mark (refusal 2)",
+        "record 2: unknown kind (refusal 3)",
+        "record 2: a field is out of range, or unused and not 0 (refusal 4)",
+        "record 2: operands are missing or of the wrong sort (refusal 5)",
+        "the 2 records are not just one clause (refusal 6)",
+        "record 2: the expression holds the empty list (refusal 7)",
+        "the image buffer is too short (refusal 8)",
+        "image row 2: bad row, end record or length (refusal 9)",
+        "the state is of wrong length, or not sound (refusal 10)",
+        "period record 2: wrong mark or length (refusal 11)",
+        "period record 2: no more periods can be counted (refusal 12)",
+    ];
+    for (number, words) in (1..).zip(words) {
+        let fault = Fault::from_number(number).unwrap();
+        assert_eq!(Refusal { fault, place: 2 }.to_string(), words);
+    }
+    let error: Box<dyn std::error::Error> = compile(&[]).unwrap_err().into();
+    assert_eq!(error.to_string(), words[0]);
+}
