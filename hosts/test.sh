@@ -53,12 +53,9 @@ echo "ok tests of the Rust wrapper, the reference and the comparison"
 cargo run --release --quiet -p monitor --example plugin >"$built/plugin.out"
 diff -u rust/examples/plugin.expected "$built/plugin.out"
 echo "ok plugin"
-cargo run --release --quiet -p compare -- --seed 1 --cases 200000 --watch "$watch" --watch-cases 2000
+cargo run --release --quiet -p compare -- --seed 1 --cases 200000 --watch "$watch" --watch-cases 2000 --small 6
 echo "ok comparison with the reference"
 
-cd ..
-
-# The benchmark is run for what it compares, not for its times: both machines end in the same row values.
-cc -std=c11 -Wall -Wextra -Werror -O2 -Ihosts/c -o "$built/run_ratio" hosts/bench/run_ratio.c "$runner"
-"$built/run_ratio" >"$built/run_ratio.out"
-echo "ok run_ratio agrees"
+# The benchmark is run for what it compares, not for its times.
+cargo run --release --quiet -p bench -- --check --watch "$watch"
+echo "ok the benchmark's two sides agree"

@@ -66,11 +66,24 @@ echo 'refused 13 0' | expect 'a million bytes'
 times 10920 "$duty_a" >"$work/input"
 echo 'refused 1 0' | expect '65,520 bytes of contract'
 
-# The input in pieces, and one that cannot be read.
+# The input in pieces.
 { printf 'TC\x01'; sleep 0.1; printf '\x01\x00\x00TP'; sleep 0.1; printf '\x01\x00\x01\x00'; } | "$watch" >"$work/output"
 printf '1 met 0\ndecided 1\n' | diff -u - "$work/output"
 echo "ok watch, input in pieces"
+
+# A read or a write that fails says so on standard error; the files `output` and `error` have what was written.
+fails() {
+    test ! -s "$work/output"
+    echo "watch: $2" | diff -u - "$work/error"
+    echo "ok watch, $1"
+}
 "$watch" <"$work" >"$work/output" 2>"$work/error"
-test ! -s "$work/output"
-echo 'watch: standard input cannot be read' | diff -u - "$work/error"
-echo "ok watch, input that cannot be read"
+fails 'a folder as input' 'standard input cannot be read'
+"$watch" <&- >"$work/output" 2>"$work/error"
+fails 'a closed input' 'standard input cannot be read'
+"$watch" <"$work/input" >&- 2>"$work/error"
+fails 'a closed output' 'standard output cannot be written'
+if test -e /dev/full; then
+    "$watch" <"$work/input" >/dev/full 2>"$work/error"
+    fails 'a full output' 'standard output cannot be written'
+fi

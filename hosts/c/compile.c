@@ -139,6 +139,15 @@ static struct monitor_reply take(uint32_t rows, const uint8_t *records, size_t l
 static const uint8_t watched[] = {DUTY, MONITOR_RECORD(MONITOR_DUTY, 1, 1), MONITOR_RECORD(MONITOR_REPAIR, 0, 0), REPEAT};
 static const uint8_t trace[] = {MONITOR_PERIOD(1, 1), MONITOR_PERIOD(0, 0), MONITOR_PERIOD(2, 0), MONITOR_PERIOD(1, 1)};
 
+/* The macros' bytes, also where a mask has a high byte. */
+static void records(void)
+{
+    static const uint8_t made[] = {MONITOR_RECORD(MONITOR_STAR, 2, 15), MONITOR_PERIOD(0x8001, 0x1234)};
+    static const uint8_t meant[] = {0x54, 0x43, 23, 2, 15, 0, 0x54, 0x50, 0x01, 0x80, 0x34, 0x12};
+
+    check("the macros' bytes", sizeof made == sizeof meant && memcmp(made, meant, sizeof meant) == 0);
+}
+
 static const char *name(uint32_t verdict)
 {
     static const char *const names[] = {"open", "met", "broken", "met-after", "broken-after"};
@@ -264,6 +273,7 @@ int main(void)
     fill(&state, 0, 0);
     fill(&period, 0, 0);
     fill(&reply, 0, 0);
+    records();
     watch();
     refusals();
     buffers();

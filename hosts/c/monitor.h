@@ -58,17 +58,17 @@ enum {
 enum {
     MONITOR_ACCEPTED = 0,
     MONITOR_BAD_LENGTH = 1,     /* contract empty, no multiple of 6 bytes, or over 64 records; place: 0 */
-    MONITOR_BAD_MARK = 2,       /* place in 2 to 5 and 7: the first record at fault */
-    MONITOR_UNKNOWN_KIND = 3,
-    MONITOR_BAD_FIELD = 4,      /* out of range, or unused and not 0 */
-    MONITOR_BAD_OPERANDS = 5,   /* missing, or of the wrong sort */
-    MONITOR_NOT_ONE_CLAUSE = 6, /* at the end; place: the record count */
-    MONITOR_EMPTY_LIST = 7,     /* held by an expression under when or until */
+    MONITOR_BAD_MARK = 2,       /* a contract record without its mark; place in 2 to 5 and 7: the first record at fault */
+    MONITOR_UNKNOWN_KIND = 3,   /* a kind that isn't in the list above */
+    MONITOR_BAD_FIELD = 4,      /* a field out of range, or unused and not 0 */
+    MONITOR_BAD_OPERANDS = 5,   /* operands missing, or of the wrong sort */
+    MONITOR_NOT_ONE_CLAUSE = 6, /* at the end not just one clause; place: the record count */
+    MONITOR_EMPTY_LIST = 7,     /* the expression under a when or until holds the empty list */
     MONITOR_SHORT_BUFFER = 8,   /* image buffer under MONITOR_BUFFER_BYTES(records); place: 0 */
-    MONITOR_BAD_IMAGE = 9,      /* place: the first bad row, the row count for the end record, 0 for a wrong length */
-    MONITOR_BAD_STATE = 10,     /* place: 0 */
-    MONITOR_BAD_PERIOD = 11,    /* place: the first record of wrong mark, 0 for a wrong length */
-    MONITOR_FULL_COUNT = 12     /* place: the first record too many */
+    MONITOR_BAD_IMAGE = 9,      /* its length, place: 0; a row, place: the first bad one; the end record, place: the row count */
+    MONITOR_BAD_STATE = 10,     /* length not MONITOR_STATE_BYTES(rows), or (step, run) not a sound state; place: 0 */
+    MONITOR_BAD_PERIOD = 11,    /* a wrong length, place: 0; a record without its mark, place: the first one */
+    MONITOR_FULL_COUNT = 12     /* periods taken would pass 4,294,967,295; place: the first record too many */
 };
 
 /* Verdict numbers. */
@@ -106,7 +106,7 @@ struct monitor_reply {
     uint32_t decision;          /* the decision period, 0 for none */
 };
 
-/* Each call takes areas that don't overlap, as pointer and length in bytes. */
+/* Each call takes areas that don't overlap, as pointer (not NULL) and length in bytes. */
 /* The result is 1, or 0 where the reply area is too short: then nothing is written. */
 /* A refusal writes the reply alone. Calls keep nothing between them, so different states may be stepped in different threads. */
 

@@ -1,16 +1,14 @@
 //! Links the monitor's two archives, which `rt staticlib compiler` and `rt staticlib runner` write.
 
 use std::env;
+use std::fs;
 use std::path::PathBuf;
 
 fn main() {
     println!("cargo:rerun-if-env-changed=MONITOR_ARCHIVES");
-    let archives = match env::var_os("MONITOR_ARCHIVES") {
-        Some(folder) => PathBuf::from(folder),
-        None => {
-            PathBuf::from(env::var_os("CARGO_MANIFEST_DIR").unwrap()).join("../../target/staticlib")
-        }
-    };
+    // A relative folder starts at this crate's, where this program is run; the linker wants it whole.
+    let named = env::var_os("MONITOR_ARCHIVES").unwrap_or_else(|| "../../target/staticlib".into());
+    let archives = fs::canonicalize(&named).unwrap_or_else(|_| PathBuf::from(named));
     for name in ["compiler", "runner"] {
         let archive = archives.join(format!("lib{name}.a"));
         println!("cargo:rerun-if-changed={}", archive.display());

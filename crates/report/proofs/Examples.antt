@@ -14,6 +14,7 @@ use Rattle.report.specs.Texts.{digits, decimal, periodLine, decidedLine,
 use Rattle.report.specs.Split.{firstPeriod, contractLength}
 use Rattle.report.specs.Reports.{meantLine, periodLines, lines, onTrace, report}
 use Rattle.report.specs.Examples.{ReportVectors}
+use Rattle.report.proofs.Reports.{longer}
 
 pub report-vectors : ReportVectors
 unfolding
@@ -30,6 +31,7 @@ report-vectors =
       never-decided = refl;
       cut-record = refl;
       cut-contract = refl;
+      too-long = λ input h. longer input h;
       bad-mark = refl;
       contract-first = refl;
     }

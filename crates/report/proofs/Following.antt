@@ -27,7 +27,7 @@ use Rattle.contract.specs.Reader.{taken, read}
 use Rattle.contract.proofs.Reader.{taken-spells}
 use Rattle.contract.proofs.Meaning.{within, within-period}
 use Rattle.compiler.specs.Monitors.{callTest, accepts, periodsAfter, meantReply, AnswersCalls, Monitors}
-use Rattle.report.specs.declared.Seen.{Seen}
+use Rattle.report.specs.declared.Stepped.{Stepped}
 use Rattle.report.specs.Limits.{lineBytes, mostPeriods}
 use Rattle.report.specs.Texts.{periodLine, decidedLine, Puts}
 use Rattle.report.specs.Reports.{meantLine, periodLines, lines}
@@ -37,12 +37,12 @@ use Rattle.report.proofs.Texts.{puts-both, short-period, short-decided}
 -- ---- a step's reply
 
 -- what a step on a part of the trace leaves, the part being its record k
-pub stepped : (image state trace : List ℕ) (k : ℕ) (result : ℕ) (later reply : List ℕ)
+pub stepped-on : (image state trace : List ℕ) (k : ℕ) (result : ℕ) (later reply : List ℕ)
     → Gives (step image state (take (periodBytes * k + periodBytes - periodBytes * k) (drop (periodBytes * k) trace)) (replicate stepReplyBytes 0)) result later reply
-    → (s : Seen) → HoldsField reply 4 4 (s .verdict) → HoldsField reply 16 4 (s .blame) → HoldsField reply 20 4 (s .decision)
+    → (s : Stepped) → HoldsField reply 4 4 (s .verdict) → HoldsField reply 16 4 (s .blame) → HoldsField reply 20 4 (s .decision)
     → Stepping image state trace k later s
 unfolding recordAt
-stepped image state trace k result later reply g s v b d =
+stepped-on image state trace k result later reply g s v b d =
     let e : periodBytes * k + periodBytes - periodBytes * k ≡ periodBytes = omega arith in
     let h = rw e at g in
     record {
@@ -69,7 +69,7 @@ small-blame (violated k bothParties) = omega arith
 
 -- ---- a step on record k, from a state that follows the clause after the k records before it
 
-module _ (c : Clause) (image state trace : List ℕ) (k : ℕ) (later : List ℕ) (s : Seen)
+module _ (c : Clause) (image state trace : List ℕ) (k : ℕ) (later : List ℕ) (s : Stepped)
     (f : Follows c image state (periodsOf trace k)) (h : periodBytes * k + periodBytes ≤ length trace) (m : markedAt trace k ≡ true)
     (few : k < mostPeriods) (g : Stepping image state trace k later s) where
   abbrev before : List Period
@@ -141,7 +141,7 @@ module _ (c : Clause) (image trace text₀ state : List ℕ) where
       record { follows = f; puts = record { text-is = refl; end-is = refl; fits = omega arith }; decides = omega arith }
 
   -- one period more
-  pub held-next : (k : ℕ) (text later last : List ℕ) (at r decision : ℕ) (s : Seen)
+  pub held-next : (k : ℕ) (text later last : List ℕ) (at r decision : ℕ) (s : Stepped)
       → Held c image trace text₀ k state text at decision → periodBytes * k + periodBytes ≤ length trace → markedAt trace k ≡ true → k < mostPeriods
       → Stepping image state trace k later s
       → ((v : Verdict) → s .verdict ≡ verdictNumber v → Puts text at (periodLine (k + 1) v (s .blame)) last r)
@@ -170,7 +170,7 @@ module _ {image state₀ trace text₀ : List ℕ} {n : ℕ} (a : Listing image 
 
   module _ (k : ℕ) (state text : List ℕ) (at decision : ℕ) (h : (c : Clause) → Follows c image state₀ [] → Held c image trace text₀ k state text at decision) where
     -- a step on record k
-    module _ (i : k < n) (later : List ℕ) (s : Seen) (g : Stepping image state trace k later s) where
+    module _ (i : k < n) (later : List ℕ) (s : Stepped) (g : Stepping image state trace k later s) where
       here : Held (a .clause) image trace text₀ k state text at decision
       here = h (a .clause) (a .follows)
 

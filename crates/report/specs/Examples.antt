@@ -1,9 +1,11 @@
 -- Vectors of the report: document 01's example of "Watch", and its edges.
-use Prim.Native.Nat.{ℕ}
+use Prim.Native.Nat.{ℕ, _<_}
 use mathlib.Core.List.{List, [], _∷_, _++_}
 use mathlib.Core.Path.{_≡_}
+use lib.ListN.{length}
 use Rattle.records.specs.Marks.{contractMark, periodMark}
 use Rattle.compiler.specs.Examples.{watchedBytes, dutyBytes}
+use Rattle.report.specs.Limits.{inputBytes}
 use Rattle.report.specs.Texts.{ascii}
 use Rattle.report.specs.Reports.{report}
 
@@ -27,6 +29,8 @@ pub record ReportVectors : Type 0 where
   -- a cut record after a whole one belongs to the trace, without a whole one to the contract
   pub cut-record : report (dutyBytes ++ periodRecord 1 1 ++ periodMark) ≡ ascii "refused 11 0\n"
   pub cut-contract : report (dutyBytes ++ periodMark) ≡ ascii "refused 1 0\n"
+  -- whatever the bytes are
+  pub too-long : (input : List ℕ) → inputBytes < length input → report input ≡ ascii "refused 13 0\n"
   -- a wrong mark in the trace, and compile's refusal before it
   pub bad-mark : report (dutyBytes ++ periodRecord 1 1 ++ periodRecord 1 1 ++ dutyBytes) ≡ ascii "refused 11 2\n"
   pub contract-first : report (dutyBytes ++ dutyBytes ++ periodRecord 1 1 ++ dutyBytes) ≡ ascii "refused 6 2\n"

@@ -1,5 +1,6 @@
 -- How much `watch` reads, and how much it prints at most. Document 01, "Watch", and "Replies that refuse", 13.
-use Prim.Native.Nat.{ℕ, _+_, _*_}
+use Prim.Native.Nat.{ℕ, _+_, _*_, _/_}
+use Rattle.records.specs.Limits.{periodBytes}
 
 -- "reads standard input up to 65,520 bytes"
 abbrev pub inputBytes : ℕ
@@ -11,7 +12,7 @@ tooLong = 13
 
 -- the most period records of an input
 abbrev pub mostPeriods : ℕ
-mostPeriods = 10920
+mostPeriods = inputBytes / periodBytes
 
 -- the most bytes of a verdict's name
 abbrev pub nameBytes : ℕ

@@ -17,7 +17,7 @@ use Rattle.contract.specs.Meaning.{Clause, EmptyFree}
 use Rattle.contract.specs.Reader.{taken, read}
 use Rattle.compiler.specs.Calls.{compileReplyBytes, Compiles}
 use Rattle.compiler.specs.Monitors.{AnswersCalls, Monitors}
-use Rattle.report.specs.declared.Seen.{Seen}
+use Rattle.report.specs.declared.Stepped.{Stepped}
 use Rattle.report.specs.declared.Compiled.{Compiled}
 use Rattle.report.specs.Limits.{inputBytes, lineBytes, mostPeriods, textBytes}
 use Rattle.report.specs.Texts.{Puts}
@@ -33,7 +33,7 @@ pub record Compiling (contract buffer later : List ℕ) (r : Compiled) : Type 0 
   pub place-is : r .place ≡ field reply 8 8
 
 -- what a step on record k of a trace leaves where its reply is read from an area of zeros
-pub record Stepping (image state trace : List ℕ) (k : ℕ) (later : List ℕ) (r : Seen) : Type 0 where
+pub record Stepping (image state trace : List ℕ) (k : ℕ) (later : List ℕ) (r : Stepped) : Type 0 where
   pub state-is : later ≡ step image state (recordAt trace k) (replicate stepReplyBytes 0) .state
   pub verdict-is : r .verdict ≡ field (step image state (recordAt trace k) (replicate stepReplyBytes 0) .reply) 4 4
   pub blame-is : r .blame ≡ field (step image state (recordAt trace k) (replicate stepReplyBytes 0) .reply) 16 4

@@ -20,14 +20,17 @@ use runner::Test;
 pub const INPUT_BYTES: usize = 65520;
 
 // The refusal of a longer one.
-const TOO_LONG: u32 = 13;
+const TOO_LONG: u64 = 13;
 
 // The image buffer for a contract of 64 records, a state for as many rows as an image can have, and room for a line for each period and one more.
-pub const IMAGE_BYTES: usize = 16904;
+pub const IMAGE_BYTES: usize = runner::ROW_BYTES * (runner::MAX_ROWS + 1);
 
-pub const STATE_BYTES: usize = 2122;
+pub const STATE_BYTES: usize = runner::HEAD_BYTES + runner::MAX_ROWS;
 
-pub const TEXT_BYTES: usize = 229341;
+pub const TEXT_BYTES: usize = LINE_BYTES * (INPUT_BYTES / records::PERIOD_BYTES + 1);
+
+// The most bytes of a line.
+const LINE_BYTES: usize = 21;
 
 // ---- texts
 
@@ -130,7 +133,7 @@ fn first_period(input: &[u8], n: usize) -> usize
 }
 
 // How many bytes of the input are the contract; the rest is the trace.
-pub fn contract_length(input: &[u8]) -> usize
+fn contract_length(input: &[u8]) -> usize
     ensures { λ r. ⌜ r ≡ contractLength (now (input .entry)) ⌝ }
 {
     let n = runner::record_count(input);
@@ -161,14 +164,14 @@ fn compile(contract: &[u8], image: &mut [u8]) -> Compiled
     }
 }
 
-pub struct Seen {
+pub struct Stepped {
     pub verdict: u32,
     pub blame: u32,
     pub decision: u32,
 }
 
 // A step on record k of a trace.
-fn step(image: &[u8], state: &mut [u8], trace: &[u8], k: usize) -> Seen
+fn step(image: &[u8], state: &mut [u8], trace: &[u8], k: usize) -> Stepped
     requires { ⌜ periodBytes * k + periodBytes ≤ length (now trace) ⌝ }
     ensures { λ r. ⌜ Stepping (now (image .entry)) (now (state .entry)) (now (trace .entry)) k (now (state .exit)) r ⌝ }
 {
@@ -180,7 +183,7 @@ fn step(image: &[u8], state: &mut [u8], trace: &[u8], k: usize) -> Seen
         &trace[from..from + records::PERIOD_BYTES],
         &mut reply,
     );
-    Seen {
+    Stepped {
         verdict: records::get4(&reply, 4),
         blame: records::get4(&reply, 16),
         decision: records::get4(&reply, 20),
@@ -216,7 +219,7 @@ fn follow(image: &[u8], state: &mut [u8], trace: &[u8], text: &mut [u8]) -> usiz
     put_lines(image, state, trace, runner::record_count(trace), text)
 }
 
-// Puts the report of an input of at most so many bytes.
+// Puts the report of an input of at most INPUT_BYTES.
 fn put_parts(input: &[u8], image: &mut [u8], state: &mut [u8], text: &mut [u8]) -> usize
     requires { ⌜ length (now input) ≤ inputBytes ⌝ }
     requires { ⌜ length (now image) ≡ bufferBytes maxRecords ⌝ }
@@ -256,7 +259,7 @@ pub fn put_report(
     ensures { λ r. ⌜ Puts (now (text .entry)) 0 (report (now (input .entry))) (now (text .exit)) r ⌝ }
 {
     if input.len() > INPUT_BYTES {
-        return put_refused(text, TOO_LONG as u64, 0);
+        return put_refused(text, TOO_LONG, 0);
     }
     put_parts(input, image, state, text)
 }

@@ -27,10 +27,10 @@ pub fn check(case: &Case, tally: &mut Tally) -> Result<(), Difference> {
             };
             check_again(&lent, &image, &mut random)?;
             let state = random.bytes(10 + image.len() / 8 - 1);
-            Session::new(&image, &state, Some(clause), random).check(&case.calls, tally)
+            Calls::new(&image, &state, Some(clause), random).check(&case.calls, tally)
         }
         Start::Image { bytes, state } => {
-            Session::new(bytes, state, None, random).check(&case.calls, tally)
+            Calls::new(bytes, state, None, random).check(&case.calls, tally)
         }
     }
 }
@@ -129,7 +129,7 @@ fn check_again(contract: &Lent, first: &[u8], random: &mut Random) -> Result<(),
 }
 
 /// Calls on one image and one state.
-struct Session {
+struct Calls {
     image: Lent,
     state: Lent,
     /// The contract's clause, if the image is compile's.
@@ -139,9 +139,9 @@ struct Session {
     random: Random,
 }
 
-impl Session {
-    fn new(image: &[u8], state: &[u8], clause: Option<Rc<Clause>>, mut random: Random) -> Session {
-        Session {
+impl Calls {
+    fn new(image: &[u8], state: &[u8], clause: Option<Rc<Clause>>, mut random: Random) -> Calls {
+        Calls {
             image: Lent::new("image", image, &mut random),
             state: Lent::new("state", state, &mut random),
             clause,
@@ -296,12 +296,112 @@ impl Session {
         for record in trace.chunks(RECORD_BYTES) {
             product::step(self.image.product(), &mut state, record, &mut last);
         }
+        let same = |what, steps: &[u8], run: &[u8]| {
+            Difference::unless_same(call, what, &steps, &run)
+                .map_err(|difference| difference.between(&["steps", "run"]))
+        };
         let what = "the state after a run and after its steps";
-        Difference::unless_same(call, what, &state.as_slice(), &self.state.product())?;
+        same(what, &state, self.state.product())?;
         if trace.is_empty() {
             return Ok(());
         }
         let what = "the reply of a run and of its last step";
-        Difference::unless_same(call, what, &last.as_slice(), &&reply[..LONG_REPLY])
+        same(what, &last, &reply[..LONG_REPLY])
+    }
+}
+
+#[cfg(test)]
+mod tests {
+    use super::*;
+    use reference::contract::read;
+
+    /// A duty and a ban, both of party 1 on action 0.
+    const DUTY: [u8; 6] = [0x54, 0x43, 1, 1, 0, 0];
+    const BAN: [u8; 6] = [0x54, 0x43, 2, 1, 0, 0];
+    /// A period without attempts: it breaks the duty and meets the ban.
+    const QUIET: [u8; 6] = [0x54, 0x50, 0, 0, 0, 0];
+
+    fn image_of(contract: &[u8]) -> Vec<u8> {
+        let mut random = Random::new(1);
+        let contract = Lent::new("contract", contract, &mut random);
+        let buffer = least_buffer(1);
+        check_compile(&contract, buffer, 16, &mut random, &mut Tally::default())
+            .unwrap()
+            .expect("the contract is taken")
+            .1
+    }
+
+    /// Calls on the duty's image, to be compared with what this contract means.
+    fn calls(meaning: &[u8]) -> Calls {
+        let image = image_of(&DUTY);
+        let state = vec![0; 10 + image.len() / 8 - 1];
+        let clause = read(meaning).expect("the contract is taken");
+        Calls::new(&image, &state, Some(clause), Random::new(1))
+    }
+
+    #[test]
+    fn another_meaning_is_a_difference() {
+        let step = Call::Step {
+            period: QUIET.to_vec(),
+            reply: 24,
+        };
+        let run = Call::Run {
+            trace: [QUIET, QUIET].concat(),
+            reply: 24,
+        };
+        let tally = &mut Tally::default();
+        for call in [step, run] {
+            let list = [Call::Begin { reply: 16 }, call];
+            calls(&DUTY).check(&list, tally).unwrap();
+            let difference = calls(&BAN).check(&list, tally).unwrap_err();
+            assert!(difference.to_string().contains("the contract's verdict"));
+        }
+    }
+
+    #[test]
+    fn another_state_is_a_difference() {
+        let tally = &mut Tally::default();
+        let mut calls = calls(&DUTY);
+        calls.begin("begin", 16, tally).unwrap();
+        calls.state.product_mut()[0] ^= 1;
+        assert!(calls.step("step", &QUIET, 24, tally).is_err());
+    }
+
+    #[test]
+    fn a_run_unlike_its_steps_is_a_difference() {
+        let tally = &mut Tally::default();
+        let mut calls = calls(&DUTY);
+        calls.begin("begin", 16, tally).unwrap();
+        let before = calls.state.product().to_vec();
+        calls.step("step", &QUIET, 24, tally).unwrap();
+        let mut reply = [0; LONG_REPLY];
+        product::step(
+            calls.image.product(),
+            &mut before.clone(),
+            &QUIET,
+            &mut reply,
+        );
+        let same =
+            |trace: &[u8], reply: &[u8]| calls.same_as_steps("run", before.clone(), trace, reply);
+        same(&QUIET, &reply).unwrap();
+        assert!(same(&[], &reply).is_err(), "another state");
+        reply[4] ^= 1;
+        assert!(same(&QUIET, &reply).is_err(), "another reply");
+    }
+
+    #[test]
+    fn another_image_is_a_difference() {
+        let random = &mut Random::new(1);
+        let contract = Lent::new("contract", &DUTY, random);
+        let image = image_of(&DUTY);
+        check_again(&contract, &image, random).unwrap();
+        assert!(check_again(&contract, &image_of(&BAN), random).is_err());
+
+        let rows = image.len() / 8 - 1;
+        let buffer = |image: &[u8]| Lent::new("image buffer", image, &mut Random::new(1));
+        assert!(picked(&buffer(&image), rows, 1).is_ok());
+        assert!(picked(&buffer(&image), 0, 1).is_err());
+        assert!(picked(&buffer(&image), most_rows(1) + 1, 1).is_err());
+        assert!(picked(&buffer(&vec![0; image.len()]), rows, 1).is_err());
     }
 }

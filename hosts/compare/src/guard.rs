@@ -77,11 +77,43 @@ impl Lent {
             format!("guard bytes of the {}", self.name)
         };
         let (first, last) = (first.min(self.from), last.max(self.to - 1).max(first));
-        Err(Difference {
-            call: call.to_string(),
-            what,
-            expected: hex(&self.reference[first..=last]),
-            came: hex(&self.product[first..=last]),
-        })
+        Err(Difference::new(
+            call,
+            &what,
+            hex(&self.reference[first..=last]),
+            hex(&self.product[first..=last]),
+        ))
+    }
+}
+
+#[cfg(test)]
+mod tests {
+    use super::*;
+
+    /// What is printed after a change of the product's byte at that place from the area's start.
+    fn changed(length: usize, place: isize) -> String {
+        let mut lent = Lent::random("reply area", length, &mut Random::new(1));
+        assert!(lent.compare("step").is_ok());
+        let at = lent.from.checked_add_signed(place).expect("a guard byte");
+        lent.product[at] ^= 1;
+        lent.compare("step").unwrap_err().to_string()
+    }
+
+    #[test]
+    fn a_changed_byte_inside_is_a_difference() {
+        for place in [0, 7, 23] {
+            let what = format!("bytes {place} to {place} of the reply area");
+            assert!(changed(24, place).contains(&what));
+        }
+    }
+
+    #[test]
+    fn a_changed_guard_byte_is_a_difference() {
+        for length in [0, 24] {
+            let (first, after) = (-(GUARD as isize), length as isize);
+            for place in [first, -1, after, after + GUARD as isize - 1] {
+                assert!(changed(length, place).contains("guard bytes of the reply area"));
+            }
+        }
     }
 }

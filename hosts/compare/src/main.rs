@@ -1,8 +1,9 @@
 //! Compares the monitor with the reference on random inputs.
 //!
-//! `compare [--cases N] [--seed S] [--watch PATH] [--watch-cases M]`: case number i is that of the
-//! seed S + i, so `compare --seed S --cases 1` repeats one case, and
-//! `compare --seed S --cases 0 --watch PATH --watch-cases 1` one input of `watch`.
+//! `compare [--cases N] [--seed S] [--watch PATH] [--watch-cases M] [--small R]`: case number i is
+//! that of the seed S + i, so `compare --seed S --cases 1` repeats one case, and
+//! `compare --seed S --cases 0 --watch PATH --watch-cases 1` one input of `watch`. With `--small R`
+//! every contract of at most R records on one action is compared too.
 
 #![forbid(unsafe_code)]
 
@@ -14,6 +15,7 @@ mod images;
 mod random;
 mod report;
 mod shrink;
+mod small;
 mod traces;
 mod watch;
 
@@ -23,13 +25,15 @@ use std::env;
 use std::path::{Path, PathBuf};
 use std::process::ExitCode;
 
-const USAGE: &str = "usage: compare [--cases N] [--seed S] [--watch PATH] [--watch-cases M]";
+const USAGE: &str =
+    "usage: compare [--cases N] [--seed S] [--watch PATH] [--watch-cases M] [--small R]";
 
 struct Options {
     cases: u64,
     seed: u64,
     watch: Option<PathBuf>,
     watch_cases: u64,
+    small: usize,
 }
 
 fn options() -> Option<Options> {
@@ -38,6 +42,7 @@ fn options() -> Option<Options> {
         seed: 1,
         watch: None,
         watch_cases: 1000,
+        small: 0,
     };
     let mut words = env::args().skip(1);
     while let Some(word) = words.next() {
@@ -47,6 +52,7 @@ fn options() -> Option<Options> {
             "--seed" => options.seed = value.parse().ok()?,
             "--watch" => options.watch = Some(value.into()),
             "--watch-cases" => options.watch_cases = value.parse().ok()?,
+            "--small" => options.small = value.parse().ok()?,
             _ => return None,
         }
     }
@@ -121,6 +127,9 @@ fn main() -> ExitCode {
         }
     }
     summary.print();
+    if options.small > 0 && !small::compare(options.small) {
+        return ExitCode::FAILURE;
+    }
     println!("compared {} cases, no difference", options.cases + watched);
     ExitCode::SUCCESS
 }

@@ -4,26 +4,30 @@ use crate::cases::{Call, Case, Start, FAMILIES};
 use reference::contract::KINDS;
 use reference::{Decision, Monitor};
 use std::collections::BTreeMap;
-use std::fmt::Debug;
+use std::fmt::{self, Debug, Display, Formatter};
 
 /// A first difference between the product and the reference.
 #[derive(Clone, Debug)]
 pub struct Difference {
-    pub call: String,
-    pub what: String,
-    pub expected: String,
-    pub came: String,
+    call: String,
+    what: String,
+    labels: &'static [&'static str; 2],
+    sides: [String; 2],
 }
 
 impl Difference {
     pub fn new(call: &str, what: &str, expected: String, came: impl ToString) -> Difference {
-        let (call, what) = (call.to_string(), what.to_string());
         Difference {
-            call,
-            what,
-            expected,
-            came: came.to_string(),
+            call: call.to_string(),
+            what: what.to_string(),
+            labels: &["expected", "came"],
+            sides: [expected, came.to_string()],
         }
+    }
+
+    /// The same difference with other labels of its two sides.
+    pub fn between(self, labels: &'static [&'static str; 2]) -> Difference {
+        Difference { labels, ..self }
     }
 
     /// That two values are the same.
@@ -45,9 +49,17 @@ impl Difference {
     }
 
     pub fn print(&self) {
-        println!("difference at {}: {}", self.call, self.what);
-        println!("  expected {}", self.expected);
-        println!("  came     {}", self.came);
+        println!("{self}");
+    }
+}
+
+impl Display for Difference {
+    fn fmt(&self, to: &mut Formatter) -> fmt::Result {
+        write!(to, "difference at {}: {}", self.call, self.what)?;
+        for (label, side) in self.labels.iter().zip(&self.sides) {
+            write!(to, "\n  {label:8} {side}")?;
+        }
+        Ok(())
     }
 }
 
@@ -254,5 +266,24 @@ impl Summary {
         if self.watch.cases > 0 {
             self.watch.print("watch");
         }
+    }
+}
+
+#[cfg(test)]
+mod tests {
+    use super::*;
+
+    #[test]
+    fn different_values_are_a_difference() {
+        assert!(Difference::unless_same("step", "the result", &1, &1).is_ok());
+        let difference = Difference::unless_same("step", "the result", &1, &0).unwrap_err();
+        assert_eq!(
+            difference.to_string(),
+            "difference at step: the result\n  expected 1\n  came     0"
+        );
+        assert_eq!(
+            difference.between(&["steps", "run"]).to_string(),
+            "difference at step: the result\n  steps    1\n  run      0"
+        );
     }
 }

@@ -317,3 +317,67 @@ fn zero_bytes(s: &mut Shrinker<Case>) {
         }
     }
 }
+
+#[cfg(test)]
+mod tests {
+    use super::*;
+    use crate::cases::Family;
+    use crate::watch::input_of_seed;
+
+    /// A large random case that differs, made smaller.
+    fn smaller(differs: fn(&Case) -> bool) -> Case {
+        let found = (1..)
+            .map(Case::of_seed)
+            .find(|case| case.calls.len() > 10 && differs(case))
+            .expect("such a case is drawn");
+        let smaller = case(found, &mut |case| differs(case));
+        assert!(differs(&smaller));
+        smaller
+    }
+
+    #[test]
+    fn a_contract_and_a_trace_get_small() {
+        let mut smaller = smaller(|case| {
+            let repair = |record: &[u8]| record[2] == 6;
+            let long = |call: &Call| matches!(call, Call::Run { trace, .. } if trace.len() >= 12);
+            matches!(&case.start, Start::Contract { bytes, .. }
+                if bytes.chunks_exact(6).any(repair))
+                && case.calls.iter().any(long)
+        });
+        assert_eq!(smaller.calls.len(), 1);
+        let lists = byte_lists(&mut smaller);
+        assert_eq!(lists, [&[0, 0, 6, 0, 0, 0][..], &[0; 12]]);
+    }
+
+    #[test]
+    fn an_image_and_a_state_get_small() {
+        let mut smaller = smaller(|case| {
+            let both = |row: &[u8]| row[1..3] == [0x52, 4];
+            let step = |call: &Call| matches!(call, Call::Step { .. });
+            matches!(&case.start, Start::Image { bytes, state }
+                if bytes.chunks_exact(ROW).any(both) && state.len() >= 3)
+                && case.family == Family::Images
+                && case.calls.iter().any(step)
+        });
+        assert_eq!(smaller.calls.len(), 1);
+        // The row of the image and its end.
+        let image = [[0, 0x52, 4, 0, 0, 0, 0, 0], [0; ROW]].concat();
+        let lists = byte_lists(&mut smaller);
+        assert_eq!(lists[..2], [&image[..], &[0; 3]]);
+    }
+
+    #[test]
+    fn an_input_gets_small() {
+        let period = [0x54, 0x50, 0, 0, 0, 0];
+        let differs = |input: &Vec<u8>| {
+            let records = input.chunks_exact(6);
+            records.filter(|record| record[..2] == period[..2]).count() >= 2
+        };
+        let found = (1..)
+            .map(input_of_seed)
+            .find(|input| (300..3000).contains(&input.len()) && differs(input))
+            .expect("such an input is drawn");
+        let smaller = input(found, &mut |input| differs(input));
+        assert_eq!(smaller, [period, period].concat());
+    }
+}

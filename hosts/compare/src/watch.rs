@@ -8,7 +8,7 @@ use reference::contract::read;
 use reference::watch::watch;
 use std::io::{self, Write};
 use std::path::Path;
-use std::process::{Command, Stdio};
+use std::process::{Command, Output, Stdio};
 use std::thread;
 
 /// The input of that number.
@@ -92,11 +92,12 @@ fn with_bad_trace(random: &mut Random) -> Vec<u8> {
     input
 }
 
-/// What the program prints for an input.
-fn printed(program: &Path, input: &[u8]) -> io::Result<Vec<u8>> {
+/// How the program ends on an input, and what it prints.
+fn output(program: &Path, input: &[u8]) -> io::Result<Output> {
     let mut child = Command::new(program)
         .stdin(Stdio::piped())
         .stdout(Stdio::piped())
+        .stderr(Stdio::piped())
         .spawn()?;
     let mut standard_input = child.stdin.take().expect("standard input is a pipe");
     let input = input.to_vec();
@@ -107,17 +108,33 @@ fn printed(program: &Path, input: &[u8]) -> io::Result<Vec<u8>> {
     });
     let output = child.wait_with_output()?;
     writer.join().expect("the writer ends")?;
-    Ok(output.stdout)
+    Ok(output)
 }
 
 /// Runs the program on an input; an error is a difference.
 pub fn check(program: &Path, input: &[u8], tally: &mut Tally) -> Result<(), Difference> {
     let expected = watch(input);
-    let came = match printed(program, input) {
+    let came = match output(program, input) {
         Ok(came) => came,
         Err(error) => return Err(Difference::new("watch", "its start", "a run".into(), error)),
     };
     tally_text(&expected, tally);
+    compare(&expected, &came)
+}
+
+/// That the program ended well, with nothing on standard error, and printed that text.
+fn compare(expected: &str, came: &Output) -> Result<(), Difference> {
+    if !came.status.success() {
+        return Err(Difference::new(
+            "watch",
+            "its end",
+            "success".into(),
+            came.status,
+        ));
+    }
+    let error = String::from_utf8_lossy(&came.stderr);
+    Difference::unless_same("watch", "standard error", &"", &error.as_ref())?;
+    let came = came.stdout.as_slice();
     if came == expected.as_bytes() {
         return Ok(());
     }
@@ -141,7 +158,7 @@ pub fn check(program: &Path, input: &[u8], tally: &mut Tally) -> Result<(), Diff
         "watch",
         &what,
         part(expected.as_bytes()),
-        part(&came),
+        part(came),
     ))
 }
 
@@ -163,6 +180,43 @@ fn tally_text(text: &str, tally: &mut Tally) {
             Some("met-after") => tally.verdict(3),
             Some("broken-after") => tally.verdict(4),
             _ => {}
+        }
+    }
+}
+
+#[cfg(test)]
+mod tests {
+    use super::*;
+    use std::os::unix::process::ExitStatusExt;
+    use std::process::ExitStatus;
+
+    /// Whether this end and these texts differ where "decided 0" is to be printed.
+    fn differs(status: i32, stdout: &str, stderr: &str) -> bool {
+        let came = Output {
+            status: ExitStatus::from_raw(status),
+            stdout: stdout.into(),
+            stderr: stderr.into(),
+        };
+        compare("decided 0\n", &came).is_err()
+    }
+
+    #[test]
+    fn another_end_or_text_is_a_difference() {
+        assert!(!differs(0, "decided 0\n", ""));
+        assert!(differs(0x100, "decided 0\n", ""), "exit status 1");
+        assert!(differs(11, "decided 0\n", ""), "signal 11");
+        assert!(differs(0, "decided 0\n", "watch: no\n"));
+        for text in ["", "decided 0", "decided 1\n", "decided 0\n\n"] {
+            assert!(differs(0, text, ""), "{text:?}");
+        }
+    }
+
+    #[test]
+    fn another_program_is_a_difference() {
+        let input = good(&mut Random::new(1));
+        for program in ["/bin/cat", "/bin/false", "/bin/no such program"] {
+            let checked = check(Path::new(program), &input, &mut Tally::default());
+            assert!(checked.is_err(), "{program}");
         }
     }
 }

@@ -8,9 +8,6 @@ use Rattle.report.proofs.Reports.{longer, no-longer}
 use Rattle.report.proofs.put_report.Statement.{statement}
 use Rattle.report.proofs.put_report.Tie as tie
 
-cast-put-refused : tie.Need-cast-put-refused
-cast-put-refused c = search needs
-
 put-refused-requires : tie.Need-put-refused-requires
 put-refused-requires c κs = omega (arith, short-refused 13 0 (lit< tt) (lit< tt))
 
@@ -25,4 +22,4 @@ returns-2 c = rw (no-longer _ (c .before .before .before .before .if1 .left)) (c
 
 pub put-report-spec : {M : Type 1} → statement M
 put-report-spec =
-    tie.close (tie.spec cast-put-refused put-refused-requires returns put-parts-requires returns-2)
+    tie.close (tie.spec put-refused-requires returns put-parts-requires returns-2)

@@ -1,6 +1,6 @@
 -- `report::step` meets its contract: the part of the trace is its record k, and the fields are read from the reply.
 -- Assumes nothing.
-use Rattle.report.proofs.Following.{stepped}
+use Rattle.report.proofs.Following.{stepped-on}
 use borrow.Author.Needs.{needs}
 use Rattle.report.proofs.step.Statement.{statement}
 use Rattle.report.proofs.step.Tie as tie
@@ -50,7 +50,7 @@ same-length c = search needs
 returns : tie.Need-returns
 returns c =
     let m = c .before .before .before .before .before .before .before .before .before .monitor-step in
-    stepped _ _ _ _ _ _ _ (m .ensures) _ (c .before .before .before .before .get4 .ensures) (c .before .before .get42 .ensures) (c .get43 .ensures)
+    stepped-on _ _ _ _ _ _ _ (m .ensures) _ (c .before .before .before .before .get4 .ensures) (c .before .before .get42 .ensures) (c .get43 .ensures)
 
 pub step-spec : {M : Type 1} → statement M
 step-spec =

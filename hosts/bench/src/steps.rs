@@ -1,0 +1,74 @@
+//! Section 3: a call of `step` for each period against one call of `run`.
+
+use crate::contracts;
+use crate::inputs::{self, Random};
+use crate::product::{self, Answer, PERIOD};
+use crate::timing::{nanoseconds, Plan};
+
+pub fn measure(plan: &Plan) {
+    plan.say(
+        "\n3. `step` for each period against one `run`: nanoseconds for each period\n   \
+         No trace decides. Step checks image, state and record at each call. The ratio is that of\n   \
+         `step` to `run`.\n",
+    );
+    line(plan, ["image", "rows", "run", "step", "ratio"]);
+    let random = &mut Random::new();
+    for contract in [
+        contracts::repeated_duty(),
+        contracts::repaired_duty(),
+        contracts::duty_and_ban(),
+        contracts::repairs(),
+        contracts::long_expression(),
+    ] {
+        let periods = plan.size(100_000 / contract.records, 30);
+        let trace = inputs::open(random, &contract.clause(), contract.kept, periods);
+        let name = format!("{} records, {}", contract.records, contract.name);
+        measure_image(plan, &name, &product::image_of(&contract.bytes), &trace);
+    }
+    let mixed = inputs::mixed_image(random, 2112);
+    let trace = inputs::any(random, plan.size(1_000, 30));
+    measure_image(plan, "mixed rows by hand", &mixed, &trace);
+}
+
+fn measure_image(plan: &Plan, name: &str, image: &[u8], trace: &[u8]) {
+    let (mut ran, mut stepped) = (product::begin(image), product::begin(image));
+    let (mut at_once, mut at_last) = (Answer::default(), Answer::default());
+    let times = plan.measure(&mut [
+        Box::new(|| {
+            ran.fill(0);
+            nanoseconds(|| at_once = product::run(image, &mut ran, trace))
+        }),
+        Box::new(|| {
+            stepped.fill(0);
+            nanoseconds(|| at_last = by_steps(image, &mut stepped, trace))
+        }),
+    ]);
+    assert_eq!(at_once, at_last, "{name}: step replies otherwise");
+    assert!(ran == stepped, "{name}: step leaves another state");
+    let periods = trace.len() / PERIOD;
+    line(
+        plan,
+        [
+            name,
+            &product::rows_of(image).to_string(),
+            &times[0].per(periods),
+            &times[1].per(periods),
+            &times[1].ratio(&times[0]),
+        ],
+    );
+}
+
+/// The answer of the last step.
+pub fn by_steps(image: &[u8], state: &mut [u8], trace: &[u8]) -> Answer {
+    let mut last = Answer::default();
+    for record in trace.chunks_exact(PERIOD) {
+        last = product::step(image, state, record);
+    }
+    last
+}
+
+fn line(plan: &Plan, [name, rows, run, step, ratio]: [&str; 5]) {
+    plan.say(&format!(
+        "   {name:<32}{rows:>6}{run:>17}{step:>17}{ratio:>13}"
+    ));
+}

@@ -1,0 +1,154 @@
+//! Every small contract, on every short list of periods, through the Rust wrapper.
+
+use monitor::{Image, Monitor, Period};
+use reference::{contract, Decision};
+
+/// How long the lists are: after the decision only one period more is looked at.
+const PERIODS: usize = 4;
+
+/// A contract record of action 0.
+fn record(kind: u8, party: u8) -> Vec<u8> {
+    vec![0x54, 0x43, kind, party, 0, 0]
+}
+
+/// All records of these kinds, each with both parties.
+fn of_parties(kinds: &[u8]) -> Vec<Vec<u8>> {
+    let each = |kind: &u8| [record(*kind, 1), record(*kind, 2)];
+    kinds.iter().flat_map(each).collect()
+}
+
+/// What of each sort can be spelled with so many records.
+struct Spelled {
+    clauses: Vec<Vec<u8>>,
+    expressions: Vec<Vec<u8>>,
+}
+
+fn one_record() -> Spelled {
+    let mut expressions = of_parties(&[17, 18]);
+    expressions.extend([16, 19, 20].map(|kind| record(kind, 0)));
+    Spelled {
+        clauses: of_parties(&[1, 2, 3]),
+        expressions,
+    }
+}
+
+/// Both operands and the operator, for each pair.
+fn join(left: &[Vec<u8>], right: &[Vec<u8>], kind: u8, to: &mut Vec<Vec<u8>>) {
+    for one in left {
+        for two in right {
+            to.push([one.as_slice(), two, &record(kind, 0)].concat());
+        }
+    }
+}
+
+/// Of one record more than `shorter` has entries, `shorter[n]` having n + 1 records.
+fn one_more(shorter: &[Spelled]) -> Spelled {
+    let mut clauses = Vec::new();
+    let mut expressions = Vec::new();
+    if let Some(last) = shorter.last() {
+        join(&last.clauses, &[vec![]], 7, &mut clauses);
+        join(&last.expressions, &[vec![]], 23, &mut expressions);
+    }
+    for (left, right) in shorter.iter().zip(shorter.iter().rev().skip(1)) {
+        for kind in [4, 5, 6] {
+            join(&left.clauses, &right.clauses, kind, &mut clauses);
+        }
+        join(&left.expressions, &right.clauses, 8, &mut clauses);
+        join(&left.clauses, &right.expressions, 9, &mut clauses);
+        for kind in [21, 22] {
+            join(
+                &left.expressions,
+                &right.expressions,
+                kind,
+                &mut expressions,
+            );
+        }
+    }
+    Spelled {
+        clauses,
+        expressions,
+    }
+}
+
+/// Follows every list of `left` periods more, and counts the steps.
+fn follow(
+    product: &Monitor,
+    meant: &reference::Monitor,
+    left: usize,
+    steps: &mut u64,
+) -> Result<(), String> {
+    if left == 0 {
+        return Ok(());
+    }
+    for (one, two) in [(0, 0), (0, 1), (1, 0), (1, 1)] {
+        let (mut product, mut meant) = (product.clone(), meant.clone());
+        meant.step(one, two);
+        let came = product.step(Period::from_masks(one, two));
+        *steps += 1;
+        let expected = (
+            meant.verdict().number(),
+            u32::from(meant.blame()),
+            meant.decision_period() as u32,
+        );
+        let same = came.is_ok_and(|reply| {
+            let decision = reply.decision.map_or(0, |period| period.get());
+            (reply.verdict.number(), reply.blame.number(), decision) == expected
+        });
+        let period = format!("{one}/{two}");
+        if !same {
+            return Err(format!("{period}: expected {expected:?}, came {came:?}"));
+        }
+        let left = match meant.decision() {
+            Decision::Undecided => left - 1,
+            _ => (left - 1).min(1),
+        };
+        follow(&product, &meant, left, steps).map_err(|rest| format!("{period} {rest}"))?;
+    }
+    Ok(())
+}
+
+/// Compares one contract.
+fn check(bytes: &[u8], steps: &mut u64) -> Result<(), String> {
+    match (contract::read(bytes), Image::compile(bytes)) {
+        (Ok(clause), Ok(image)) => {
+            let meant = reference::Monitor::new(&clause);
+            follow(&Monitor::begin(&image), &meant, PERIODS, steps)
+        }
+        (Err(expected), Err(came))
+            if (u64::from(expected.number), expected.place)
+                == (u64::from(came.fault.number()), came.place) =>
+        {
+            Ok(())
+        }
+        (expected, came) => Err(format!(
+            "expected {:?}, came {:?}",
+            expected.map(|_| "taken"),
+            came.map(|_| "taken")
+        )),
+    }
+}
+
+/// Compares every contract of at most so many records; false after a difference, which is printed.
+pub fn compare(records: usize) -> bool {
+    let mut spelled = Vec::new();
+    let (mut contracts, mut steps) = (0, 0);
+    for n in 1..=records {
+        let next = if n == 1 {
+            one_record()
+        } else {
+            one_more(&spelled)
+        };
+        for bytes in &next.clauses {
+            contracts += 1;
+            if let Err(difference) = check(bytes, &mut steps) {
+                println!("contract {bytes:02x?}: {difference}");
+                return false;
+            }
+        }
+        spelled.push(next);
+    }
+    println!(
+        "every contract of at most {records} records on one action: {contracts}, {steps} steps"
+    );
+    true
+}
