@@ -39,6 +39,7 @@ fn inputs(plan: &Plan) -> Vec<Input> {
         image: lone,
     }];
     for contract in [
+        contracts::repeated_duty(),
         contracts::repaired_duty(),
         contracts::duty_and_ban(),
         contracts::repairs(),
