@@ -7,6 +7,7 @@ pub mod RowKinds
 pub mod Machine
 pub mod Computing
 pub mod Calls
+pub mod Settling
 pub mod Steps
 pub mod StepCalls
 pub mod Runs

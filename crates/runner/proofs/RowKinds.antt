@@ -1,16 +1,15 @@
--- The rows that a kind and its fields make, and how their values are read from packed row values.
+-- The rows that a kind and its fields make, and how their values are read from row values where the first k rows have new ones.
 -- Assumes nothing.
 use Prim.Native.Nat.{ℕ, zero, suc, _+_, _-_, _*_, _/_, _%_, _≤_, _<_}
-use native.Mathlib.Nat.{mod-lt}
 use native.Mathlib.Omega.{arith}
-use mathlib.Core.Bool.{Bool, true, false, not, _&&_, cond, and-eq-true-iff, false≢true}
-use mathlib.Core.List.{List}
+use mathlib.Core.Bool.{Bool, true, false, not, _&&_, cond, false≢true}
+use mathlib.Core.List.{List, [], _∷_, map}
 use mathlib.Core.Option.{Option, none, some, Option·getD}
 use mathlib.Core.Logic.{⊎-elim}
 use mathlib.Core.Path.{_≡_, refl, sym, ap, _∙_}
 use borrow.Author.Tests.{lt-ltb, ltb-true, eqb-true}
 use lib.Bits.{bitAnd, bitOr}
-use lib.Dec.{eqb, ltb, lit<}
+use lib.Dec.{eqb, ltb}
 use lib.ListN.{length, getD, List·getD-map}
 use mir.Val.{boolByte}
 use Rattle.records.specs.Limits.{actions}
@@ -24,12 +23,12 @@ use Rattle.runner.specs.States.{allAtMost}
 use Rattle.runner.specs.Machine.{byteOf, isTrue, value}
 use Rattle.runner.specs.declared.Test.the-variants.{Passed}
 use Rattle.runner.specs.Refusals.{imageTest}
-use Rattle.runner.specs.Computing.{oldIn, newIn, KindRow}
+use Rattle.runner.specs.Computing.{firstBits, valuesIn, oldIn, KindRow}
 use Rattle.records.proofs.Numbers.{lt-or-le}
 use Rattle.runner.proofs.Rows.{good-other}
 use Rattle.runner.proofs.Images.{passed-good, good-row}
 use Rattle.runner.proofs.States.{allAtMost-at}
-use Rattle.runner.proofs.Computing.{byteOf-bool, second-bit, second-and, second-or, byteOf-not}
+use Rattle.runner.proofs.Computing.{byteOf-bool, byteOf-not, byte-of, first-bit, first-byte, first-and, first-or, both-below}
 
 -- r is what bytes hold, and names rows below k, or below n in kind 6
 pub record Is (k n : ℕ) (o : Option Row) (r : Row) : Type 0 where
@@ -93,85 +92,79 @@ pub kind-6 : (k n kind x y : ℕ) → 5 < kind → goodRow k n (rowOf kind x y) 
 kind-6 k n kind x y h g =
     ⊎-elim (λ l. absurd (false≢true (sym (good-other k n x y kind l) ∙ g))) (λ l. omega arith) (lt-or-le 6 kind)
 
--- ---- what packed row values hold
+-- ---- what row values hold where the first k rows have new ones
 
-byte-of : (v : ℕ) → v ≤ 1 → v ≡ byteOf (isTrue v)
-byte-of zero h = refl
-byte-of (suc zero) h = refl
-byte-of (suc (suc v)) h = absurd (omega arith)
+value-at : (l : List ℕ) (x : ℕ) → getD (valuesIn l) x false ≡ isTrue (getD l x 0 % 2)
+unfolding valuesIn firstBits
+value-at l x = List·getD-map isTrue (map (λ (v : ℕ). v % 2) l) x 0 ∙ ap isTrue (List·getD-map (λ (v : ℕ). v % 2) l x 0)
+
+below : (k : ℕ) (l : List ℕ) (x : ℕ) → x < k → getD (oldIn k l) x false ≡ isTrue (getD l x 0 / 2)
+unfolding oldIn valuesIn firstBits
+below zero l x h = absurd (omega arith)
+below (suc k) [] x h = refl
+below (suc k) (v ∷ l) zero h = refl
+below (suc k) (v ∷ l) (suc x) h = below k l x (omega arith)
+
+above : (k : ℕ) (l : List ℕ) (x : ℕ) → k ≤ x → getD (oldIn k l) x false ≡ isTrue (getD l x 0 % 2)
+unfolding oldIn valuesIn firstBits
+above zero l x h = value-at l x
+above (suc k) [] x h = refl
+above (suc k) (v ∷ l) zero h = absurd (omega arith)
+above (suc k) (v ∷ l) (suc x) h = above k l x (omega arith)
+
+module _ (k : ℕ) (values : List ℕ) (x : ℕ) where
+  pub old-below : allAtMost 3 values ≡ true → x < k → getD values x 0 / 2 ≡ byteOf (getD (oldIn k values) x false)
+  old-below s i =
+      let h : getD values x 0 ≤ 3 = allAtMost-at 3 values s x in
+      rw (below k values x i) (byte-of (getD values x 0 / 2) (omega arith))
+
+  pub old-above : k ≤ x → getD values x 0 % 2 ≡ byteOf (getD (oldIn k values) x false)
+  old-above i = rw (above k values x i) (first-byte (getD values x 0))
+
+pub new-first : (values : List ℕ) (x : ℕ) → bitAnd (getD values x 0) 1 ≡ byteOf (getD (valuesIn values) x false)
+new-first values x = rw (first-bit (getD values x 0), value-at values x) (first-byte (getD values x 0))
 
 -- an old value that is false in period 1
 fresh-value : (first o : Bool) → (first ≡ true → o ≡ false) → byteOf o ≡ byteOf (not first && o)
 fresh-value true o h = ap byteOf (h refl)
 fresh-value false o h = refl
 
-module _ (values : List ℕ) (x : ℕ) where
-  pub old-value : getD values x 0 % 2 ≡ byteOf (getD (oldIn values) x false)
-  unfolding oldIn
-  old-value =
-      let h : getD values x 0 % 2 < 2 = mod-lt (getD values x 0) (lit< tt) in
-      rw (List·getD-map (λ (v : ℕ). isTrue (v % 2)) values x 0) (byte-of (getD values x 0 % 2) (omega arith))
+-- ---- a row's value, by its kind
 
-  pub new-value : allAtMost 3 values ≡ true → getD values x 0 / 2 ≡ byteOf (getD (newIn values) x false)
-  unfolding newIn
-  new-value s =
-      let h : getD values x 0 ≤ 3 = allAtMost-at 3 values s x in
-      rw (List·getD-map (λ (v : ℕ). isTrue (v / 2)) values x 0) (byte-of (getD values x 0 / 2) (omega arith))
-
--- ---- the rows that a good row names
-
-pub both-below : (n x y : ℕ) → (ltb x n && ltb y n) ≡ true → (x < n) × (y < n)
-both-below n x y h =
-    let b = and-eq-true-iff (ltb x n) (ltb y n) .0 h in
-    (ltb-true x n (b .0), ltb-true y n (b .1))
-
--- ---- a row's value, by its kind, in the second bit
-
-module _ (values : List ℕ) (x : ℕ) (s : allAtMost 3 values ≡ true) where
-  -- the new value beside the old one
-  pub new-second : bitAnd (getD values x 0) 2 ≡ 2 * byteOf (getD (newIn values) x false)
-  new-second =
-      let o = getD (oldIn values) x false in
-      let v = getD (newIn values) x false in
-      let e : getD values x 0 ≡ byteOf o + 2 * byteOf v = omega (arith, old-value values x, new-value values x s) in
-      rw e (second-bit o v)
-
-module _ (values : List ℕ) (x y : ℕ) (first : Bool) (p : Period) where
+module _ (k : ℕ) (values : List ℕ) (x y : ℕ) (first : Bool) (p : Period) where
   abbrev the : ℕ → ℕ
-  the kind = 2 * byteOf (value first p (oldIn values) (newIn values) (Option·getD (rowOf kind x y) never))
+  the kind = byteOf (value first p (oldIn k values) (valuesIn values) (Option·getD (rowOf kind x y) never))
 
-  pub value-0 : KindRow values 0 x y first → 0 ≡ the 0
+  pub value-0 : KindRow k values 0 x y first → 0 ≡ the 0
   value-0 h = rw (row-0 (length values) (length values) x y (h .good) .row)
 
-  pub value-1 : KindRow values 1 x y first → 2 * boolByte first ≡ the 1
+  pub value-1 : KindRow k values 1 x y first → boolByte first ≡ the 1
   value-1 h = rw (row-1 (length values) (length values) x y (h .good) .row, byteOf-bool first)
 
-  pub value-2 : KindRow values 2 x y first → (r : Bool) → ((q : Party) → x ≡ number q → r ≡ tries p q y) → 2 * boolByte r ≡ the 2
+  pub value-2 : KindRow k values 2 x y first → (r : Bool) → ((q : Party) → x ≡ number q → r ≡ tries p q y) → boolByte r ≡ the 2
   value-2 h r e =
       let g = row-2 (length values) (length values) x y (h .good) in
       rw (g .row, e (g .party) (g .is-party), byteOf-bool (tries p (g .party) y))
 
-  pub value-3 : KindRow values 3 x y first → 2 - bitAnd (getD values x 0) 2 ≡ the 3
+  pub value-3 : KindRow k values 3 x y first → 1 - bitAnd (getD values x 0) 1 ≡ the 3
   value-3 h =
-      let b = getD (newIn values) x false in
-      rw (row-3 (length values) (length values) x y (h .good) .row, new-second values x (h .bytes-of-two .small)) (omega (arith, byteOf-not b))
+      let b = getD (valuesIn values) x false in
+      rw (row-3 (length values) (length values) x y (h .good) .row, new-first values x) (omega (arith, byteOf-not b))
 
-  pub value-4 : KindRow values 4 x y first → bitAnd (bitAnd (getD values x 0) 2) (bitAnd (getD values y 0) 2) ≡ the 4
+  pub value-4 : KindRow k values 4 x y first → bitAnd (bitAnd (getD values x 0) 1) (bitAnd (getD values y 0) 1) ≡ the 4
   value-4 h =
-      let s = h .bytes-of-two .small in
-      rw (row-4 (length values) (length values) x y (h .good) .row, new-second values x s, new-second values y s)
-      (second-and (getD (newIn values) x false) (getD (newIn values) y false))
+      rw (row-4 (length values) (length values) x y (h .good) .row, new-first values x, new-first values y)
+      (first-and (getD (valuesIn values) x false) (getD (valuesIn values) y false))
 
-  pub value-5 : KindRow values 5 x y first → bitOr (bitAnd (getD values x 0) 2) (bitAnd (getD values y 0) 2) ≡ the 5
+  pub value-5 : KindRow k values 5 x y first → bitOr (bitAnd (getD values x 0) 1) (bitAnd (getD values y 0) 1) ≡ the 5
   value-5 h =
-      let s = h .bytes-of-two .small in
-      rw (row-5 (length values) (length values) x y (h .good) .row, new-second values x s, new-second values y s)
-      (second-or (getD (newIn values) x false) (getD (newIn values) y false))
+      rw (row-5 (length values) (length values) x y (h .good) .row, new-first values x, new-first values y)
+      (first-or (getD (valuesIn values) x false) (getD (valuesIn values) y false))
 
-  pub value-6 : KindRow values 6 x y first → 2 * (getD values x 0 % 2) ≡ the 6
-  value-6 h =
-      rw (row-6 (length values) (length values) x y (h .good) .row, old-value values x)
-      (ap (λ (n : ℕ). 2 * n) (fresh-value first (getD (oldIn values) x false) (λ e. h .bytes-of-two .fresh e x)))
+  pub value-6 : KindRow k values 6 x y first → (r : ℕ) → r ≡ byteOf (getD (oldIn k values) x false) → r ≡ the 6
+  value-6 h r e =
+      e ∙ rw (row-6 (length values) (length values) x y (h .good) .row)
+      (fresh-value first (getD (oldIn k values) x false) (λ q. h .bytes-of-two .fresh q x))
 
 -- ---- the rows of a good image
 

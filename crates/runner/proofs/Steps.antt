@@ -1,16 +1,15 @@
 -- What the code of a period leaves in a sound state's bytes is what the row machine says.
 -- Assumes nothing.
 use Prim.Native.Nat.{ℕ, zero, suc, _+_, _-_, _%_, _≤_, _<_}
-use native.Mathlib.Nat.{le-refl}
 use native.Mathlib.Numerals.{add-one}
 use native.Mathlib.Omega.{arith}
 use mathlib.Core.Bool.{Bool, true, false, _||_, cond, and-eq-true-iff}
-use mathlib.Core.List.{List, [], _∷_, _++_, map, append-nil}
+use mathlib.Core.List.{List, [], _∷_, _++_, map}
 use mathlib.Core.Path.{_≡_, refl, sym, ap, _∙_}
 use borrow.Author.Tests.{eqb-true, ltb-false}
 use borrow.Rule.Slice.PartMut.{putMid}
 use lib.Dec.{eqb, ltb}
-use lib.ListN.{length, getD, take, drop, length-append, length-drop, List·getD-map, drop-of-length-le}
+use lib.ListN.{length, getD, take, drop, length-append, length-drop, length-map, List·getD-map}
 use lib.Seq.{sets, getD-drop}
 use Rattle.records.specs.Limits.{periodBytes}
 use Rattle.records.specs.Fields.{AllBytes, bytes, field}
@@ -23,29 +22,17 @@ use Rattle.runner.specs.Limits.{headBytes, maxPeriods}
 use Rattle.runner.specs.Images.{Image, rowCount, imageOf}
 use Rattle.runner.specs.States.{State, stateOf, stateBytes, allAtMost, sound}
 use Rattle.runner.specs.Machine.{byteOf, isTrue, valuesAfter, outcomeOf, blameOf, computed, counted, afterPeriod, afterPeriods}
-use Rattle.runner.specs.Refusals.{require, firstOf, imageTest, stateTest, firstFailing, recordCount, markedAt, marksTest, recordTest, traceTest, countTest, readyTest, stepTest, runTest}
+use Rattle.runner.specs.Refusals.{require, firstOf, firstFailing, recordCount, markedAt, marksTest, recordTest, traceTest, countTest, readyTest, stepTest, runTest}
 use Rattle.runner.specs.Calls.{periodsOf}
-use Rattle.runner.specs.Computing.{soundHead, newBits, RowValues, withDecision, decidedBytes, Answering, Ready}
+use Rattle.runner.specs.Computing.{soundHead, firstBits, valuesIn, settled, packed, newBits, RowValues, withDecision, decidedBytes, Answering, Ready, Working, Advanced}
 use Rattle.runner.proofs.Refusals.{all-passed, first-passed, require-passed, period-refused, count-refused, state-passed, ready-passed}
 use Rattle.runner.proofs.Images.{length-rowsOf}
-use Rattle.runner.proofs.States.{Sound, sound-facts, sound-split, stateBytes-stateOf, read-back, sound-passes, part-rest, length-stateBytes}
-use Rattle.runner.proofs.Machine.{isTrue-byteOf, after-undecided, after-decided, sound-afterPeriods, periods-afterPeriods}
-
--- ---- a state that passed its test
-
-pub state-sound : (n : ℕ) (l : List ℕ) → stateTest n l ≡ Passed → Sound n (stateOf l)
-unfolding stateOf
-state-sound n l h =
-    let b = state-passed n l h in
-    sound-facts n (stateOf l) (b .1) (length-drop headBytes l ∙ rw (b .0) (omega arith))
+use Rattle.runner.proofs.States.{Sound, sound-split, stateBytes-stateOf, read-back, sound-passes, part-rest, length-stateBytes}
+use Rattle.runner.proofs.Settling.{length-firstBits, length-settled, put-rest, state-sound, plain, settled-bytes, settled-state}
+use Rattle.runner.proofs.Computing.{firstBits-packed, packed-small}
+use Rattle.runner.proofs.Machine.{isTrue-byteOf, length-valuesAfter, after-undecided, after-decided, sound-afterPeriods, periods-afterPeriods}
 
 -- ---- writes to a state's bytes
-
--- a part up to the end, put back
-put-rest : (n : ℕ) (l vs : List ℕ) → putMid n (length l - n) l vs ≡ take n l ++ vs
-put-rest n l vs =
-    ap (λ (r : List ℕ). take n l ++ (vs ++ r)) (drop-of-length-le (drop n l) {i = length l - n} (simp length-drop (le-refl (length l - n))))
-    ∙ ap (λ (r : List ℕ). take n l ++ r) (append-nil vs)
 
 module _ (s : State) where
   put-periods : (n : ℕ) → sets (stateBytes s) 2 (bytes 4 n)
@@ -67,77 +54,127 @@ module _ (s : State) where
   unfolding stateBytes bytes withDecision
   put-decision sat v1 v2 n = refl
 
-  -- what the rows S, V1 and V2 decide, the row values being in the state
-  put-decided : (m : Image) (new : List Bool) → s .values ≡ map byteOf new → decidedBytes m (s .periods) (stateBytes s)
+  -- what the rows S, V1 and V2 decide, the row values being in the first bits of the state's
+  put-decided : (m : Image) (new : List Bool) → firstBits (s .values) ≡ map byteOf new → decidedBytes m (s .periods) (stateBytes s)
       ≡ stateBytes (record {
         outcome = outcomeOf (getD new (m .S) false) (getD new (m .V1) false) (getD new (m .V2) false);
         blame = blameOf (getD new (m .V1) false) (getD new (m .V2) false);
         periods = s .periods;
         decision = cond (getD new (m .S) false || getD new (m .V1) false || getD new (m .V2) false) (s .periods) 0;
-        values = map byteOf new;
+        values = s .values;
       })
-  unfolding decidedBytes
+  unfolding decidedBytes firstBits
   put-decided m new e =
-      let at : (j : ℕ) → isTrue (getD (stateBytes s) (headBytes + j) 0) ≡ getD new j false =
-      λ j. ap isTrue (sym (getD-drop headBytes (stateBytes s) j 0) ∙ ap (λ (l : List ℕ). getD l j 0) (drop-head ∙ e) ∙ List·getD-map byteOf new j false)
-      ∙ isTrue-byteOf (getD new j false) in
-      rw (at (m .S), at (m .V1), at (m .V2), put-decision (getD new (m .S) false) (getD new (m .V1) false) (getD new (m .V2) false) (s .periods), e)
+      let bit : (j : ℕ) → getD (stateBytes s) (headBytes + j) 0 % 2 ≡ getD (firstBits (s .values)) j 0 =
+      λ j. ap (λ (v : ℕ). v % 2) (sym (getD-drop headBytes (stateBytes s) j 0) ∙ ap (λ (l : List ℕ). getD l j 0) drop-head)
+      ∙ sym (List·getD-map (λ (v : ℕ). v % 2) (s .values) j 0) in
+      let at : (j : ℕ) → isTrue (getD (stateBytes s) (headBytes + j) 0 % 2) ≡ getD new j false =
+      λ j. ap isTrue (bit j ∙ ap (λ (l : List ℕ). getD l j 0) e ∙ List·getD-map byteOf new j false) ∙ isTrue-byteOf (getD new j false) in
+      rw (at (m .S), at (m .V1), at (m .V2)) (put-decision (getD new (m .S) false) (getD new (m .V1) false) (getD new (m .V2) false) (s .periods))
 
 -- ---- a period
+
+pub length-rows : (image : List ℕ) → length (imageOf image .rows) ≡ rowCount image
+unfolding imageOf
+length-rows image = length-rowsOf image (rowCount image)
 
 new-bits : (image : List ℕ) (p : Period) (s : State) → newBits image p (eqb (s .periods) 0) (s .values) ≡ valuesAfter (imageOf image) p s
 unfolding newBits valuesAfter imageOf
 new-bits image p s = rw length-rowsOf
 
-module _ (image l : List ℕ) (h : imageTest image ≡ Passed) (k : stateTest (rowCount image) l ≡ Passed) (n : ℕ) where
-  -- the bytes with the count raised
-  abbrev raised : List ℕ
-  raised = sets l 2 (bytes 4 n)
+length-valuesIn : (l : List ℕ) → length (valuesIn l) ≡ length l
+unfolding valuesIn
+length-valuesIn l = length-map (firstBits l) isTrue ∙ length-firstBits l
 
-  pub raised-outcome : getD raised 0 0 ≡ stateOf l .outcome
+module _ (image l : List ℕ) (w : Working image l 1) where
+  pub working-long : length l ≡ headBytes + rowCount image
+  working-long = sym (length-settled l) ∙ state-passed (rowCount image) (settled l) (w .ready .sound) .0
+
+  pub working-state : stateOf (settled l) ≡ plain (stateOf l)
+  working-state = settled-state l (rw working-long (omega arith))
+
+  room : stateOf l .periods + 1 ≤ maxPeriods
+  room = rw working-state at (w .ready .room)
+
+  pub working-room : field l 2 4 + 1 ≤ maxPeriods
   unfolding stateOf
-  raised-outcome = getD-before l 2 (bytes 4 n) 0 0 (omega arith)
+  working-room = room
 
-  pub raised-values : take (length raised - headBytes) (drop headBytes raised) ≡ stateOf l .values
-  unfolding stateOf
-  raised-values =
-      part-rest headBytes raised ∙ drop-after l 2 (bytes 4 n) headBytes (rw length-bytes (omega arith))
+  module _ (n : ℕ) where
+    -- the bytes with the count raised, and the rows' part of them
+    abbrev raised : List ℕ
+    raised = sets l 2 (bytes 4 n)
 
-  pub row-values : RowValues image (take (length raised - headBytes) (drop headBytes raised)) (eqb (stateOf l .periods) 0)
-  row-values =
-      let s = stateOf l in
-      record {
-        good = h;
-        long = ap length raised-values ∙ state-sound (rowCount image) l k .long;
-        small = rw raised-values (and-eq-true-iff (soundHead (s .outcome) (s .blame) (s .periods) (s .decision))
-            (allAtMost (cond (eqb (s .periods) 0) 0 1) (s .values)) .0 (sym (sound-split s) ∙ state-passed (rowCount image) l k .1) .1);
-      }
+    abbrev rows : List ℕ
+    rows = take (length raised - headBytes) (drop headBytes raised)
 
-  module _ (a : AllBytes l) where
-    whole : stateBytes (stateOf l) ≡ l
-    whole = stateBytes-stateOf l a (rw (state-passed (rowCount image) l k .0) (omega arith))
+    pub raised-outcome : getD raised 0 0 ≡ stateOf l .outcome
+    unfolding stateOf
+    raised-outcome = getD-before l 2 (bytes 4 n) 0 0 (omega arith)
 
-    counts : n ≡ stateOf l .periods + 1 → raised ≡ stateBytes (counted (stateOf l))
-    unfolding counted
-    counts e =
-        let m = stateOf l .periods + 1 in
-        rw e (ap (λ (b : List ℕ). sets b 2 (bytes 4 m)) (sym whole) ∙ put-periods (stateOf l) m)
+    raised-rest : drop headBytes raised ≡ drop headBytes l
+    raised-rest = drop-after l 2 (bytes 4 n) headBytes (rw length-bytes (omega arith))
 
-    pub period-counted : n ≡ stateOf l .periods + 1 → ¬ (stateOf l .outcome ≡ 0) → (p : Period)
-        → raised ≡ stateBytes (afterPeriod (imageOf image) p (stateOf l))
-    period-counted e d p = rw (after-decided (imageOf image) p (stateOf l) d) (counts e)
+    raised-values : rows ≡ stateOf l .values
+    unfolding stateOf
+    raised-values = part-rest headBytes raised ∙ raised-rest
 
-    pub period-computed : n ≡ stateOf l .periods + 1 → stateOf l .outcome ≡ 0 → (p : Period) (vs : List ℕ)
-        → vs ≡ map byteOf (newBits image p (eqb (stateOf l .periods) 0) (take (length raised - headBytes) (drop headBytes raised)))
-        → decidedBytes (imageOf image) n (putMid headBytes (length raised - headBytes) raised vs) ≡ stateBytes (afterPeriod (imageOf image) p (stateOf l))
-    unfolding computed counted
-    period-computed e o p vs v =
-        let s = stateOf l in
-        let new = valuesAfter (imageOf image) p s in
-        let w : vs ≡ map byteOf new = v ∙ rw raised-values (ap (map byteOf) (new-bits image p s)) in
-        rw (after-undecided (imageOf image) p s o, put-rest headBytes raised vs, counts e, put-values (counted s) vs, e)
-        (put-decided (record { outcome = s .outcome; blame = s .blame; periods = s .periods + 1; decision = s .decision; values = vs })
-        (imageOf image) new w)
+    long-values : length (stateOf l .values) ≡ rowCount image
+    unfolding stateOf
+    long-values = length-drop headBytes l ∙ rw working-long (omega arith)
+
+    small-values : allAtMost 3 (stateOf l .values) ≡ true
+    unfolding stateOf
+    small-values = w .small
+
+    pub row-values : RowValues image rows (eqb (stateOf l .periods) 0)
+    row-values =
+        let s = plain (stateOf l) in
+        let t : sound s ≡ true = rw working-state at (state-passed (rowCount image) (settled l) (w .ready .sound) .1) in
+        record {
+          good = w .ready .good;
+          long = ap length raised-values ∙ long-values;
+          small = rw raised-values small-values;
+          fresh = rw raised-values (and-eq-true-iff (soundHead (s .outcome) (s .blame) (s .periods) (s .decision))
+              (allAtMost (cond (eqb (s .periods) 0) 0 1) (s .values)) .0 (sym (sound-split s) ∙ t) .1);
+        }
+
+    module _ (a : AllBytes l) (e : n ≡ stateOf l .periods + 1) (p : Period) where
+      counts : raised ≡ stateBytes (counted (stateOf l))
+      unfolding counted
+      counts =
+          let m = stateOf l .periods + 1 in
+          rw e (ap (λ (b : List ℕ). sets b 2 (bytes 4 m)) (sym (stateBytes-stateOf l a (rw working-long (omega arith)))) ∙ put-periods (stateOf l) m)
+
+      pub period-counted : ¬ (stateOf l .outcome ≡ 0) → Advanced image l p raised
+      unfolding counted
+      period-counted d =
+          record {
+            is = rw (working-state, after-decided (imageOf image) p (plain (stateOf l)) d) (ap settled counts ∙ settled-bytes (counted (stateOf l)));
+            small = rw raised-rest (w .small);
+          }
+
+      pub period-computed : stateOf l .outcome ≡ 0 → (vs : List ℕ)
+          → vs ≡ packed (valuesIn rows) (newBits image p (eqb (stateOf l .periods) 0) (firstBits rows))
+          → Advanced image l p (decidedBytes (imageOf image) n (putMid headBytes (length raised - headBytes) raised vs))
+      unfolding computed counted
+      period-computed o vs v =
+          let s = stateOf l in
+          let m = imageOf image in
+          let old = valuesIn (s .values) in
+          let new = valuesAfter m p (plain s) in
+          let q : vs ≡ packed old new = v ∙ rw raised-values (ap (packed old) (new-bits image p (plain s))) in
+          let f : firstBits vs ≡ map byteOf new =
+          rw q (firstBits-packed old new (length-valuesAfter m p (plain s) ∙ length-rows image ∙ sym (length-valuesIn (s .values) ∙ long-values))) in
+          let t : State = record { outcome = s .outcome; blame = s .blame; periods = s .periods + 1; decision = s .decision; values = vs } in
+          let c = computed m new s in
+          let u : State = record { outcome = c .outcome; blame = c .blame; periods = c .periods; decision = c .decision; values = vs } in
+          let d : decidedBytes m n (putMid headBytes (length raised - headBytes) raised vs) ≡ stateBytes u =
+          rw (put-rest headBytes raised vs, counts, put-values (counted s) vs, e) (put-decided t m new f) in
+          record {
+            is = rw (working-state, after-undecided m p (plain s) o) (ap settled d ∙ settled-bytes u ∙ rw f refl);
+            small = rw (d, drop-head u, q) (packed-small old new);
+          }
 
 -- ---- a state that is ready for n periods
 
@@ -150,10 +187,6 @@ module _ (image l : List ℕ) (n : ℕ) (h : Ready image l n) where
   ready-room = h .room
 
 -- ---- the states that follow
-
-pub length-rows : (image : List ℕ) → length (imageOf image .rows) ≡ rowCount image
-unfolding imageOf
-length-rows image = length-rowsOf image (rowCount image)
 
 pub length-periodsOf : (trace : List ℕ) (n : ℕ) → length (periodsOf trace n) ≡ n
 unfolding periodsOf

@@ -1,9 +1,8 @@
 // The runner: begins a state for an image and takes periods, by the row machine. Document 01, "Image and row machine" and "Calls".
 ghost use mathlib.Core.Path.{_≡_};
-ghost use mathlib.Core.Bool.{_&&_, _||_};
-ghost use mathlib.Core.List.{map};
+ghost use mathlib.Core.Bool.{true, false, _&&_, _||_};
 ghost use mathlib.Core.Option.{Option·getD};
-ghost use Prim.Native.Nat.{ℕ, _+_, _*_, _/_, _^_, _<_, _≤_};
+ghost use Prim.Native.Nat.{_+_, _*_, _/_, _^_, _<_, _≤_};
 ghost use lib.ListN.{length, getD, replicate};
 ghost use lib.Seq.{sets};
 ghost use Rattle.records.specs.Limits.{actions, periodBytes};
@@ -14,10 +13,10 @@ ghost use Rattle.runner.specs.Limits.{rowBytes, headBytes};
 ghost use Rattle.runner.specs.Rows.{never, rowOf, goodRow};
 ghost use Rattle.runner.specs.Images.{rowCount, goodRowAt, goodEnd, imageOf};
 ghost use Rattle.runner.specs.States.{stateOf, stateBytes, allAtMost, sound};
-ghost use Rattle.runner.specs.Machine.{byteOf, isTrue, value, outcomeOf, blameOf, afterPeriod, afterPeriods, verdict};
+ghost use Rattle.runner.specs.Machine.{byteOf, value, outcomeOf, blameOf, afterPeriod, afterPeriods, verdict};
 ghost use Rattle.runner.specs.Refusals.{numberOf, placeOf, firstFailing, imageTest, stateTest, recordCount, markedAt, marksTest, recordTest, traceTest, countTest, beginTest, readyTest, stepTest, runTest};
 ghost use Rattle.runner.specs.Calls.{beginReply, stepReply, answer, beginReplyBytes, stepReplyBytes, Gives, begin, periodsOf, step, run};
-ghost use Rattle.runner.specs.Computing.{soundHead, packed, oldIn, newIn, newBits, KindRow, NextRow, RowValues, HasRows, withDecision, decidedBytes, Answering, Ready};
+ghost use Rattle.runner.specs.Computing.{soundHead, firstBits, valuesIn, settled, packed, oldIn, newBits, KindRow, NextRow, RowValues, HasRows, withDecision, decidedBytes, Answering, Ready, Working, Advanced};
 use records::Attempts;
 
 // The most rows of an image.
@@ -368,31 +367,40 @@ fn tried(a: Attempts, party: u32, action: u32) -> bool
     }
 }
 
-// The value of a row with this kind and these fields, as 0 or 2.
-fn kind_value(values: &[u8], kind: u8, x: u32, y: u32, a: Attempts, first: bool) -> u8
-    requires { ⌜ KindRow (now values) kind x y first ⌝ }
-    ensures { λ r. ⌜ r ≡ 2 * byteOf (value first (periodOf a) (oldIn (now (values .entry))) (newIn (now (values .entry))) (Option·getD (rowOf kind x y) never)) ⌝ }
+// What row x was in the period before, where the first k rows have new values.
+fn old_value(values: &[u8], k: usize, x: usize) -> u8
+    requires { ⌜ (x < length (now values)) × (allAtMost 3 (now values) ≡ true) ⌝ }
+    ensures { λ r. ⌜ r ≡ byteOf (getD (oldIn k (now (values .entry))) x false) ⌝ }
+{
+    if x < k { values[x] / 2 } else { values[x] % 2 }
+}
+
+// The value of row k with this kind and these fields, as 0 or 1.
+fn kind_value(values: &[u8], k: usize, kind: u8, x: u32, y: u32, a: Attempts, first: bool) -> u8
+    requires { ⌜ KindRow k (now values) kind x y first ⌝ }
+    ensures { λ r. ⌜ r ≡ byteOf (value first (periodOf a) (oldIn k (now (values .entry))) (valuesIn (now (values .entry))) (Option·getD (rowOf kind x y) never)) ⌝ }
 {
     match kind {
         0 => 0,
-        1 => 2 * (first as u8),
-        2 => 2 * (tried(a, x, y) as u8),
-        3 => 2 - (values[x as usize] & 2),
-        4 => (values[x as usize] & 2) & (values[y as usize] & 2),
-        5 => (values[x as usize] & 2) | (values[y as usize] & 2),
+        1 => first as u8,
+        2 => tried(a, x, y) as u8,
+        3 => 1 - (values[x as usize] & 1),
+        4 => (values[x as usize] & 1) & (values[y as usize] & 1),
+        5 => (values[x as usize] & 1) | (values[y as usize] & 1),
         // A good row has no kind above 6.
-        6..=255 => 2 * (values[x as usize] % 2),
+        6..=255 => old_value(values, k, x as usize),
     }
 }
 
-// Row k's value as 0 or 2. Of the row values, those of the lower rows hold old + 2 × new, the others old.
+// Row k's value as 0 or 1. Of the row values, those of the lower rows hold new + 2 × old, the others their value in the first bit.
 fn row_value(image: &[u8], values: &[u8], k: usize, a: Attempts, first: bool) -> u8
     requires { ⌜ NextRow (now image) (now values) k first ⌝ }
-    ensures { λ r. ⌜ r ≡ 2 * byteOf (value first (periodOf a) (oldIn (now (values .entry))) (newIn (now (values .entry))) (getD (imageOf (now (image .entry)) .rows) k never)) ⌝ }
+    ensures { λ r. ⌜ r ≡ byteOf (value first (periodOf a) (oldIn k (now (values .entry))) (valuesIn (now (values .entry))) (getD (imageOf (now (image .entry)) .rows) k never)) ⌝ }
 {
     let at = ROW_BYTES * k;
     kind_value(
         values,
+        k,
         image[at + 2],
         records::get2(image, at + 4),
         records::get2(image, at + 6),
@@ -404,33 +412,32 @@ fn row_value(image: &[u8], values: &[u8], k: usize, a: Attempts, first: bool) ->
 // Gives every row its new value, in order, beside the old one.
 fn compute(image: &[u8], values: &mut [u8], a: Attempts, first: bool)
     requires { ⌜ RowValues (now image) (now values) first ⌝ }
-    ensures { λ _. ⌜ now (values .exit) ≡ packed (map isTrue (now (values .entry))) (newBits (now (image .entry)) (periodOf a) first (now (values .entry))) ⌝ }
+    ensures { λ _. ⌜ now (values .exit) ≡ packed (valuesIn (now (values .entry))) (newBits (now (image .entry)) (periodOf a) first (firstBits (now (values .entry)))) ⌝ }
 {
     let mut k = 0;
     while k < values.len() {
-        values[k] = values[k] + row_value(image, values, k, a, first);
+        values[k] = 2 * (values[k] & 1) + row_value(image, values, k, a, first);
         k += 1;
     }
 }
 
-// Keeps the new values alone.
-fn keep_new(values: &mut [u8])
-    ensures { λ _. ⌜ now (values .exit) ≡ map (λ (v : ℕ). v / 2) (now (values .entry)) ⌝ }
+// Keeps the first bits alone.
+fn keep_first(values: &mut [u8])
+    ensures { λ _. ⌜ now (values .exit) ≡ firstBits (now (values .entry)) ⌝ }
 {
     let mut k = 0;
     while k < values.len() {
-        values[k] = values[k] / 2;
+        values[k] = values[k] % 2;
         k += 1;
     }
 }
 
-// Every row's value in a period: the rows' bytes hold those of the period before, and then those of this one.
-fn new_values(image: &[u8], values: &mut [u8], a: Attempts, first: bool)
-    requires { ⌜ RowValues (now image) (now values) first ⌝ }
-    ensures { λ _. ⌜ now (values .exit) ≡ map byteOf (newBits (now (image .entry)) (periodOf a) first (now (values .entry))) ⌝ }
+// Leaves each row's value alone in its byte.
+fn settle(state: &mut [u8])
+    requires { ⌜ headBytes ≤ length (now state) ⌝ }
+    ensures { λ _. ⌜ now (state .exit) ≡ settled (now (state .entry)) ⌝ }
 {
-    compute(image, values, a, first);
-    keep_new(values);
+    keep_first(&mut state[HEAD_BYTES..]);
 }
 
 // The outcome that the values of S, V1 and V2 give.
@@ -474,23 +481,32 @@ fn decide(image: &[u8], state: &mut [u8], period: u32)
     ensures { λ _. ⌜ now (state .exit) ≡ decidedBytes (imageOf (now (image .entry))) period (now (state .entry)) ⌝ }
 {
     let end = image.len() - ROW_BYTES;
-    let sat = state[HEAD_BYTES + records::get2(image, end + 2) as usize] == 1;
-    let v1 = state[HEAD_BYTES + records::get2(image, end + 4) as usize] == 1;
-    let v2 = state[HEAD_BYTES + records::get2(image, end + 6) as usize] == 1;
+    let sat = state[HEAD_BYTES + records::get2(image, end + 2) as usize] % 2 == 1;
+    let v1 = state[HEAD_BYTES + records::get2(image, end + 4) as usize] % 2 == 1;
+    let v2 = state[HEAD_BYTES + records::get2(image, end + 6) as usize] % 2 == 1;
     put_decision(state, sat, v1, v2, period);
 }
 
-// One period: the row machine on both parties' attempts.
-fn take_period(image: &[u8], state: &mut [u8], a: Attempts)
-    requires { ⌜ Ready (now image) (now state) 1 ⌝ }
-    ensures { λ _. ⌜ now (state .exit) ≡ stateBytes (afterPeriod (imageOf (now (image .entry))) (periodOf a) (stateOf (now (state .entry)))) ⌝ }
+// One period: the row machine on both parties' attempts. It leaves older values in second bits, so that the next period needs no pass before it.
+fn advance(image: &[u8], state: &mut [u8], a: Attempts)
+    requires { ⌜ Working (now image) (now state) 1 ⌝ }
+    ensures { λ _. ⌜ Advanced (now (image .entry)) (now (state .entry)) (periodOf a) (now (state .exit)) ⌝ }
 {
     let taken = records::get4(state, 2);
     records::put4(state, 2, taken + 1);
     if state[0] == 0 {
-        new_values(image, &mut state[HEAD_BYTES..], a, taken == 0);
+        compute(image, &mut state[HEAD_BYTES..], a, taken == 0);
         decide(image, state, taken + 1);
     }
+}
+
+// One period by itself.
+fn take_period(image: &[u8], state: &mut [u8], a: Attempts)
+    requires { ⌜ Ready (now image) (now state) 1 ⌝ }
+    ensures { λ _. ⌜ now (state .exit) ≡ stateBytes (afterPeriod (imageOf (now (image .entry))) (periodOf a) (stateOf (now (state .entry)))) ⌝ }
+{
+    advance(image, state, a);
+    settle(state);
 }
 
 // The periods of a trace of n records.
@@ -500,13 +516,14 @@ fn take_periods(image: &[u8], state: &mut [u8], trace: &[u8], n: usize)
 {
     let mut k = 0;
     while k < n {
-        take_period(
+        advance(
             image,
             state,
             records::read_period(trace, records::PERIOD_BYTES * k),
         );
         k += 1;
     }
+    settle(state);
 }
 
 // ---- replies

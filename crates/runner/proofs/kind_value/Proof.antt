@@ -6,19 +6,15 @@ use borrow.Author.Tests.{ltb-true}
 use mathlib.Core.Bool.{false}
 use lib.ListN.{length, getD}
 use Rattle.records.specs.Periods.{periodOf}
-use Rattle.runner.specs.Computing.{newIn}
-use Rattle.runner.proofs.States.{allAtMost-at}
-use Rattle.runner.proofs.Computing.{bool-small}
+use Rattle.runner.specs.Computing.{valuesIn}
+use Rattle.runner.proofs.Computing.{both-below}
 use Rattle.runner.proofs.Machine.{byteOf-le}
-use Rattle.runner.proofs.RowKinds.{new-second, row-2, row-3, row-4, row-5, row-6, kind-6, both-below, value-0, value-1, value-2, value-3, value-4, value-5, value-6}
+use Rattle.runner.proofs.RowKinds.{new-first, row-2, row-3, row-4, row-5, row-6, kind-6, value-0, value-1, value-2, value-3, value-4, value-5, value-6}
 use Rattle.runner.proofs.kind_value.Statement.{statement}
 use Rattle.runner.proofs.kind_value.Tie as tie
 
 cast-result : tie.Need-cast-result
 cast-result c = search needs
-
-mul-result : tie.Need-mul-result
-mul-result c = omega (arith, bool-small (c .before .before .args .first))
 
 tried-requires : tie.Need-tried-requires
 tried-requires c κs =
@@ -27,9 +23,6 @@ tried-requires c κs =
 
 cast-result-2 : tie.Need-cast-result-2
 cast-result-2 c = search needs
-
-mul-result-2 : tie.Need-mul-result-2
-mul-result-2 c = omega (arith, bool-small (c .tried .result))
 
 shared-slice-read-result : tie.Need-shared-slice-read-result
 shared-slice-read-result c =
@@ -40,8 +33,8 @@ shared-slice-read-result c =
 sub-result : tie.Need-sub-result
 sub-result c =
     let a = c .before .before .before .args in
-    let b = getD (newIn (a .values .now)) (a .x) false in
-    omega (arith, new-second (a .values .now) (a .x) (c .before .before .before .pre .bytes-of-two .small), byteOf-le b)
+    let b = getD (valuesIn (a .values .now)) (a .x) false in
+    omega (arith, new-first (a .values .now) (a .x), byteOf-le b)
 
 shared-slice-read-result-2 : tie.Need-shared-slice-read-result-2
 shared-slice-read-result-2 c =
@@ -67,48 +60,43 @@ shared-slice-read-result-5 c =
     let n = length (a .values .now) in
     both-below n (a .x) (a .y) (row-5 n n (a .x) (a .y) (rw (c .before .before .match .keys6) at (c .before .before .before .before .pre .good)) .names) .1
 
-shared-slice-read-result-6 : tie.Need-shared-slice-read-result-6
-shared-slice-read-result-6 c =
-    let a = c .before .before .before .args in
+old-value-requires : tie.Need-old-value-requires
+old-value-requires c κs =
+    let a = c .before .before .args in
+    let h = c .before .before .pre in
     let n = length (a .values .now) in
-    let g = c .before .before .before .pre .good in
-    let e = kind-6 n n (a .kind) (a .x) (a .y) (omega arith) g in
-    ltb-true (a .x) n (row-6 n n (a .x) (a .y) (rw e at g) .names)
-
-mul-result-3 : tie.Need-mul-result-3
-mul-result-3 c =
-    let a = c .before .before .before .args in
-    omega (arith, allAtMost-at 3 (a .values .now) (c .before .before .before .pre .bytes-of-two .small) (a .x))
+    let e = kind-6 n n (a .kind) (a .x) (a .y) (omega arith) (h .good) in
+    (ltb-true (a .x) n (row-6 n n (a .x) (a .y) (rw e at (h .good)) .names), h .bytes-of-two .small)
 
 returns : tie.Need-returns
 returns c =
     let a = c .before .before .args in
-    rw (c .match .keys1) (value-0 (a .values .now) (a .x) (a .y) (a .first) (periodOf (a .a)) (rw (c .match .keys1) at (c .before .before .pre)))
+    rw (c .match .keys1) (value-0 (a .k) (a .values .now) (a .x) (a .y) (a .first) (periodOf (a .a)) (rw (c .match .keys1) at (c .before .before .pre)))
 
 returns-2 : tie.Need-returns-2
 returns-2 c =
     let a = c .before .before .args in
-    rw (c .match .keys2) (value-1 (a .values .now) (a .x) (a .y) (a .first) (periodOf (a .a)) (rw (c .match .keys2) at (c .before .before .pre)))
+    rw (c .match .keys2) (value-1 (a .k) (a .values .now) (a .x) (a .y) (a .first) (periodOf (a .a)) (rw (c .match .keys2) at (c .before .before .pre)))
 
 returns-3 : tie.Need-returns-3
 returns-3 c =
     let a = c .before .before .before .args in
-    rw (c .before .match .keys3) (value-2 (a .values .now) (a .x) (a .y) (a .first) (periodOf (a .a)) (rw (c .before .match .keys3) at (c .before .before .before .pre)) (c .tried .result) (c .tried .ensures))
+    rw (c .before .match .keys3) (value-2 (a .k) (a .values .now) (a .x) (a .y) (a .first) (periodOf (a .a)) (rw (c .before .match .keys3) at (c .before .before .before .pre)) (c .tried .result) (c .tried .ensures))
 
 returns-4 : tie.Need-returns-4
 returns-4 c =
     let a = c .before .before .before .args in
-    rw (c .before .match .keys4) (value-3 (a .values .now) (a .x) (a .y) (a .first) (periodOf (a .a)) (rw (c .before .match .keys4) at (c .before .before .before .pre)))
+    rw (c .before .match .keys4) (value-3 (a .k) (a .values .now) (a .x) (a .y) (a .first) (periodOf (a .a)) (rw (c .before .match .keys4) at (c .before .before .before .pre)))
 
 returns-5 : tie.Need-returns-5
 returns-5 c =
     let a = c .before .before .before .before .args in
-    rw (c .before .before .match .keys5) (value-4 (a .values .now) (a .x) (a .y) (a .first) (periodOf (a .a)) (rw (c .before .before .match .keys5) at (c .before .before .before .before .pre)))
+    rw (c .before .before .match .keys5) (value-4 (a .k) (a .values .now) (a .x) (a .y) (a .first) (periodOf (a .a)) (rw (c .before .before .match .keys5) at (c .before .before .before .before .pre)))
 
 returns-6 : tie.Need-returns-6
 returns-6 c =
     let a = c .before .before .before .before .args in
-    rw (c .before .before .match .keys6) (value-5 (a .values .now) (a .x) (a .y) (a .first) (periodOf (a .a)) (rw (c .before .before .match .keys6) at (c .before .before .before .before .pre)))
+    rw (c .before .before .match .keys6) (value-5 (a .k) (a .values .now) (a .x) (a .y) (a .first) (periodOf (a .a)) (rw (c .before .before .match .keys6) at (c .before .before .before .before .pre)))
 
 returns-7 : tie.Need-returns-7
 returns-7 c =
@@ -116,25 +104,22 @@ returns-7 c =
     let h = c .before .before .before .pre in
     let n = length (a .values .now) in
     let e = kind-6 n n (a .kind) (a .x) (a .y) (omega arith) (h .good) in
-    rw e (value-6 (a .values .now) (a .x) (a .y) (a .first) (periodOf (a .a)) (rw e at h))
+    rw e (value-6 (a .k) (a .values .now) (a .x) (a .y) (a .first) (periodOf (a .a)) (rw e at h) (c .old-value .result) (c .old-value .ensures))
 
 pub kind-value-spec : {M : Type 1} → statement M
 kind-value-spec =
     tie.close
     (tie.spec
     cast-result
-    mul-result
     tried-requires
     cast-result-2
-    mul-result-2
     shared-slice-read-result
     sub-result
     shared-slice-read-result-2
     shared-slice-read-result-3
     shared-slice-read-result-4
     shared-slice-read-result-5
-    shared-slice-read-result-6
-    mul-result-3
+    old-value-requires
     returns
     returns-2
     returns-3

@@ -1,26 +1,32 @@
--- `runner::take_periods` meets its contract: after k turns the state is what the first k periods leave.
+-- `runner::take_periods` meets its contract: after k turns the state stands for what the first k periods leave.
 -- Assumes nothing.
 use Prim.Native.Nat.{_-_, _*_, _≤_}
 use native.Mathlib.Numerals.{add-one}
 use native.Mathlib.Omega.{arith}
-use mathlib.Core.Path.{_≡_, sym, ap, _∙_}
-use lib.ListN.{length}
+use mathlib.Core.Bool.{true}
+use mathlib.Core.Path.{_≡_, refl, sym, ap, _∙_}
+use lib.ListN.{length, drop}
 use Rattle.records.specs.Limits.{periodBytes}
 use Rattle.records.specs.Fields.{AllBytes}
 use Rattle.records.specs.Periods.{periodAt}
-use Rattle.runner.specs.Images.{imageOf}
-use Rattle.runner.specs.States.{stateOf, stateBytes}
+use Rattle.runner.specs.Limits.{headBytes}
+use Rattle.runner.specs.Images.{rowCount, imageOf}
+use Rattle.runner.specs.States.{stateOf, stateBytes, allAtMost}
 use Rattle.runner.specs.Machine.{afterPeriods}
 use Rattle.runner.specs.Calls.{periodsOf}
+use Rattle.runner.specs.Computing.{settled}
 use Rattle.runner.proofs.States.{stateBytes-stateOf}
 use Rattle.runner.proofs.Machine.{after-snoc}
-use Rattle.runner.proofs.Steps.{ready-long, length-periodsOf, later-read, later-long, later-ready}
+use Rattle.runner.proofs.Settling.{settled-plain, plain-small}
+use Rattle.runner.proofs.Steps.{ready-long, length-periodsOf, later-read, later-ready}
 use Rattle.runner.proofs.take_periods.Statement.{statement}
 use Rattle.runner.proofs.take_periods.Tie as tie
 
 abbrev Inv-loop : tie.InvT-loop
 Inv-loop image state₀ trace n k₀ state k =
-    (k ≤ n) × (state ≡ stateBytes (afterPeriods (imageOf image) (stateOf state₀) (periodsOf trace k)))
+    (k ≤ n) × (length state ≡ length state₀)
+    × (settled state ≡ stateBytes (afterPeriods (imageOf image) (stateOf state₀) (periodsOf trace k)))
+    × (allAtMost 3 (drop headBytes state) ≡ true)
 
 abbrev μ-loop : tie.MeasureT-loop
 μ-loop image state₀ trace n k₀ state k = n - k
@@ -29,8 +35,14 @@ loop-holds : tie.Need-loop-holds Inv-loop μ-loop
 unfolding periodsOf afterPeriods
 loop-holds c =
     let a = c .before .before .before .args in
-    let bytes : AllBytes (a .state .now) = record { below = λ i. c .before .slice-known .given i .fits } in
-    (omega arith, sym (stateBytes-stateOf (a .state .now) bytes (omega (arith, ready-long (a .image .now) (a .state .now) (a .n) (c .before .before .before .pre .0)))))
+    let h = c .before .before .before .pre .0 in
+    let l = a .state .now in
+    let bytes : AllBytes l = record { below = λ i. c .before .slice-known .given i .fits } in (
+      omega arith,
+      refl,
+      settled-plain (rowCount (a .image .now)) l (h .sound) ∙ sym (stateBytes-stateOf l bytes (omega (arith, ready-long (a .image .now) l (a .n) h))),
+      plain-small (rowCount (a .image .now)) l (h .sound),
+    )
 
 mul-read-period : tie.Need-mul-read-period Inv-loop μ-loop
 mul-read-period c = omega (arith, c .before .before .before .before .before .before .pre .1)
@@ -38,14 +50,14 @@ mul-read-period c = omega (arith, c .before .before .before .before .before .bef
 read-period-requires : tie.Need-read-period-requires Inv-loop μ-loop
 read-period-requires c κs = omega (arith, c .before .before .before .before .before .before .pre .1)
 
-take-period-requires : tie.Need-take-period-requires Inv-loop μ-loop
-take-period-requires c κs =
+advance-requires : tie.Need-advance-requires Inv-loop μ-loop
+advance-requires c κs =
     let a = c .before .before .before .before .before .before .before .args in
     let h = c .before .before .before .before .before .before .before .pre .0 in
     let l = c .before .before .before .loop in
     let e : length (periodsOf (a .trace .now) (l .k)) ≡ l .k = length-periodsOf (a .trace .now) (l .k) in
     let g = later-ready (a .image .now) (a .state .now) (a .n) h (periodsOf (a .trace .now) (l .k)) (omega arith) in
-    rw (l .inv .1) (record { good = g .good; sound = g .sound; room = omega (arith, g .room) })
+    record { ready = rw (l .inv .2) record { good = g .good; sound = g .sound; room = omega (arith, g .room) }; small = l .inv .3 }
 
 add-k : tie.Need-add-k Inv-loop μ-loop
 add-k c = omega arith
@@ -60,25 +72,29 @@ loop-again c =
     let h = c .before .before .before .before .before .before .before .before .before .before .pre .0 in
     let l = c .before .before .before .before .before .before .loop in
     let w = periodsOf (a .trace .now) (l .k) in
-    let e : length w ≡ l .k = length-periodsOf (a .trace .now) (l .k) in (
+    let e : length w ≡ l .k = length-periodsOf (a .trace .now) (l .k) in
+    let t = c .before .before .advance in (
       omega arith,
-      c .before .before .take-period .ensures
-          ∙ rw (l .inv .1, later-read (a .image .now) (a .state .now) (a .n) h w (omega arith), c .before .before .before .read-period .ensures .is, add-one (l .k))
+      t .kept .1 .0 ∙ l .inv .1,
+      t .ensures .is
+          ∙ rw (l .inv .2, later-read (a .image .now) (a .state .now) (a .n) h w (omega arith), c .before .before .before .read-period .ensures .is, add-one (l .k))
           (ap stateBytes (sym (after-snoc (imageOf (a .image .now)) (stateOf (a .state .now)) w (periodAt (a .trace .now) (periodBytes * l .k))))),
+      t .ensures .small,
     )
 
+settle-requires : tie.Need-settle-requires Inv-loop μ-loop
+settle-requires c κs =
+    let a = c .before .before .before .before .before .before .args in
+    omega (arith, c .before .before .loop .inv .1, ready-long (a .image .now) (a .state .now) (a .n) (c .before .before .before .before .before .before .pre .0))
+
 same-length : tie.Need-same-length Inv-loop μ-loop
-same-length c =
-    let a = c .before .before .before .before .before .args in
-    let l = c .before .loop in
-    let w = periodsOf (a .trace .now) (l .k) in
-    let e : length w ≡ l .k = length-periodsOf (a .trace .now) (l .k) in
-    ap length (l .inv .1) ∙ later-long (a .image .now) (a .state .now) (a .n) (c .before .before .before .before .before .pre .0) w (omega arith)
+same-length c = c .before .before .settle .kept .0 ∙ c .before .before .before .before .before .loop .inv .1
 
 returns : tie.Need-returns Inv-loop μ-loop
 returns c =
-    let e : c .before .loop .k ≡ c .before .before .before .before .before .args .n = omega arith in
-    rw e at (c .before .loop .inv .1)
+    let l = c .before .before .before .before .before .loop in
+    let e : l .k ≡ c .before .before .before .before .before .before .before .before .before .args .n = omega arith in
+    c .before .before .settle .ensures ∙ rw e at (l .inv .2)
 
 pub take-periods-spec : {M : Type 1} → statement M
 take-periods-spec =
@@ -89,9 +105,10 @@ take-periods-spec =
     loop-holds
     mul-read-period
     read-period-requires
-    take-period-requires
+    advance-requires
     add-k
     loop-less
     loop-again
+    settle-requires
     same-length
     returns)
