@@ -18,10 +18,10 @@ pub fn measure(plan: &Plan) {
     plan.say(
         "\n1. `run` against the row machine by hand without checks: nanoseconds for each row visit\n   \
          No trace decides, so every period computes every row. By hand, in Rust: two buffers of row\n   \
-         values; one buffer with old and new bits, as `run` has it; two buffers and the rows decoded\n   \
-         into an enum beforehand; every row decoded beforehand into a gate, computed without\n   \
-         branches. What is done beforehand isn't timed. Each is compiled four times, its code 16\n   \
-         bytes further on each time, and the fastest place counts; the archive's code has one place.\n   \
+         values; one buffer with old and new bits, and a pass that keeps the new ones; two buffers and\n   \
+         the rows decoded into an enum beforehand; every row decoded beforehand into a gate, computed\n   \
+         without branches. What is done beforehand isn't timed. Each is compiled four times, its code\n   \
+         16 bytes further on each time, and the fastest place counts; the archive's code has one place.\n   \
          The ratio is that of `run` to the machine above it.",
     );
     for input in inputs(plan) {
