@@ -3,11 +3,10 @@
 set -euo pipefail
 cd "$(dirname "${BASH_SOURCE[0]}")/.."
 
-rt staticlib runner
-rt staticlib compiler
+bash hosts/build.sh
 rt check watch
 runner=target/staticlib/librunner.a
-compiler=target/staticlib/libcompiler.a
+monitor=target/libmonitor.a
 watch=$PWD/target/bin/watch
 built=$PWD/target/hosts
 mkdir -p "$built"
@@ -20,11 +19,10 @@ if command -v c++ >/dev/null; then
     echo "ok monitor.h as C++"
 fi
 
-# A host, linked with the archives that it needs.
+# A host, and the archive that it is linked with.
 try_host() {
-    local host=$1
-    shift
-    cc -std=c11 -Wall -Wextra -Werror -O2 -o "$built/$host" "hosts/c/$host.c" "$@"
+    local host=$1 archive=$2
+    cc -std=c11 -Wall -Wextra -Werror -O2 -o "$built/$host" "hosts/c/$host.c" "$archive"
     if ! "$built/$host" >"$built/$host.out"; then
         cat "$built/$host.out"
         echo "FAILED $host"
@@ -34,10 +32,14 @@ try_host() {
     echo "ok $host"
 }
 
+# The runner stands without the compiler.
 try_host smoke "$runner"
-try_host samples "$runner"
-try_host compile "$compiler" "$runner"
-try_host example "$compiler" "$runner"
+try_host samples "$monitor"
+try_host reading "$monitor"
+try_host compile "$monitor"
+try_host verdicts "$monitor"
+try_host nests "$monitor"
+try_host example "$monitor"
 
 # ---- watch
 

@@ -1,5 +1,5 @@
 /* An example host in C: compiles a contract between a plugin and its host, and steps it over four periods. */
-/* cc -std=c11 -Ihosts/c hosts/c/example.c target/staticlib/libcompiler.a target/staticlib/librunner.a */
+/* bash hosts/build.sh && cc -std=c11 -Ihosts/c hosts/c/example.c target/libmonitor.a */
 #include <stdio.h>
 
 #include "monitor.h"

@@ -1,4 +1,4 @@
-/* The monitor's calls: compile of libcompiler.a; begin, step and run of librunner.a, which needs no other. */
+/* The monitor's calls, all of libmonitor.a; begin, step and run are those of librunner.a too, for a host that only runs images. */
 /* Document 01, "Calls" and "Replies that refuse". */
 #ifndef MONITOR_H
 #define MONITOR_H

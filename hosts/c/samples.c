@@ -1,21 +1,8 @@
 /* Samples of begin, step and run in C: a printed line for each call, held to the file samples.expected. */
 /* Document 01, "Image and row machine", "Calls" and "Replies that refuse". */
-#include <stdio.h>
-#include <stdlib.h>
-#include <string.h>
+#include "testing.h"
 
-#include "monitor.h"
-
-/* ---- bytes as a table's field */
-
-struct bytes {
-    const uint8_t *at;
-    size_t length;
-};
-
-#define BYTES(...) {(const uint8_t[]){__VA_ARGS__}, sizeof((const uint8_t[]){__VA_ARGS__})}
-#define NO_BYTES {(const uint8_t *)"", 0}
-#define COUNT(table) (sizeof(table) / sizeof(table)[0])
+/* ---- bytes of images, states and traces */
 
 #define TWO(n) (n) & 255, (n) >> 8 & 255
 #define FOUR(n) TWO(n), TWO((n) >> 16)
@@ -54,106 +41,51 @@ static const struct bytes no_bytes = NO_BYTES;
 static const struct bytes one_record = ONE_RECORD;
 static const struct bytes two_records = BYTES(NOBODY, NOBODY);
 
-/* ---- a call, with guard bytes around the state and the reply area */
+/* ---- lines */
 
-enum call { BEGIN, STEP, RUN };
 static const char *const names[] = {"begin", "step", "run"};
 
-enum {
-    GUARD = 165,
-    GUARD_BYTES = 16,
-    UNWRITTEN = 238,            /* each byte of a reply area before the call */
-    MOST_STATE = MONITOR_HEAD_BYTES + MONITOR_MOST_ROWS + 1,
-    MOST_AREA = 30
-};
-
-static uint8_t lent_state[GUARD_BYTES + MOST_STATE + GUARD_BYTES];
-static uint8_t lent_area[GUARD_BYTES + MOST_AREA + GUARD_BYTES];
-static uint8_t *const state = lent_state + GUARD_BYTES;
-static uint8_t *const area = lent_area + GUARD_BYTES;
-static int faults;
-
-/* All bytes but those lent are guards. */
-static int guarded(const uint8_t *all, size_t size, size_t lent)
+/* Calls with copies; the areas of state and reply have what the call leaves. */
+static uint32_t lend_copies(enum call call, struct bytes rows, struct bytes before, struct bytes records, size_t reply_length)
 {
-    for (size_t k = 0; k < size; k++)
-        if ((k < GUARD_BYTES || k >= GUARD_BYTES + lent) && all[k] != GUARD)
-            return 0;
-    return 1;
-}
-
-/* Calls with a state whose bytes are `before`; `state` and `area` have what the call leaves. */
-static uint32_t lend(enum call call, struct bytes image, struct bytes before, struct bytes trace, size_t area_length)
-{
-    uint32_t result = 0;
-
-    if (before.length > MOST_STATE || area_length > MOST_AREA)
-        abort();
-    memset(lent_state, GUARD, sizeof lent_state);
-    memcpy(state, before.at, before.length);
-    memset(lent_area, GUARD, sizeof lent_area);
-    memset(area, UNWRITTEN, area_length);
-    switch (call) {
-    case BEGIN:
-        result = monitor_begin(image.at, image.length, state, before.length, area, area_length);
-        break;
-    case STEP:
-        result = monitor_step(image.at, image.length, state, before.length, trace.at, trace.length, area, area_length);
-        break;
-    case RUN:
-        result = monitor_run(image.at, image.length, state, before.length, trace.at, trace.length, area, area_length);
-        break;
-    }
-    if (!guarded(lent_state, sizeof lent_state, before.length) || !guarded(lent_area, sizeof lent_area, area_length)) {
-        printf("guard bytes changed\n");
-        faults++;
-    }
-    return result;
-}
-
-/* ---- printing */
-
-static void put_bytes(const uint8_t *at, size_t length)
-{
-    for (size_t k = 0; k < length; k++)
-        printf(" %u", (unsigned)at[k]);
+    copy(&image, rows);
+    copy(&state, before);
+    copy(&trace, records);
+    return lend(call, reply_length);
 }
 
 static void put_kept(struct bytes before)
 {
-    printf(" %s\n", memcmp(state, before.at, before.length) == 0 ? "kept" : "changed");
+    printf(" %s\n", holds(&state, before) ? "kept" : "changed");
 }
 
 /* Calls with room for just the reply and prints the result and the reply's fields. */
-static void reply_to(enum call call, struct bytes image, struct bytes before, struct bytes trace)
+static void reply_to(enum call call, struct bytes rows, struct bytes before, struct bytes records)
 {
     if (call == BEGIN) {
-        struct monitor_begin_reply r;
-        uint32_t result = lend(call, image, before, trace, sizeof r);
-        memcpy(&r, area, sizeof r);
-        printf(" %u %u %u %llu", (unsigned)result, (unsigned)r.number, (unsigned)r.zero, (unsigned long long)r.place);
+        uint32_t result = lend_copies(call, rows, before, records, sizeof(struct monitor_begin_reply));
+        struct monitor_begin_reply r = begin_reply();
+        PUT(result, r.number, r.zero, r.place);
     } else {
-        struct monitor_reply r;
-        uint32_t result = lend(call, image, before, trace, sizeof r);
-        memcpy(&r, area, sizeof r);
-        printf(" %u %u %u %llu %u %u", (unsigned)result, (unsigned)r.number, (unsigned)r.verdict,
-               (unsigned long long)r.place, (unsigned)r.blame, (unsigned)r.decision);
+        uint32_t result = lend_copies(call, rows, before, records, sizeof(struct monitor_reply));
+        struct monitor_reply r = step_reply();
+        PUT(result, r.number, r.verdict, r.place, r.blame, r.decision);
     }
 }
 
 /* A line: the call, a label, the result, the reply's fields, and whether the state was kept. */
-static void sample(enum call call, const char *label, struct bytes image, struct bytes before, struct bytes trace)
+static void sample(enum call call, const char *label, struct bytes rows, struct bytes before, struct bytes records)
 {
     printf("%s: %s:", names[call], label);
-    reply_to(call, image, before, trace);
+    reply_to(call, rows, before, records);
     put_kept(before);
 }
 
-/* The state of two rows that the last call left. */
+/* The state that the last call left. */
 static void put_state(void)
 {
     printf("then the state holds:");
-    put_bytes(state, small.length / MONITOR_ROW_BYTES - 1 + MONITOR_HEAD_BYTES);
+    put_bytes(start(&state), state.length);
     printf("\n");
 }
 
@@ -435,56 +367,54 @@ static void put_areas(void)
 {
     for (size_t k = 0; k < COUNT(areas); k++) {
         struct bytes before = areas[k].call == BEGIN ? sevens : fresh;
-        uint32_t result = lend(areas[k].call, areas[k].image, before, areas[k].trace, areas[k].length);
+        uint32_t result = lend_copies(areas[k].call, areas[k].image, before, areas[k].trace, areas[k].length);
         printf("%s: %sarea of %u bytes: %u", names[areas[k].call], areas[k].label, (unsigned)areas[k].length,
                (unsigned)result);
-        put_bytes(area, areas[k].length);
+        put_bytes(start(&reply), reply.length);
         put_kept(before);
     }
 }
 
 /* A walk's call: the result, the reply's fields and the state's bytes. */
-static void put_after(enum call call, struct bytes image, struct bytes before, struct bytes trace)
+static void put_after(enum call call, struct bytes rows, struct bytes before, struct bytes records)
 {
     printf("%s:", names[call]);
-    reply_to(call, image, before, trace);
+    reply_to(call, rows, before, records);
     printf(":");
-    put_bytes(state, WALK_STATE);
+    put_bytes(start(&state), state.length);
     printf("\n");
 }
 
 /* Begins, takes the trace by steps past its decision, and then the whole from zeros by one run. */
-static void walk(const char *name, struct bytes image, struct bytes trace)
+static void walk(const char *name, struct bytes rows, struct bytes records)
 {
     uint8_t now[WALK_STATE], last[sizeof(struct monitor_reply)];
-    struct bytes before = {now, sizeof now};
+    struct bytes before = {now, sizeof now}, answer = {last, sizeof last};
 
     printf("%s\nbegin:", name);
     memset(now, 255, sizeof now);
-    reply_to(BEGIN, image, before, no_bytes);
+    reply_to(BEGIN, rows, before, no_bytes);
     printf("\n");
-    for (size_t k = 0; k < trace.length; k += MONITOR_PERIOD_BYTES) {
-        struct bytes record = {trace.at + k, MONITOR_PERIOD_BYTES};
-        memcpy(now, state, sizeof now);
-        put_after(STEP, image, before, record);
+    for (size_t k = 0; k < records.length; k += MONITOR_PERIOD_BYTES) {
+        memcpy(now, start(&state), sizeof now);
+        put_after(STEP, rows, before, (struct bytes){records.at + k, MONITOR_PERIOD_BYTES});
     }
-    memcpy(last, area, sizeof last);
-    struct bytes zeros = {(const uint8_t[WALK_STATE]){0}, WALK_STATE};
-    memcpy(now, state, sizeof now);
-    put_after(RUN, image, zeros, trace);
-    printf("%s\n", memcmp(state, now, sizeof now) == 0 && memcmp(area, last, sizeof last) == 0 ? "same" : "different");
+    memcpy(now, start(&state), sizeof now);
+    memcpy(last, start(&reply), sizeof last);
+    put_after(RUN, rows, (struct bytes){(const uint8_t[WALK_STATE]){0}, WALK_STATE}, records);
+    printf("%s\n", holds(&state, before) && holds(&reply, answer) ? "same" : "different");
 }
 
 /* Images of 2,112 rows, the most, and of one row more. */
 static void largest(void)
 {
-    enum { LAST = MONITOR_MOST_ROWS - 1, ALL = MONITOR_ROW_BYTES * (MONITOR_MOST_ROWS + 1) };
+    enum { LAST = MONITOR_MOST_ROWS - 1, MOST_STATE = MONITOR_HEAD_BYTES + MONITOR_MOST_ROWS + 1 };
     static const uint8_t blank[] = {ROW(0, 0, 0)};
     static const uint8_t last_row[] = {ROW(3, LAST - 1, 0)}, own_row[] = {ROW(3, LAST, 0)};
     static const uint8_t end[] = {END(LAST, LAST - 1, 0)}, far_end[] = {END(LAST + 1, LAST - 1, 0)};
-    static uint8_t rows[ALL + MONITOR_ROW_BYTES], high[MOST_STATE], zero[MOST_STATE];
+    static uint8_t rows[BUFFER_BYTES + MONITOR_ROW_BYTES], high[MOST_STATE], zero[MOST_STATE];
     uint8_t *last_at = rows + MONITOR_ROW_BYTES * LAST, *end_at = last_at + MONITOR_ROW_BYTES;
-    struct bytes image = {rows, ALL}, longer = {rows, sizeof rows};
+    struct bytes most = {rows, BUFFER_BYTES}, longer = {rows, sizeof rows};
     struct bytes full = {high, MOST_STATE - 1}, zeros = {zero, MOST_STATE - 1};
 
     memset(high, 7, sizeof high);
@@ -492,16 +422,16 @@ static void largest(void)
         memcpy(rows + k, blank, sizeof blank);
     memcpy(last_at, last_row, sizeof last_row);
     memcpy(end_at, end, sizeof end);
-    sample(BEGIN, "image of 16904 bytes", image, full, no_bytes);
-    sample(STEP, "image of 16904 bytes", image, zeros, one_record);
-    sample(RUN, "image of 16904 bytes", image, zeros, two_records);
+    sample(BEGIN, "image of 16904 bytes", most, full, no_bytes);
+    sample(STEP, "image of 16904 bytes", most, zeros, one_record);
+    sample(RUN, "image of 16904 bytes", most, zeros, two_records);
     memcpy(last_at, own_row, sizeof own_row);
-    sample(BEGIN, "row 2111 names itself", image, full, no_bytes);
-    sample(STEP, "row 2111 names itself", image, zeros, one_record);
+    sample(BEGIN, "row 2111 names itself", most, full, no_bytes);
+    sample(STEP, "row 2111 names itself", most, zeros, one_record);
     memcpy(last_at, last_row, sizeof last_row);
     memcpy(end_at, far_end, sizeof far_end);
-    sample(BEGIN, "S is 2112", image, full, no_bytes);
-    sample(RUN, "S is 2112", image, zeros, two_records);
+    sample(BEGIN, "S is 2112", most, full, no_bytes);
+    sample(RUN, "S is 2112", most, zeros, two_records);
     memcpy(end_at, blank, sizeof blank);
     memcpy(end_at + MONITOR_ROW_BYTES, end, sizeof end);
     full.length = zeros.length = MOST_STATE;

@@ -12,24 +12,24 @@ use borrow.Author.Tests.{lt-ltb, le-ltb}
 use Rattle.records.specs.Fields.{bytes, field}
 use Rattle.records.proofs.Fields.{value-bytes-lt}
 use Rattle.records.proofs.Written.{take-through, field-in}
-use Rattle.runner.specs.Limits.{rowBytes}
-use Rattle.runner.specs.Images.{rowCount}
-use Rattle.runner.proofs.Images.{GoodImage, passed-good}
-use Rattle.contract.specs.declared.Fault.{Fault}
-use Rattle.contract.specs.declared.Answer.{Answer}
-use Rattle.contract.specs.declared.Answer.the-variants.{Refused, Taken}
-use Rattle.contract.specs.Limits.{maxRecords}
+use Rattle.machine.specs.Limits.{rowBytes}
+use Rattle.machine.specs.Images.{rowCount}
+use Rattle.machine.proofs.Images.{GoodImage, passed-good}
 use Rattle.contract.specs.Meaning.{Clause}
-use Rattle.contract.specs.Reader.{taken, read, faultNumber, recordCount, answer, numberOf, placeOf}
-use Rattle.contract.specs.Codes.{Contract}
-use Rattle.contract.proofs.Reader.{taken-count}
-use Rattle.contract.proofs.Answers.{answer-refused, answer-taken}
-use Rattle.compiler.specs.Widths.{bufferBytes}
-use Rattle.compiler.specs.Images.{imageFor}
-use Rattle.compiler.specs.Plans.{Writes}
+use Rattle.reader.specs.declared.Fault.{Fault}
+use Rattle.reader.specs.declared.Answer.{Answer}
+use Rattle.reader.specs.declared.Answer.the-variants.{Refused, Taken}
+use Rattle.reader.specs.Limits.{maxRecords}
+use Rattle.reader.specs.Reader.{taken, read, faultNumber, recordCount, answer, numberOf, placeOf}
+use Rattle.reader.specs.Codes.{Contract}
+use Rattle.reader.proofs.Reader.{taken-count}
+use Rattle.reader.proofs.Answers.{answer-refused, answer-taken}
+use Rattle.image.specs.Widths.{bufferBytes}
+use Rattle.image.specs.Images.{imageFor}
+use Rattle.image.proofs.Images.{right-for, sized-for}
+use Rattle.image.proofs.Monitors.{monitors}
+use Rattle.emitter.specs.Plans.{Writes}
 use Rattle.compiler.specs.Calls.{compileReply, compileReplyBytes, shortBuffer, After, unwritten, refusal, accepted, compile, Usable, Compiles}
-use Rattle.compiler.proofs.Images.{right-for, sized-for}
-use Rattle.compiler.proofs.Monitors.{monitors}
 
 recordCount-is : (contract : List ℕ) (n : ℕ) (k : Contract contract n) → recordCount contract ≡ n
 recordCount-is contract n k = taken-count contract (k .clause) (k .is) ∙ sym (k .count)

@@ -1,25 +1,3 @@
--- Why the image of a contract monitors it, layer by layer; then why the code writes it.
-pub mod Signals
-pub mod RowLaws
-pub mod Goodness
-pub mod Wiring
-pub mod Threads
-pub mod Languages
-pub mod Expressions
-pub mod Reports
-pub mod Tested
-pub mod Handing
-pub mod When
-pub mod Ending
-pub mod Literals
-pub mod Repeating
-pub mod Clauses
-pub mod Root
-pub mod Images
-pub mod Monitors
-pub mod Examples
-pub mod Writing
-pub mod Plans
-pub mod Whole
+-- The laws of compile.
 pub mod Calls
-pub mod Emitting
+pub mod Examples

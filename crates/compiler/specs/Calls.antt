@@ -8,15 +8,15 @@ use lib.Dec.{ltb}
 use lib.ListN.{length, take}
 use lib.Seq.{sets}
 use Rattle.records.specs.Fields.{bytes, field}
-use Rattle.runner.specs.declared.Test.the-variants.{Passed}
-use Rattle.runner.specs.Limits.{rowBytes}
-use Rattle.runner.specs.Images.{rowCount, imageBytes}
-use Rattle.runner.specs.Refusals.{imageTest}
+use Rattle.records.specs.declared.Test.the-variants.{Passed}
+use Rattle.machine.specs.Limits.{rowBytes}
+use Rattle.machine.specs.Images.{rowCount, imageBytes}
+use Rattle.machine.specs.Refusals.{imageTest}
 use Rattle.contract.specs.Meaning.{Clause}
-use Rattle.contract.specs.Reader.{Result, refused, taken, faultNumber, read, recordCount}
-use Rattle.compiler.specs.Widths.{allowedRows, bufferBytes}
-use Rattle.compiler.specs.Images.{image}
-use Rattle.compiler.specs.Monitors.{Monitors}
+use Rattle.reader.specs.Reader.{Result, refused, taken, faultNumber, read, recordCount}
+use Rattle.image.specs.Widths.{allowedRows, bufferBytes}
+use Rattle.image.specs.Images.{image}
+use Rattle.image.specs.Monitors.{Monitors}
 
 -- its reply: number, row count, place
 unfoldable pub compileReply : (number rows place : ℕ) → List ℕ

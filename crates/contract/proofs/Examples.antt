@@ -1,6 +1,6 @@
 -- The worked examples hold of the definitions, by computation.
 use mathlib.Core.Path.{refl}
-use Rattle.records.specs.Periods.{tries, bit}
+use Rattle.periods.specs.Periods.{tries, bit}
 use Rattle.contract.specs.Expressions.{holds, splits, joins, member, begins, holdsEmpty}
 use Rattle.contract.specs.Readings.{readingTo, reading}
 use Rattle.contract.specs.Meaning.{repeatMeaning, meaning}

@@ -7,11 +7,10 @@ use mathlib.Core.List.{List, [], _∷_, _++_, append-assoc, append-nil}
 use mathlib.Core.Logic.{_↔_, _⊎_, inl, inr, ⊎-elim}
 use mathlib.Core.Path.{_≡_, refl, sym, ap, subst}
 use lib.ListN.{length, length-append}
-use Rattle.records.specs.Periods
-use Rattle.records.specs.Periods.{Party, party1, party2, Period}
-use Rattle.records.proofs.Periods.{bit-own, bit-zero}
-use Rattle.contract.specs.Expressions.{Atom, any, tries, idle, succeeds, fails, holds, Expression, atom, seq, or, star}
-use Rattle.contract.specs.Expressions.{Holds, one, join, left, right, none, more, splits, joins, member, begins, holdsEmpty}
+use Rattle.periods.specs.Periods
+use Rattle.periods.specs.Periods.{Party, party1, party2, Period}
+use Rattle.periods.proofs.Periods.{bit-own, bit-zero}
+use Rattle.contract.specs.Expressions.{Atom, any, tries, idle, succeeds, fails, holds, Expression, atom, seq, or, star, Holds, one, join, left, right, none, more, splits, joins, member, begins, holdsEmpty}
 
 pub or-true : (a b : Bool) → (a || b ≡ true) ↔ ((a ≡ true) ⊎ (b ≡ true))
 or-true true b = (λ h. inl refl, λ h. refl)

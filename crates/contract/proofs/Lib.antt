@@ -1,15 +1,6 @@
--- The laws of the definitions in specs/, module by module, for this crate and the crates above it.
+-- The laws of the definitions in specs/, module by module.
 pub mod Expressions
 pub mod Readings
 pub mod Meaning
 pub mod Verdicts
 pub mod Examples
-pub mod Table
-pub mod Spelling
-pub mod Nodes
-pub mod Reader
-pub mod Answers
-pub mod Places
-pub mod Codes
-pub mod Tests
-pub mod Stack

@@ -10,14 +10,12 @@ use mathlib.Core.Path.{_≡_, refl, sym, _∙_, subst}
 use borrow.Author.Tests.{lt-ltb, le-ltb, lt-leb, le-leb}
 use lib.Dec.{ltb, leb}
 use lib.ListN.{length, take, drop, length-take, length-drop}
-use Rattle.records.specs.Periods.{Party, other, Period, tries}
 use Rattle.records.proofs.Numbers.{lt-or-le}
 use Rattle.records.proofs.Written.{drop-take}
+use Rattle.periods.specs.Periods.{Party, other, Period, tries}
 use Rattle.contract.specs.Expressions.{Expression, Holds}
 use Rattle.contract.specs.Readings.{Reading, pending, accepted, rejected, reading}
-use Rattle.contract.specs.Meaning.{Literal, duty, ban, power, Clause, literal, both, then, repair, repeat, when, until}
-use Rattle.contract.specs.Meaning.{Blame, unite, Decision, undecided, satisfied, violated, literalDecision, literalMeaning, earlier, bothMeaning}
-use Rattle.contract.specs.Meaning.{later, after, thenMeaning, repairMeaning, repeatMeaning, whenMeaning, noLater, untilMeaning, meaning, EmptyFree}
+use Rattle.contract.specs.Meaning.{Literal, duty, ban, power, Clause, literal, both, then, repair, repeat, when, until, Blame, unite, Decision, undecided, satisfied, violated, literalDecision, literalMeaning, earlier, bothMeaning, later, after, thenMeaning, repairMeaning, repeatMeaning, whenMeaning, noLater, untilMeaning, meaning, EmptyFree}
 use Rattle.contract.specs.Verdicts.{decisionPeriod}
 use Rattle.contract.proofs.Expressions.{some-list}
 use Rattle.contract.proofs.Readings.{accepted-iff, rejected-iff, readingBy, reading-take}

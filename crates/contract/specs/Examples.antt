@@ -5,11 +5,10 @@ use mathlib.Core.Bool.{false}
 use mathlib.Core.List.{List, [], _∷_}
 use mathlib.Core.Path.{_≡_}
 use lib.ListN.{take}
-use Rattle.records.specs.Periods.{Party, party1, party2, Period}
-use Rattle.contract.specs.Expressions.{any, tries, atom, seq, star, holdsEmpty}
-use Rattle.contract.specs.Meaning.{Literal, Clause, literal, both, then, repair, repeat, when, until}
-use Rattle.contract.specs.Meaning.{only, bothParties, undecided, satisfied, violated, meaning}
 use Rattle.records.specs.Verdicts.{verdictNumber, verdictName}
+use Rattle.periods.specs.Periods.{Party, party1, party2, Period}
+use Rattle.contract.specs.Expressions.{any, tries, atom, seq, star, holdsEmpty}
+use Rattle.contract.specs.Meaning.{Literal, Clause, literal, both, then, repair, repeat, when, until, only, bothParties, undecided, satisfied, violated, meaning}
 use Rattle.contract.specs.Verdicts.{verdict, blame, decisionPeriod}
 
 -- "a, b are actions 0, 1"

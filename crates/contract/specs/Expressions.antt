@@ -4,8 +4,8 @@ use mathlib.Core.Bool.{Bool, true, false, not, _&&_, _||_}
 use mathlib.Core.List.{List, [], _∷_, _++_}
 use mathlib.Core.Path.{_≡_}
 use lib.ListN.{length}
-use Rattle.records.specs.Periods
-use Rattle.records.specs.Periods.{Party, Period}
+use Rattle.periods.specs.Periods
+use Rattle.periods.specs.Periods.{Party, Period}
 
 -- kinds 16 to 20
 pub data Atom : Type 0 where

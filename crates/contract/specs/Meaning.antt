@@ -5,7 +5,7 @@ use mathlib.Core.Bool.{Bool, true, false, cond}
 use mathlib.Core.List.{List, [], _∷_}
 use lib.Dec.{leb, ltb}
 use lib.ListN.{length, drop}
-use Rattle.records.specs.Periods.{Party, party1, party2, other, Period, tries}
+use Rattle.periods.specs.Periods.{Party, party1, party2, other, Period, tries}
 use Rattle.contract.specs.Expressions.{Expression, Holds}
 use Rattle.contract.specs.Readings.{Reading, pending, accepted, rejected, reading}
 

@@ -4,7 +4,7 @@ use Prim.Native.Nat.{ℕ, zero, suc, _≤_, _<_}
 use mathlib.Core.Bool.{Bool, true, false}
 use mathlib.Core.List.{List, [], _++_}
 use lib.ListN.{length, take}
-use Rattle.records.specs.Periods.{Period}
+use Rattle.periods.specs.Periods.{Period}
 use Rattle.contract.specs.Expressions.{Expression, Holds, member, begins}
 
 -- no list at all that begins with w is in the set

@@ -4,8 +4,8 @@ use mathlib.Core.List.{List, []}
 use mathlib.Core.Logic.{_⊎_}
 use mathlib.Core.Path.{_≡_}
 use lib.ListN.{length, take}
-use Rattle.records.specs.Periods.{number, Period}
 use Rattle.records.specs.Verdicts.{Verdict, «open», met, broken, met-after, broken-after, since}
+use Rattle.periods.specs.Periods.{number, Period}
 use Rattle.contract.specs.Meaning.{Clause, Blame, only, bothParties, Decision, undecided, satisfied, violated, meaning}
 
 -- the decision period, 0 while undecided

@@ -1,6 +1,6 @@
--- The laws of fields, of written bytes, of masks and of marks.
+-- The laws of fields, of written bytes, of marks and of refusals.
 pub mod Numbers
 pub mod Fields
 pub mod Written
-pub mod Periods
 pub mod Marks
+pub mod Refusals

@@ -1,6 +1,5 @@
--- Document 01, "Records": what stands in bytes, and what a period is; the verdicts.
-pub mod Limits
+-- Document 01, "Records": what stands in bytes; the verdicts; the numbers, places and order of refusals.
 pub mod Fields
 pub mod Marks
-pub mod Periods
 pub mod Verdicts
+pub mod Refusals

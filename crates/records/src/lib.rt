@@ -1,19 +1,12 @@
-// Little-endian fields of byte slices, the marks of the records, and the period record. Document 01, "Records".
+// Little-endian fields of byte slices, the marks of the records, and the refusals that tests find. Document 01, "Records" and "Replies that
+// refuse".
 ghost use mathlib.Core.Path.{_≡_};
 ghost use Prim.Native.Nat.{_+_, _<_, _≤_};
-ghost use lib.Dec.{ltb};
 ghost use lib.ListN.{length};
 ghost use lib.Seq.{sets};
-ghost use Rattle.records.specs.Limits.{actions, periodBytes};
 ghost use Rattle.records.specs.Fields.{bytes, HoldsField};
 ghost use Rattle.records.specs.Marks.{contractMark, periodMark, rowMark, endMark, marked};
-ghost use Rattle.records.specs.Periods.{bit, HoldsPeriod};
-
-// How many actions there are, numbered from 0.
-pub const ACTIONS: u32 = 16;
-
-// The bytes of a period record.
-pub const PERIOD_BYTES: usize = 6;
+ghost use Rattle.records.specs.Refusals.{numberOf, placeOf};
 
 // The first two bytes of each record.
 pub const CONTRACT_MARK: [u8; 2] = [0x54, 0x43];
@@ -23,12 +16,6 @@ pub const PERIOD_MARK: [u8; 2] = [0x54, 0x50];
 pub const ROW_MARK: [u8; 2] = [0x54, 0x52];
 
 pub const END_MARK: [u8; 2] = [0x54, 0x45];
-
-// Both parties' attempts in a period: a mask each, whose bit a is set when the party tries action a.
-pub struct Attempts {
-    pub one: u32,
-    pub two: u32,
-}
 
 // A byte as a wider number.
 pub fn wide(x: u8) -> u32
@@ -127,28 +114,39 @@ pub fn end_marked(s: &[u8], at: usize) -> bool
     marked(s, at, END_MARK)
 }
 
-// Whether a number is an action's.
-pub fn is_action(a: u32) -> bool
-    ensures { λ r. ⌜ r ≡ ltb a actions ⌝ }
-{
-    a < ACTIONS
+// ---- refusals
+
+// What a call's tests find: all passed, or the first refusal with its place.
+pub enum Test {
+    Passed,
+    BadImage(usize),
+    BadState,
+    BadPeriod(usize),
+    FullCount(usize),
 }
 
-// Bit `action` of a mask: the party tries the action.
-pub fn bit(mask: u32, action: u32) -> bool
-    requires { ⌜ action < actions ⌝ }
-    ensures { λ r. ⌜ r ≡ bit mask action ⌝ }
+// A refusal's number in replies, 0 for none.
+pub fn number(t: Test) -> u32
+    ensures { λ r. ⌜ r ≡ numberOf t ⌝ }
 {
-    (mask >> action) & 1 == 1
+    match t {
+        Test::Passed => 0,
+        Test::BadImage(_) => 9,
+        Test::BadState => 10,
+        Test::BadPeriod(_) => 11,
+        Test::FullCount(_) => 12,
+    }
 }
 
-// Both parties' attempts in the period record from byte `at` on.
-pub fn read_period(s: &[u8], at: usize) -> Attempts
-    requires { ⌜ at + periodBytes ≤ length (now s) ⌝ }
-    ensures { λ r. ⌜ HoldsPeriod (now (s .entry)) at r ⌝ }
+// Its place.
+pub fn place(t: Test) -> u64
+    ensures { λ r. ⌜ r ≡ placeOf t ⌝ }
 {
-    Attempts {
-        one: get2(s, at + 2),
-        two: get2(s, at + 4),
+    match t {
+        Test::Passed => 0,
+        Test::BadImage(k) => k as u64,
+        Test::BadState => 0,
+        Test::BadPeriod(k) => k as u64,
+        Test::FullCount(k) => k as u64,
     }
 }

@@ -2,14 +2,14 @@
 use mathlib.Core.Path.{refl}
 use Rattle.records.specs.Fields.{field, value}
 use Rattle.records.specs.Marks.{marked}
-use Rattle.records.specs.Periods.{tries, bit, periodAt}
-use Rattle.runner.specs.Refusals.{firstFailing, recordCount, marksTest, traceTest}
-use Rattle.runner.specs.Calls.{periodsOf}
-use Rattle.contract.specs.Table.{numbered, kindOf}
-use Rattle.contract.specs.Trees.{node}
+use Rattle.records.specs.Refusals.{firstFailing}
+use Rattle.periods.specs.Periods.{tries, bit, periodAt}
+use Rattle.periods.specs.Traces.{recordCount, marksTest, traceTest, periodsOf}
 use Rattle.contract.specs.Meaning.{meaning, repeatMeaning}
-use Rattle.contract.specs.Reader as Reader
-use Rattle.contract.specs.Reader.{fieldsOf, operandsOf, readRecord, readRecords, read}
+use Rattle.reader.specs.Table.{numbered, kindOf}
+use Rattle.reader.specs.Trees.{node}
+use Rattle.reader.specs.Reader as Reader
+use Rattle.reader.specs.Reader.{fieldsOf, operandsOf, readRecord, readRecords, read}
 use Rattle.report.specs.Texts.{digits, decimal, periodLine, decidedLine, refusedLine}
 use Rattle.report.specs.Split.{firstPeriod, contractLength}
 use Rattle.report.specs.Reports.{meantLine, periodLines, lines, onTrace, report}

@@ -9,24 +9,23 @@ use mathlib.Core.Path.{_≡_, refl, sym, _∙_}
 use borrow.Author.Tests.{lt-ltb}
 use lib.ListN.{length, replicate, take, drop}
 use lib.Seq.{sets}
-use Rattle.records.specs.Limits.{periodBytes}
 use Rattle.records.specs.Fields.{HoldsField}
-use Rattle.records.specs.Periods.{Period, party1, party2}
 use Rattle.records.specs.Verdicts.{Verdict, «open», met, broken, met-after, broken-after, verdictNumber}
-use Rattle.runner.specs.declared.Test.the-variants.{Passed}
-use Rattle.runner.specs.Limits.{maxPeriods}
-use Rattle.runner.specs.Refusals.{recordCount, markedAt}
-use Rattle.runner.specs.Calls.{beginReplyBytes, stepReplyBytes, Gives, begin, periodsOf, step}
-use Rattle.runner.specs.StepCalls.{StepCall, stateAfterCall, recordAt}
+use Rattle.records.specs.declared.Test.the-variants.{Passed}
+use Rattle.periods.specs.Limits.{periodBytes}
+use Rattle.periods.specs.Periods.{Period, party1, party2}
+use Rattle.periods.specs.Traces.{recordCount, markedAt, periodsOf, recordAt}
+use Rattle.periods.proofs.Traces.{length-periodsOf, trace-marks, record-period, record-test}
+use Rattle.machine.specs.Limits.{maxPeriods}
+use Rattle.runner.specs.Calls.{beginReplyBytes, stepReplyBytes, Gives, begin, step}
+use Rattle.runner.specs.StepCalls.{StepCall, stateAfterCall}
 use Rattle.runner.proofs.Calls.{long-verdict, long-blame, long-decision}
-use Rattle.runner.proofs.Steps.{length-periodsOf, trace-marks}
-use Rattle.runner.proofs.Runs.{record-period, record-test}
 use Rattle.contract.specs.Meaning.{Clause, only, bothParties, Decision, undecided, satisfied, violated, meaning}
 use Rattle.contract.specs.Verdicts.{decisionPeriod, blame, verdict}
-use Rattle.contract.specs.Reader.{taken, read}
-use Rattle.contract.proofs.Reader.{taken-spells}
 use Rattle.contract.proofs.Meaning.{within, within-period}
-use Rattle.compiler.specs.Monitors.{callTest, accepts, periodsAfter, meantReply, AnswersCalls, Monitors}
+use Rattle.reader.specs.Reader.{taken, read}
+use Rattle.reader.proofs.Reader.{taken-spells}
+use Rattle.image.specs.Monitors.{callTest, accepts, periodsAfter, meantReply, AnswersCalls, Monitors}
 use Rattle.report.specs.declared.Stepped.{Stepped}
 use Rattle.report.specs.Limits.{lineBytes, mostPeriods}
 use Rattle.report.specs.Texts.{periodLine, decidedLine, Puts}

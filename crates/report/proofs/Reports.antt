@@ -11,28 +11,32 @@ use borrow.Author.Tests.{lt-ltb, le-ltb, eq-eqb, ne-eqb}
 use types.Run.{OneOf, miss}
 use denote.Enum.Declared.{tagOf}
 use Rattle.records.specs.Fields.{bytes, field}
+use Rattle.records.specs.declared.Test.{Test}
+use Rattle.records.specs.declared.Test.the-variants.{Passed, BadImage, BadState, BadPeriod, FullCount}
+use Rattle.records.specs.Refusals.{numberOf, placeOf, firstOf}
 use Rattle.records.proofs.Fields.{value-bytes-lt}
-use Rattle.runner.specs.declared.Test.{Test}
-use Rattle.runner.specs.declared.Test.the-variants.{Passed, BadImage, BadState, BadPeriod, FullCount}
-use Rattle.runner.specs.Limits.{rowBytes, maxRows, headBytes, maxPeriods}
-use Rattle.runner.specs.Images.{rowCount, imageBytes}
-use Rattle.runner.specs.States.{stateOf}
-use Rattle.runner.specs.Refusals.{numberOf, placeOf, firstOf, recordCount, imageTest, traceTest, countTest, beginTest, runTest}
+use Rattle.records.proofs.Test.{the-type}
+use Rattle.periods.specs.Traces.{recordCount, traceTest}
+use Rattle.machine.specs.Limits.{rowBytes, maxRows, headBytes, maxPeriods}
+use Rattle.machine.specs.Images.{rowCount, imageBytes}
+use Rattle.machine.specs.States.{stateOf}
+use Rattle.machine.specs.Refusals.{imageTest, countTest}
+use Rattle.machine.proofs.Images.{rowCount-of}
+use Rattle.machine.proofs.Fresh.{freshState, fresh-read}
+use Rattle.runner.specs.Refusals.{beginTest, runTest}
 use Rattle.runner.specs.Calls.{beginReplyBytes, begin}
-use Rattle.runner.proofs.Test.{the-type}
-use Rattle.runner.proofs.Images.{rowCount-of}
-use Rattle.runner.proofs.StepCalls.{freshState, fresh-read, begin-written, begin-sound}
-use Rattle.contract.specs.declared.Fault.{Fault}
-use Rattle.contract.specs.declared.Fault.the-variants.{BadLength, BadMark, UnknownKind, BadField, BadOperands, NotOneClause, EmptyList}
-use Rattle.contract.specs.Limits.{maxRecords}
+use Rattle.runner.proofs.StepCalls.{begin-written, begin-sound}
 use Rattle.contract.specs.Meaning.{Clause}
-use Rattle.contract.specs.Reader as Reader
-use Rattle.contract.specs.Reader.{Result, refused, taken, faultNumber, read}
-use Rattle.contract.proofs.Reader.{taken-count, taken-spells}
-use Rattle.contract.proofs.Places.{place-most}
-use Rattle.compiler.specs.Widths.{bufferBytes}
-use Rattle.compiler.specs.Images.{image}
-use Rattle.compiler.specs.Monitors.{Monitors}
+use Rattle.reader.specs.declared.Fault.{Fault}
+use Rattle.reader.specs.declared.Fault.the-variants.{BadLength, BadMark, UnknownKind, BadField, BadOperands, NotOneClause, EmptyList}
+use Rattle.reader.specs.Limits.{maxRecords}
+use Rattle.reader.specs.Reader as Reader
+use Rattle.reader.specs.Reader.{Result, refused, taken, faultNumber, read}
+use Rattle.reader.proofs.Reader.{taken-count, taken-spells}
+use Rattle.reader.proofs.Places.{place-most}
+use Rattle.image.specs.Widths.{bufferBytes}
+use Rattle.image.specs.Images.{image}
+use Rattle.image.specs.Monitors.{Monitors}
 use Rattle.compiler.specs.Calls.{compileReply, compileReplyBytes, compile, Usable}
 use Rattle.report.specs.declared.Compiled.{Compiled}
 use Rattle.report.specs.Limits.{inputBytes, tooLong, textBytes}

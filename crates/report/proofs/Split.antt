@@ -8,9 +8,10 @@ use mathlib.Core.Path.{_≡_, sym, _∙_}
 use lib.Dec.{eqb}
 use lib.ListN.{length}
 use borrow.Author.Tests.{eq-eqb, ne-eqb}
-use Rattle.records.specs.Limits.{periodBytes}
-use Rattle.runner.specs.Refusals.{firstFailing, recordCount}
-use Rattle.runner.proofs.Refusals.{failing-most}
+use Rattle.records.specs.Refusals.{firstFailing}
+use Rattle.records.proofs.Refusals.{failing-most}
+use Rattle.periods.specs.Limits.{periodBytes}
+use Rattle.periods.specs.Traces.{recordCount}
 use Rattle.report.specs.Split.{unmarkedAt, firstPeriod, contractLength}
 
 module _ (input : List ℕ) where

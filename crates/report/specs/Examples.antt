@@ -4,7 +4,8 @@ use mathlib.Core.List.{List, [], _∷_, _++_}
 use mathlib.Core.Path.{_≡_}
 use lib.ListN.{length}
 use Rattle.records.specs.Marks.{contractMark, periodMark}
-use Rattle.compiler.specs.Examples.{watchedBytes, dutyBytes}
+use Rattle.image.specs.Examples.{watchedBytes}
+use Rattle.compiler.specs.Examples.{dutyBytes}
 use Rattle.report.specs.Limits.{inputBytes}
 use Rattle.report.specs.Texts.{ascii}
 use Rattle.report.specs.Reports.{report}

@@ -1,6 +1,6 @@
 -- How much `watch` reads, and how much it prints at most. Document 01, "Watch", and "Replies that refuse", 13.
 use Prim.Native.Nat.{ℕ, _+_, _*_, _/_}
-use Rattle.records.specs.Limits.{periodBytes}
+use Rattle.periods.specs.Limits.{periodBytes}
 
 -- "reads standard input up to 65,520 bytes"
 abbrev pub inputBytes : ℕ

@@ -4,19 +4,19 @@ use mathlib.Core.Bool.{true}
 use mathlib.Core.List.{List, []}
 use mathlib.Core.Path.{_≡_}
 use lib.ListN.{length, replicate}
-use Rattle.records.specs.Limits.{periodBytes}
 use Rattle.records.specs.Fields.{field}
-use Rattle.records.specs.Periods.{Period}
-use Rattle.runner.specs.declared.Test.the-variants.{Passed}
-use Rattle.runner.specs.Limits.{headBytes}
-use Rattle.runner.specs.Images.{rowCount}
-use Rattle.runner.specs.Refusals.{recordCount, markedAt, traceTest}
+use Rattle.records.specs.declared.Test.the-variants.{Passed}
+use Rattle.periods.specs.Limits.{periodBytes}
+use Rattle.periods.specs.Periods.{Period}
+use Rattle.periods.specs.Traces.{recordCount, markedAt, traceTest, recordAt}
+use Rattle.machine.specs.Limits.{headBytes}
+use Rattle.machine.specs.Images.{rowCount}
 use Rattle.runner.specs.Calls.{stepReplyBytes, step}
-use Rattle.runner.specs.StepCalls.{StepCall, recordAt}
+use Rattle.runner.specs.StepCalls.{StepCall}
 use Rattle.contract.specs.Meaning.{Clause, EmptyFree}
-use Rattle.contract.specs.Reader.{taken, read}
+use Rattle.reader.specs.Reader.{taken, read}
+use Rattle.image.specs.Monitors.{AnswersCalls, Monitors}
 use Rattle.compiler.specs.Calls.{compileReplyBytes, Compiles}
-use Rattle.compiler.specs.Monitors.{AnswersCalls, Monitors}
 use Rattle.report.specs.declared.Stepped.{Stepped}
 use Rattle.report.specs.declared.Compiled.{Compiled}
 use Rattle.report.specs.Limits.{inputBytes, lineBytes, mostPeriods, textBytes}

@@ -4,12 +4,12 @@ use mathlib.Core.Bool.{cond}
 use mathlib.Core.List.{List, [], _++_}
 use lib.Dec.{eqb, ltb}
 use lib.ListN.{length}
-use Rattle.records.specs.Periods.{Period}
-use Rattle.runner.specs.Refusals.{numberOf, placeOf, recordCount, traceTest}
-use Rattle.runner.specs.Calls.{periodsOf}
+use Rattle.records.specs.Refusals.{numberOf, placeOf}
+use Rattle.periods.specs.Periods.{Period}
+use Rattle.periods.specs.Traces.{recordCount, traceTest, periodsOf}
 use Rattle.contract.specs.Meaning.{Clause, meaning}
 use Rattle.contract.specs.Verdicts.{decisionPeriod, blame, verdict}
-use Rattle.contract.specs.Reader.{Result, refused, taken, faultNumber, read}
+use Rattle.reader.specs.Reader.{Result, refused, taken, faultNumber, read}
 use Rattle.report.specs.Limits.{inputBytes, tooLong}
 use Rattle.report.specs.Texts.{periodLine, decidedLine, refusedLine}
 use Rattle.report.specs.Split.{contractOf, traceOf}

@@ -5,8 +5,9 @@ use mathlib.Core.Bool.{Bool, not, cond}
 use mathlib.Core.List.{List}
 use lib.Dec.{eqb}
 use lib.ListN.{length, take, drop}
-use Rattle.records.specs.Limits.{periodBytes}
-use Rattle.runner.specs.Refusals.{firstFailing, recordCount, markedAt}
+use Rattle.records.specs.Refusals.{firstFailing}
+use Rattle.periods.specs.Limits.{periodBytes}
+use Rattle.periods.specs.Traces.{recordCount, markedAt}
 
 -- the six bytes of number k, counted in sixes from 0, have another mark
 abbrev pub unmarkedAt : List ℕ → ℕ → Bool

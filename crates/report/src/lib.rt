@@ -2,19 +2,19 @@
 ghost use mathlib.Core.Path.{_≡_};
 ghost use Prim.Native.Nat.{_+_, _*_, _≤_, _<_};
 ghost use lib.ListN.{length};
-ghost use Rattle.records.specs.Limits.{periodBytes};
 ghost use Rattle.records.specs.Verdicts.{Verdict, verdictNumber, verdictName};
-ghost use Rattle.runner.specs.Limits.{maxRows, headBytes};
-ghost use Rattle.runner.specs.Refusals.{firstFailing};
-ghost use Rattle.contract.specs.Limits.{maxRecords};
-ghost use Rattle.contract.specs.Reader.{read};
-ghost use Rattle.compiler.specs.Widths.{bufferBytes};
+ghost use Rattle.records.specs.Refusals.{firstFailing};
+ghost use Rattle.periods.specs.Limits.{periodBytes};
+ghost use Rattle.machine.specs.Limits.{maxRows, headBytes};
+ghost use Rattle.reader.specs.Limits.{maxRecords};
+ghost use Rattle.reader.specs.Reader.{read};
+ghost use Rattle.image.specs.Widths.{bufferBytes};
 ghost use Rattle.report.specs.Limits.{inputBytes, nameBytes, lineBytes, textBytes};
 ghost use Rattle.report.specs.Texts.{ascii, decimal, periodLine, decidedLine, refusedLine, Puts};
 ghost use Rattle.report.specs.Split.{unmarkedAt, contractLength, contractOf, traceOf};
 ghost use Rattle.report.specs.Reports.{onContract, report};
 ghost use Rattle.report.specs.Putting.{Compiling, Stepping, Listing, Listed, Following, Followed};
-use runner::Test;
+use records::Test;
 
 // The most bytes of an input.
 pub const INPUT_BYTES: usize = 65520;
@@ -23,11 +23,11 @@ pub const INPUT_BYTES: usize = 65520;
 const TOO_LONG: u64 = 13;
 
 // The image buffer for a contract of 64 records, a state for as many rows as an image can have, and room for a line for each period and one more.
-pub const IMAGE_BYTES: usize = runner::ROW_BYTES * (runner::MAX_ROWS + 1);
+pub const IMAGE_BYTES: usize = machine::ROW_BYTES * (machine::MAX_ROWS + 1);
 
-pub const STATE_BYTES: usize = runner::HEAD_BYTES + runner::MAX_ROWS;
+pub const STATE_BYTES: usize = machine::HEAD_BYTES + machine::MAX_ROWS;
 
-pub const TEXT_BYTES: usize = LINE_BYTES * (INPUT_BYTES / records::PERIOD_BYTES + 1);
+pub const TEXT_BYTES: usize = LINE_BYTES * (INPUT_BYTES / periods::PERIOD_BYTES + 1);
 
 // The most bytes of a line.
 const LINE_BYTES: usize = 21;
@@ -124,7 +124,7 @@ fn first_period(input: &[u8], n: usize) -> usize
 {
     let mut k = 0;
     while k < n {
-        if records::period_marked(input, records::PERIOD_BYTES * k) {
+        if records::period_marked(input, periods::PERIOD_BYTES * k) {
             return k;
         }
         k += 1;
@@ -136,12 +136,12 @@ fn first_period(input: &[u8], n: usize) -> usize
 fn contract_length(input: &[u8]) -> usize
     ensures { λ r. ⌜ r ≡ contractLength (now (input .entry)) ⌝ }
 {
-    let n = runner::record_count(input);
+    let n = periods::record_count(input);
     let k = first_period(input, n);
     if k == n {
         return input.len();
     }
-    records::PERIOD_BYTES * k
+    periods::PERIOD_BYTES * k
 }
 
 // ---- compile and step, with their replies' fields
@@ -175,12 +175,12 @@ fn step(image: &[u8], state: &mut [u8], trace: &[u8], k: usize) -> Stepped
     requires { ⌜ periodBytes * k + periodBytes ≤ length (now trace) ⌝ }
     ensures { λ r. ⌜ Stepping (now (image .entry)) (now (state .entry)) (now (trace .entry)) k (now (state .exit)) r ⌝ }
 {
-    let from = records::PERIOD_BYTES * k;
+    let from = periods::PERIOD_BYTES * k;
     let mut reply = [0u8; 24];
     runner::monitor_step(
         image,
         state,
-        &trace[from..from + records::PERIOD_BYTES],
+        &trace[from..from + periods::PERIOD_BYTES],
         &mut reply,
     );
     Stepped {
@@ -216,7 +216,7 @@ fn follow(image: &[u8], state: &mut [u8], trace: &[u8], text: &mut [u8]) -> usiz
 {
     let mut reply = [0u8; 16];
     runner::monitor_begin(image, state, &mut reply);
-    put_lines(image, state, trace, runner::record_count(trace), text)
+    put_lines(image, state, trace, periods::record_count(trace), text)
 }
 
 // Puts the report of an input of at most INPUT_BYTES.
@@ -233,13 +233,13 @@ fn put_parts(input: &[u8], image: &mut [u8], state: &mut [u8], text: &mut [u8]) 
         return put_refused(text, compiled.number as u64, compiled.place);
     }
     let trace = &input[end..];
-    let t = runner::trace_test(trace);
+    let t = periods::trace_test(trace);
     let Test::Passed = t else {
-        return put_refused(text, runner::number(t) as u64, runner::place(t));
+        return put_refused(text, records::number(t) as u64, records::place(t));
     };
     let rows = compiled.rows as usize;
-    let image_length = runner::ROW_BYTES * (rows + 1);
-    let state_length = runner::HEAD_BYTES + rows;
+    let image_length = machine::ROW_BYTES * (rows + 1);
+    let state_length = machine::HEAD_BYTES + rows;
     follow(
         &image[..image_length],
         &mut state[..state_length],

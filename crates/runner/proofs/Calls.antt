@@ -5,37 +5,16 @@ use native.Mathlib.Nat.{zero-add, mod-eq-of-lt}
 use native.Mathlib.Omega.{arith}
 use mathlib.Core.Path.{_≡_, refl, _∙_}
 use mathlib.Core.List.{List, [], _++_, append-assoc, append-nil}
-use lib.Dec.{lit<}
 use lib.ListN.{length, drop, length-append}
 use lib.Seq.{sets}
 use borrow.Author.Tests.{lt-ltb, le-ltb, eq-eqb, ne-eqb}
 use Rattle.records.specs.Fields.{bytes, field}
+use Rattle.records.specs.declared.Test.{Test}
+use Rattle.records.specs.Refusals.{numberOf, placeOf}
 use Rattle.records.proofs.Fields.{length-bytes}
 use Rattle.records.proofs.Written.{sets-append, drop-after, field-in, field-spelled}
-use Rattle.runner.specs.declared.Test.{Test}
-use Rattle.runner.specs.declared.Test.the-variants.{Passed, BadImage, BadState, BadPeriod, FullCount}
-use Rattle.runner.specs.Refusals.{numberOf, placeOf}
+use Rattle.records.proofs.Refusals.{number-small}
 use Rattle.runner.specs.Calls.{beginReply, stepReply, beginReplyBytes, stepReplyBytes, Gives, unwritten, written, call}
-
--- ---- the numbers of tests
-
-pub number-passed : (t : Test) → numberOf t ≡ 0 → t ≡ Passed
-number-passed Passed h = refl
-number-passed (BadImage k) h = absurd (omega arith)
-number-passed BadState h = absurd (omega arith)
-number-passed (BadPeriod k) h = absurd (omega arith)
-number-passed (FullCount k) h = absurd (omega arith)
-
-pub passed-number : (t : Test) → t ≡ Passed → numberOf t ≡ 0
-passed-number t h = rw h
-
--- a number of 4 bytes
-pub number-small : (t : Test) → numberOf t < 256 ^ 4
-number-small Passed = lit< tt
-number-small (BadImage k) = lit< tt
-number-small BadState = lit< tt
-number-small (BadPeriod k) = lit< tt
-number-small (FullCount k) = lit< tt
 
 -- ---- what a call leaves
 

@@ -3,78 +3,43 @@
 -- (12).
 -- Assumes nothing.
 use Prim.Native.Nat.{ℕ, zero, suc, _+_, _*_, _-_, _%_, _≤_, _<_}
-use native.Mathlib.Nat.{add-zero}
 use native.Mathlib.Numerals.{add-one}
 use native.Mathlib.Omega.{arith}
-use mathlib.Core.Bool.{Bool, true, false, cond, false≢true}
+use mathlib.Core.Bool.{true, false, cond}
 use mathlib.Core.List.{List, [], _∷_, _++_}
 use mathlib.Core.Logic.{_⊎_, ⊎-elim}
 use mathlib.Core.Path.{_≡_, refl, sym, ap, _∙_}
-use borrow.Author.Tests.{le-leb, le-ltb, lt-ltb, eq-eqb, ne-eqb}
-use lib.ListN.{length, getD, drop, length-drop}
-use lib.Seq.{sets, length-take-le, getD-take, getD-drop, drop-drop, take-take}
-use Rattle.records.specs.Limits.{periodBytes}
-use Rattle.records.specs.Fields.{AllBytes, field, value}
-use Rattle.records.specs.Marks.{marked}
-use Rattle.records.specs.Periods.{periodAt}
+use borrow.Author.Tests.{le-leb, lt-ltb, eq-eqb, ne-eqb}
+use lib.ListN.{length}
+use lib.Seq.{sets}
+use Rattle.records.specs.Fields.{AllBytes}
+use Rattle.records.specs.declared.Test.the-variants.{Passed, BadPeriod, FullCount}
+use Rattle.records.specs.Refusals.{numberOf}
 use Rattle.records.proofs.Numbers.{lt-or-le}
 use Rattle.records.proofs.Fields.{field-lt}
-use Rattle.records.proofs.Written.{drop-take}
-use Rattle.runner.specs.declared.Test.the-variants.{Passed, BadPeriod, FullCount}
-use Rattle.runner.specs.Limits.{maxPeriods}
-use Rattle.runner.specs.Images.{imageOf}
-use Rattle.runner.specs.States.{State, stateOf, stateBytes}
-use Rattle.runner.specs.Machine.{afterPeriods}
-use Rattle.runner.specs.Refusals.{numberOf, firstFailing, recordCount, markedAt, marksTest, recordTest, traceTest, countTest, readyTest, stepTest, runTest}
-use Rattle.runner.specs.Calls.{stepReplyBytes, answer, After, periodsOf, step, run}
-use Rattle.runner.specs.StepCalls.{StepCall, accepted, stateAfterCall, stateAfter, acceptedCount, recordAt, callsOf, EndsAsSteps, RefusedAt}
-use Rattle.runner.specs.Computing.{Ready}
-use Rattle.runner.proofs.Refusals.{failing-below, failing-fails, all-pass, first-refused, ready-passed}
-use Rattle.runner.proofs.States.{stateBytes-stateOf}
-use Rattle.runner.proofs.Machine.{after-snoc, periods-afterPeriods}
-use Rattle.runner.proofs.Calls.{number-passed, call-no-room, call-passed, call-refused}
-use Rattle.runner.proofs.Steps.{ready-long, length-periodsOf, later-read, later-ready, run-ready, run-marks}
+use Rattle.records.proofs.Refusals.{failing-is, all-pass, first-refused, number-passed}
+use Rattle.periods.specs.Limits.{periodBytes}
+use Rattle.periods.specs.Periods.{periodAt}
+use Rattle.periods.specs.Traces.{recordCount, markedAt, marksTest, recordTest, traceTest, periodsOf, recordAt}
+use Rattle.periods.proofs.Traces.{length-periodsOf, record-period, record-test, record-refused}
+use Rattle.machine.specs.Limits.{maxPeriods}
+use Rattle.machine.specs.Images.{imageOf}
+use Rattle.machine.specs.States.{stateOf, stateBytes}
+use Rattle.machine.specs.Machine.{afterPeriods}
+use Rattle.machine.specs.Refusals.{countTest}
+use Rattle.machine.specs.Premises.{Ready}
+use Rattle.machine.proofs.States.{stateBytes-stateOf}
+use Rattle.machine.proofs.Machine.{after-snoc, periods-afterPeriods}
+use Rattle.machine.proofs.Steps.{ready-long, later-read, later-ready}
+use Rattle.machine.proofs.Refusals.{passes-count}
+use Rattle.runner.specs.Refusals.{readyTest, stepTest, runTest}
+use Rattle.runner.specs.Calls.{stepReplyBytes, answer, After, step, run}
+use Rattle.runner.specs.StepCalls.{StepCall, accepted, stateAfterCall, stateAfter, acceptedCount, callsOf, EndsAsSteps, RefusedAt}
+use Rattle.runner.proofs.Refusals.{ready-passed, run-ready, run-marks}
+use Rattle.runner.proofs.Calls.{call-no-room, call-passed, call-refused}
 use Rattle.runner.proofs.StepCalls.{accepted-step, taken-step}
 
--- ---- the records of a trace
-
-module _ (trace : List ℕ) (k : ℕ) (h : periodBytes * k + periodBytes ≤ length trace) where
-  length-recordAt : length (recordAt trace k) ≡ periodBytes
-  unfolding recordAt
-  length-recordAt = length-take-le periodBytes (drop (periodBytes * k) trace) (simp length-drop (omega arith))
-
-  byte-at : (j : ℕ) → j < periodBytes → getD (recordAt trace k) j 0 ≡ getD trace (periodBytes * k + j) 0
-  unfolding recordAt
-  byte-at j i = getD-take periodBytes (drop (periodBytes * k) trace) j 0 i ∙ getD-drop (periodBytes * k) trace j 0
-
-  field-at : (j w : ℕ) → j + w ≤ periodBytes → field (recordAt trace k) j w ≡ field trace (periodBytes * k + j) w
-  unfolding recordAt field
-  field-at j w i =
-      ap value (rw (drop-take j periodBytes (drop (periodBytes * k) trace), drop-drop j (periodBytes * k) trace) (take-take w (periodBytes - j) (drop (periodBytes * k + j) trace) (omega arith)))
-
-  pub record-period : periodAt (recordAt trace k) 0 ≡ periodAt trace (periodBytes * k)
-  unfolding periodAt
-  record-period = rw (field-at 2 2 (omega arith), field-at 4 2 (omega arith))
-
-  record-marked : markedAt (recordAt trace k) 0 ≡ markedAt trace k
-  unfolding marked
-  record-marked =
-      let first : getD (recordAt trace k) 0 0 ≡ getD trace (periodBytes * k) 0 = byte-at 0 (omega arith) ∙ rw add-zero in
-      rw (first, byte-at 1 (omega arith))
-
-  pub record-test : markedAt trace k ≡ true → recordTest (recordAt trace k) ≡ Passed
-  unfolding recordTest marksTest recordCount firstFailing
-  record-test m = rw (length-recordAt, record-marked ∙ m)
-
-  record-refused : markedAt trace k ≡ false → recordTest (recordAt trace k) ≡ BadPeriod 0
-  unfolding recordTest marksTest recordCount firstFailing
-  record-refused m = rw (length-recordAt, record-marked ∙ m)
-
 -- ---- steps that are accepted, and steps that are refused
-
-passes-count : (s : State) (n : ℕ) → s .periods + n ≤ maxPeriods → countTest s n ≡ Passed
-unfolding countTest
-passes-count s n h = rw (le-ltb maxPeriods (s .periods + n) (omega arith))
 
 module _ (image l : List ℕ) where
   step-passes : Ready image l 1 → (r : List ℕ) → recordTest r ≡ Passed → stepTest image l r ≡ Passed
@@ -208,13 +173,6 @@ pub refused-length : (image state trace : List ℕ) → readyTest image state �
     → runTest image state trace ≡ BadPeriod 0
 unfolding runTest traceTest
 refused-length image state trace h e = rw (h, ne-eqb (length trace % periodBytes) 0 e)
-
-failing-is : (ok : ℕ → Bool) (n k : ℕ) → k < n → ((i : ℕ) → i < k → ok i ≡ true) → ok k ≡ false → firstFailing ok 0 n ≡ k
-failing-is ok n k h below here =
-    let f = firstFailing ok 0 n in
-    ⊎-elim (λ (l : f < k). absurd (false≢true (sym (failing-fails ok 0 n (omega arith)) ∙ below f l)))
-    (λ l. ⊎-elim (λ (m : k < f). absurd (false≢true (sym here ∙ failing-below ok 0 n k (omega arith) m))) (λ m. omega arith) (lt-or-le k f))
-    (lt-or-le f k)
 
 module _ (image state trace : List ℕ) (h : readyTest image state ≡ Passed) (e : length trace % periodBytes ≡ 0) where
   sound-ready : (n : ℕ) → stateOf state .periods + n ≤ maxPeriods → Ready image state n

@@ -1,7 +1,7 @@
 -- What step calls do to a state, one after the other: a refused call leaves it as it was, an accepted one counts a period and
 -- leaves a sound state of the same length, and a decision never changes. Begin's state is sound.
 -- Assumes nothing.
-use Prim.Native.Nat.{ℕ, zero, suc, _+_, _≤_}
+use Prim.Native.Nat.{ℕ, _+_, _≤_}
 use native.Mathlib.Nat.{add-zero, add-assoc}
 use native.Mathlib.Omega.{arith}
 use mathlib.Core.Bool.{true, false, and-eq-true-iff}
@@ -10,24 +10,28 @@ use mathlib.Core.Logic.{_⊎_, ⊎-elim}
 use mathlib.Core.Path.{_≡_, refl, sym, ap, _∙_}
 use borrow.Author.Tests.{leb-true, eqb-true, eqb-false, le-leb}
 use lib.Dec.{eqb, leb}
-use lib.ListN.{length, getD, replicate, length-replicate, replicate-append-replicate}
-use Rattle.records.specs.Fields.{bytes}
-use Rattle.records.specs.Periods.{periodAt}
+use lib.ListN.{length, replicate}
+use Rattle.records.specs.declared.Test.the-variants.{Passed, BadState}
+use Rattle.records.specs.Refusals.{numberOf}
 use Rattle.records.proofs.Numbers.{lt-or-le}
-use Rattle.runner.specs.declared.Test.the-variants.{Passed, BadState}
-use Rattle.runner.specs.Limits.{headBytes}
-use Rattle.runner.specs.Images.{rowCount, imageOf}
-use Rattle.runner.specs.States.{State, stateOf, stateBytes}
-use Rattle.runner.specs.Machine.{afterPeriod, afterPeriods}
-use Rattle.runner.specs.Refusals.{numberOf, imageTest, stateLengthTest, stateTest, beginTest, readyTest, stepTest}
+use Rattle.records.proofs.Refusals.{true-or-false, first-passed, passed-first, require-passed, state-refused, number-passed}
+use Rattle.periods.specs.Periods.{periodAt}
+use Rattle.machine.specs.Limits.{headBytes}
+use Rattle.machine.specs.Images.{rowCount, imageOf}
+use Rattle.machine.specs.States.{stateOf, stateBytes}
+use Rattle.machine.specs.Machine.{afterPeriod, afterPeriods}
+use Rattle.machine.specs.Refusals.{imageTest, stateLengthTest, stateTest}
+use Rattle.machine.specs.Premises.{Ready}
+use Rattle.machine.proofs.Refusals.{state-passed}
+use Rattle.machine.proofs.States.{sound-passes}
+use Rattle.machine.proofs.Machine.{SameDecision, stays-decided, periods-after}
+use Rattle.machine.proofs.Steps.{later-ready, step-read}
+use Rattle.machine.proofs.Fresh.{freshState, fresh-bytes, fresh-sound}
+use Rattle.runner.specs.Refusals.{beginTest, readyTest, stepTest}
 use Rattle.runner.specs.Calls.{beginReply, beginReplyBytes, stepReplyBytes, answer, After, written, begin, step}
 use Rattle.runner.specs.StepCalls.{StepCall, accepted, stateAfterCall, stateAfter, acceptedCount}
-use Rattle.runner.specs.Computing.{Ready}
-use Rattle.runner.proofs.Refusals.{true-or-false, first-passed, passed-first, require-passed, state-refused, ready-passed, state-passed}
-use Rattle.runner.proofs.States.{Sound, read-back, sound-passes}
-use Rattle.runner.proofs.Machine.{SameDecision, stays-decided, periods-after}
-use Rattle.runner.proofs.Calls.{number-passed, call-no-room, call-passed, call-refused}
-use Rattle.runner.proofs.Steps.{step-ready, later-ready, step-read}
+use Rattle.runner.proofs.Refusals.{ready-passed, step-ready}
+use Rattle.runner.proofs.Calls.{call-no-room, call-passed, call-refused}
 
 -- ---- one call
 
@@ -139,38 +143,6 @@ keeps-decision image state (c ∷ cs) d =
     }
 
 -- ---- begin
-
--- the state of no periods for an image of n rows
-abbrev pub freshState : ℕ → State
-freshState n = record { outcome = 0; blame = 0; periods = 0; decision = 0; values = replicate n 0 }
-
-fresh-bytes : (n : ℕ) → replicate (headBytes + n) 0 ≡ stateBytes (freshState n)
-unfolding stateBytes bytes
-fresh-bytes n = sym (replicate-append-replicate headBytes n 0)
-
-zeros-at : (n i : ℕ) → _≡_ {A = ℕ} (getD (replicate n 0) i 0) 0
-zeros-at zero i = refl
-zeros-at (suc n) zero = refl
-zeros-at (suc n) (suc i) = zeros-at n i
-
-fresh-sound : (n : ℕ) → Sound n (freshState n)
-fresh-sound n =
-    record {
-      long = length-replicate n 0;
-      head = record {
-        outcome≤ = omega arith;
-        blame≤ = omega arith;
-        blame≥ = omega arith;
-        decision≥ = omega arith;
-        undecided = λ e. refl;
-        decision≤ = omega arith;
-      };
-      values≤ = λ i. omega (arith, zeros-at n i);
-      zeros = λ e i. zeros-at n i;
-    }
-
-pub fresh-read : (n : ℕ) → stateOf (replicate (headBytes + n) 0) ≡ freshState n
-fresh-read n = rw (fresh-bytes n) (read-back n (freshState n) (fresh-sound n) (omega arith))
 
 -- begin leaves that state, which is sound
 module _ (image state reply : List ℕ) (r : beginReplyBytes ≤ length reply) (h : beginTest image state ≡ Passed) where

@@ -1,22 +1,23 @@
 -- What begin, step and run leave in the bytes that they were lent. Document 01, "Calls" and "Replies that refuse".
 -- Image, record and trace are lent to be read only, so they are afterwards as they were.
-use Prim.Native.Nat.{ℕ, zero, suc, _+_, _*_}
+use Prim.Native.Nat.{ℕ, _+_}
 use mathlib.Core.Bool.{cond}
-use mathlib.Core.List.{List, [], _∷_, _++_}
+use mathlib.Core.List.{List, _++_}
 use mathlib.Core.Path.{_≡_}
 use lib.Dec.{eqb, ltb}
 use lib.ListN.{length, replicate}
 use lib.Seq.{sets}
-use Rattle.records.specs.Limits.{periodBytes}
 use Rattle.records.specs.Fields.{bytes}
-use Rattle.records.specs.Periods.{Period, periodAt}
 use Rattle.records.specs.Verdicts.{verdictNumber}
-use Rattle.runner.specs.declared.Test.{Test}
-use Rattle.runner.specs.declared.Test.the-variants.{Passed}
-use Rattle.runner.specs.Images.{imageOf}
-use Rattle.runner.specs.States.{State, stateOf, stateBytes}
-use Rattle.runner.specs.Machine.{afterPeriod, afterPeriods, verdict}
-use Rattle.runner.specs.Refusals.{numberOf, placeOf, recordCount, beginTest, stepTest, runTest}
+use Rattle.records.specs.declared.Test.{Test}
+use Rattle.records.specs.declared.Test.the-variants.{Passed}
+use Rattle.records.specs.Refusals.{numberOf, placeOf}
+use Rattle.periods.specs.Periods.{periodAt}
+use Rattle.periods.specs.Traces.{recordCount, periodsOf}
+use Rattle.machine.specs.Images.{imageOf}
+use Rattle.machine.specs.States.{State, stateOf, stateBytes}
+use Rattle.machine.specs.Machine.{afterPeriod, afterPeriods, verdict}
+use Rattle.runner.specs.Refusals.{beginTest, stepTest, runTest}
 
 -- ---- replies
 
@@ -76,11 +77,6 @@ unfoldable pub begin : (image state reply : List ℕ) → After
 begin image state reply =
     let t = beginTest image state in
     call beginReplyBytes t (beginReply t) (beginReply t) (replicate (length state) 0) state reply
-
--- the periods of a trace's first n records
-unfoldable pub periodsOf : List ℕ → ℕ → List Period
-periodsOf trace zero = []
-periodsOf trace (suc n) = periodsOf trace n ++ (periodAt trace (periodBytes * n) ∷ [])
 
 -- "Step takes one period record."
 unfoldable pub step : (image state period reply : List ℕ) → After

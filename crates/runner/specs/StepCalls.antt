@@ -1,16 +1,17 @@
 -- Lists of step calls, each given the state that the last one left. Document 01, "Calls": "The list in demand 3 holds step calls only",
 -- and "Run .. ends as that many steps would".
-use Prim.Native.Nat.{ℕ, zero, suc, _+_, _*_}
+use Prim.Native.Nat.{ℕ, zero, suc, _+_}
 use mathlib.Core.Bool.{Bool, _&&_, cond}
 use mathlib.Core.List.{List, [], _∷_, _++_}
 use mathlib.Core.Path.{_≡_}
 use lib.Dec.{eqb, leb}
-use lib.ListN.{length, take, drop}
+use lib.ListN.{length}
 use lib.Seq.{sets}
-use Rattle.records.specs.Limits.{periodBytes}
-use Rattle.runner.specs.declared.Test.{Test}
-use Rattle.runner.specs.States.{stateOf}
-use Rattle.runner.specs.Refusals.{numberOf, recordCount, stepTest}
+use Rattle.records.specs.declared.Test.{Test}
+use Rattle.records.specs.Refusals.{numberOf}
+use Rattle.periods.specs.Traces.{recordCount, recordAt}
+use Rattle.machine.specs.States.{stateOf}
+use Rattle.runner.specs.Refusals.{stepTest}
 use Rattle.runner.specs.Calls.{answer, stepReplyBytes, step, run}
 
 -- a step call's own arguments: any bytes as its record, and a reply area of any length
@@ -35,10 +36,6 @@ unfoldable pub acceptedCount : (image state : List ℕ) → List StepCall → �
 acceptedCount image state [] = 0
 acceptedCount image state (c ∷ cs) =
     cond (accepted image state c) 1 0 + acceptedCount image (stateAfterCall image state c) cs
-
--- the bytes of a trace's record k
-unfoldable pub recordAt : List ℕ → ℕ → List ℕ
-recordAt trace k = take periodBytes (drop (periodBytes * k) trace)
 
 -- a step call for each of a trace's first n records, each with an area of these bytes
 unfoldable pub callsOf : (trace reply : List ℕ) → ℕ → List StepCall

@@ -1,35 +1,13 @@
-// The runner: begins a state for an image and takes periods, by the row machine. Document 01, "Image and row machine" and "Calls".
+// The runner: begins a state for an image, and takes periods. Document 01, "Calls".
 ghost use mathlib.Core.Path.{_≡_};
-ghost use mathlib.Core.Bool.{true, false, _&&_, _||_};
-ghost use mathlib.Core.Option.{Option·getD};
-ghost use Prim.Native.Nat.{_+_, _*_, _/_, _^_, _<_, _≤_};
-ghost use lib.ListN.{length, getD, replicate};
+ghost use Prim.Native.Nat.{_≤_};
+ghost use lib.ListN.{length, replicate};
 ghost use lib.Seq.{sets};
-ghost use Rattle.records.specs.Limits.{actions, periodBytes};
-ghost use Rattle.records.specs.Fields.{bytes};
-ghost use Rattle.records.specs.Periods.{Party, number, tries, periodOf};
-ghost use Rattle.records.specs.Verdicts.{verdictNumber};
-ghost use Rattle.runner.specs.Limits.{rowBytes, headBytes};
-ghost use Rattle.runner.specs.Rows.{never, rowOf, goodRow};
-ghost use Rattle.runner.specs.Images.{rowCount, goodRowAt, goodEnd, imageOf};
-ghost use Rattle.runner.specs.States.{stateOf, stateBytes, allAtMost, sound};
-ghost use Rattle.runner.specs.Machine.{byteOf, value, outcomeOf, blameOf, afterPeriod, afterPeriods, verdict};
-ghost use Rattle.runner.specs.Refusals.{numberOf, placeOf, firstFailing, imageTest, stateTest, recordCount, markedAt, marksTest, recordTest, traceTest, countTest, beginTest, readyTest, stepTest, runTest};
-ghost use Rattle.runner.specs.Calls.{beginReply, stepReply, answer, beginReplyBytes, stepReplyBytes, Gives, begin, periodsOf, step, run};
-ghost use Rattle.runner.specs.Computing.{soundHead, firstBits, valuesIn, settled, packed, oldIn, newBits, KindRow, NextRow, RowValues, HasRows, withDecision, decidedBytes, Answering, Ready, Working, Advanced};
-use records::Attempts;
-
-// The most rows of an image.
-pub const MAX_ROWS: usize = 2112;
-
-// The bytes of a row, and of an end record.
-pub const ROW_BYTES: usize = 8;
-
-// The bytes of a state before its row values.
-pub const HEAD_BYTES: usize = 10;
-
-// The most periods that a state counts.
-const MAX_PERIODS: u32 = 4294967295;
+ghost use Rattle.machine.specs.States.{stateOf};
+ghost use Rattle.machine.specs.Premises.{Answering};
+ghost use Rattle.runner.specs.Refusals.{beginTest, readyTest, stepTest, runTest};
+ghost use Rattle.runner.specs.Calls.{beginReply, stepReply, answer, beginReplyBytes, stepReplyBytes, Gives, begin, step, run};
+use records::Test;
 
 // Begin's reply: number (4 bytes), 0 (4), place (8).
 const BEGIN_REPLY_BYTES: usize = 16;
@@ -37,276 +15,17 @@ const BEGIN_REPLY_BYTES: usize = 16;
 // Step's and run's: number (4), verdict (4), place (8), blame (4), decision period (4).
 const STEP_REPLY_BYTES: usize = 24;
 
-// What a call's tests find: all passed, or the first refusal with its place.
-pub enum Test {
-    Passed,
-    BadImage(usize),
-    BadState,
-    BadPeriod(usize),
-    FullCount(usize),
-}
-
-// A refusal's number in replies, 0 for none.
-pub fn number(t: Test) -> u32
-    ensures { λ r. ⌜ r ≡ numberOf t ⌝ }
-{
-    match t {
-        Test::Passed => 0,
-        Test::BadImage(_) => 9,
-        Test::BadState => 10,
-        Test::BadPeriod(_) => 11,
-        Test::FullCount(_) => 12,
-    }
-}
-
-// Its place.
-pub fn place(t: Test) -> u64
-    ensures { λ r. ⌜ r ≡ placeOf t ⌝ }
-{
-    match t {
-        Test::Passed => 0,
-        Test::BadImage(k) => k as u64,
-        Test::BadState => 0,
-        Test::BadPeriod(k) => k as u64,
-        Test::FullCount(k) => k as u64,
-    }
-}
-
-// ---- refusal 9
-
-// How many rows stand before the end record.
-fn row_count(image: &[u8]) -> usize
-    requires { ⌜ rowBytes ≤ length (now image) ⌝ }
-    ensures { λ r. ⌜ r ≡ rowCount (now (image .entry)) ⌝ }
-{
-    image.len() / ROW_BYTES - 1
-}
-
-// Whether a kind and its fields make a good row k of an image of n rows.
-fn good_row(kind: u8, x: u32, y: u32, k: usize, n: usize) -> bool
-    ensures { λ r. ⌜ r ≡ goodRow k n (rowOf kind x y) ⌝ }
-{
-    match kind {
-        0..=1 => x == 0 && y == 0,
-        2 => 1 <= x && x <= 2 && records::is_action(y),
-        3 => y == 0 && (x as usize) < k,
-        4..=5 => (x as usize) < k && (y as usize) < k,
-        6 => y == 0 && (x as usize) < n,
-        _ => false,
-    }
-}
-
-// Whether row k of the image is a good one of n rows.
-fn good_row_at(image: &[u8], n: usize, k: usize) -> bool
-    requires { ⌜ rowBytes * k + rowBytes ≤ length (now image) ⌝ }
-    ensures { λ r. ⌜ r ≡ goodRowAt (now (image .entry)) n k ⌝ }
-{
-    let at = ROW_BYTES * k;
-    if !records::row_marked(image, at) {
-        return false;
-    }
-    if image[at + 3] != 0 {
-        return false;
-    }
-    good_row(
-        image[at + 2],
-        records::get2(image, at + 4),
-        records::get2(image, at + 6),
-        k,
-        n,
-    )
-}
-
-// The first bad row of n rows, or n.
-fn first_bad_row(image: &[u8], n: usize) -> usize
-    requires { ⌜ rowBytes * n ≤ length (now image) ⌝ }
-    ensures { λ r. ⌜ r ≡ firstFailing (goodRowAt (now (image .entry)) n) 0 n ⌝ }
-{
-    let mut k = 0;
-    while k < n {
-        if !good_row_at(image, n, k) {
-            return k;
-        }
-        k += 1;
-    }
-    k
-}
-
-// Whether the end record after n rows names three of them.
-fn good_end(image: &[u8], n: usize) -> bool
-    requires { ⌜ rowBytes * n + rowBytes ≤ length (now image) ⌝ }
-    ensures { λ r. ⌜ r ≡ goodEnd (now (image .entry)) n ⌝ }
-{
-    let at = ROW_BYTES * n;
-    if !records::end_marked(image, at) {
-        return false;
-    }
-    (records::get2(image, at + 2) as usize) < n
-        && (records::get2(image, at + 4) as usize) < n
-        && (records::get2(image, at + 6) as usize) < n
-}
-
-// The image's length, its rows, its end record.
-fn image_test(image: &[u8]) -> Test
-    ensures { λ r. ⌜ r ≡ imageTest (now (image .entry)) ⌝ }
-{
-    let bytes = image.len();
-    if bytes % ROW_BYTES != 0 || bytes < 2 * ROW_BYTES || ROW_BYTES * (MAX_ROWS + 1) < bytes {
-        return Test::BadImage(0);
-    }
-    let n = row_count(image);
-    let bad = first_bad_row(image, n);
-    if bad != n {
-        return Test::BadImage(bad);
-    }
-    if !good_end(image, n) {
-        return Test::BadImage(n);
-    }
-    Test::Passed
-}
-
-// ---- refusal 10
-
-// Whether every value is at most `top`.
-fn all_at_most(values: &[u8], top: u8) -> bool
-    ensures { λ r. ⌜ r ≡ allAtMost top (now (values .entry)) ⌝ }
-{
-    let mut k = 0;
-    while k < values.len() {
-        if top < values[k] {
-            return false;
-        }
-        k += 1;
-    }
-    true
-}
-
-// Whether outcome, blame, periods taken and decision period are those of a sound state.
-fn sound_head(outcome: u32, blame: u32, periods: u32, decision: u32) -> bool
-    ensures { λ r. ⌜ r ≡ soundHead outcome blame periods decision ⌝ }
-{
-    match outcome {
-        0 => blame == 0 && decision == 0,
-        1 => blame == 0 && 0 < decision && decision <= periods,
-        2 => 0 < blame && blame <= 3 && 0 < decision && decision <= periods,
-        _ => false,
-    }
-}
-
-// Whether the state is sound.
-fn sound(state: &[u8]) -> bool
-    requires { ⌜ headBytes ≤ length (now state) ⌝ }
-    ensures { λ r. ⌜ r ≡ sound (stateOf (now (state .entry))) ⌝ }
-{
-    let periods = records::get4(state, 2);
-    if !sound_head(
-        records::wide(state[0]),
-        records::wide(state[1]),
-        periods,
-        records::get4(state, 6),
-    ) {
-        return false;
-    }
-    if periods == 0 {
-        all_at_most(&state[HEAD_BYTES..], 0)
-    } else {
-        all_at_most(&state[HEAD_BYTES..], 1)
-    }
-}
-
-// The state's length, and whether it is sound.
-fn state_test(n: usize, state: &[u8]) -> Test
-    requires { ⌜ n < 2 ^ 32 ⌝ }
-    ensures { λ r. ⌜ r ≡ stateTest n (now (state .entry)) ⌝ }
-{
-    if state.len() != HEAD_BYTES + n {
-        return Test::BadState;
-    }
-    if !sound(state) {
-        return Test::BadState;
-    }
-    Test::Passed
-}
-
-// ---- refusals 11 and 12
-
-// How many period records a trace has.
-pub fn record_count(trace: &[u8]) -> usize
-    ensures { λ r. ⌜ r ≡ recordCount (now (trace .entry)) ⌝ }
-{
-    trace.len() / records::PERIOD_BYTES
-}
-
-// The first of n records without a period record's mark, or n.
-fn first_unmarked(trace: &[u8], n: usize) -> usize
-    requires { ⌜ periodBytes * n ≤ length (now trace) ⌝ }
-    ensures { λ r. ⌜ r ≡ firstFailing (markedAt (now (trace .entry))) 0 n ⌝ }
-{
-    let mut k = 0;
-    while k < n {
-        if !records::period_marked(trace, records::PERIOD_BYTES * k) {
-            return k;
-        }
-        k += 1;
-    }
-    k
-}
-
-// The marks of a trace of whole records.
-fn marks_test(trace: &[u8]) -> Test
-    ensures { λ r. ⌜ r ≡ marksTest (now (trace .entry)) ⌝ }
-{
-    let n = record_count(trace);
-    let bad = first_unmarked(trace, n);
-    if bad != n {
-        return Test::BadPeriod(bad);
-    }
-    Test::Passed
-}
-
-// A step's record: its length, then its mark.
-fn record_test(period: &[u8]) -> Test
-    ensures { λ r. ⌜ r ≡ recordTest (now (period .entry)) ⌝ }
-{
-    if period.len() != records::PERIOD_BYTES {
-        return Test::BadPeriod(0);
-    }
-    marks_test(period)
-}
-
-// A run's trace: its length, then its marks.
-pub fn trace_test(trace: &[u8]) -> Test
-    ensures { λ r. ⌜ r ≡ traceTest (now (trace .entry)) ⌝ }
-{
-    if trace.len() % records::PERIOD_BYTES != 0 {
-        return Test::BadPeriod(0);
-    }
-    marks_test(trace)
-}
-
-// Whether n more periods can be counted in the state.
-fn count_test(state: &[u8], n: usize) -> Test
-    requires { ⌜ headBytes ≤ length (now state) ⌝ }
-    ensures { λ r. ⌜ r ≡ countTest (stateOf (now (state .entry))) n ⌝ }
-{
-    let left = (MAX_PERIODS - records::get4(state, 2)) as usize;
-    if left < n {
-        return Test::FullCount(left);
-    }
-    Test::Passed
-}
-
 // ---- the tests of each call
 
 // Begin: the image, then the state's length.
 fn begin_test(image: &[u8], state: &[u8]) -> Test
     ensures { λ r. ⌜ r ≡ beginTest (now (image .entry)) (now (state .entry)) ⌝ }
 {
-    let t = image_test(image);
+    let t = machine::image_test(image);
     let Test::Passed = t else {
         return t;
     };
-    if state.len() != HEAD_BYTES + row_count(image) {
+    if state.len() != machine::HEAD_BYTES + machine::row_count(image) {
         return Test::BadState;
     }
     Test::Passed
@@ -316,11 +35,11 @@ fn begin_test(image: &[u8], state: &[u8]) -> Test
 fn ready_test(image: &[u8], state: &[u8]) -> Test
     ensures { λ r. ⌜ r ≡ readyTest (now (image .entry)) (now (state .entry)) ⌝ }
 {
-    let t = image_test(image);
+    let t = machine::image_test(image);
     let Test::Passed = t else {
         return t;
     };
-    state_test(row_count(image), state)
+    machine::state_test(machine::row_count(image), state)
 }
 
 // Step: then the record, then the count.
@@ -331,11 +50,11 @@ fn step_test(image: &[u8], state: &[u8], period: &[u8]) -> Test
     let Test::Passed = t else {
         return t;
     };
-    let u = record_test(period);
+    let u = periods::record_test(period);
     let Test::Passed = u else {
         return u;
     };
-    count_test(state, 1)
+    machine::count_test(state, 1)
 }
 
 // Run: then the trace, then the count.
@@ -346,212 +65,23 @@ fn run_test(image: &[u8], state: &[u8], trace: &[u8]) -> Test
     let Test::Passed = t else {
         return t;
     };
-    let u = trace_test(trace);
+    let u = periods::trace_test(trace);
     let Test::Passed = u else {
         return u;
     };
-    count_test(state, record_count(trace))
-}
-
-// ---- one period of the row machine
-
-// Whether party `party` tries the action.
-fn tried(a: Attempts, party: u32, action: u32) -> bool
-    requires { ⌜ action < actions ⌝ }
-    ensures { λ r. ⌜ ((p : Party) → party ≡ number p → r ≡ tries (periodOf a) p action) ⌝ }
-{
-    if party == 1 {
-        records::bit(a.one, action)
-    } else {
-        records::bit(a.two, action)
-    }
-}
-
-// What row x was in the period before, where the first k rows have new values.
-fn old_value(values: &[u8], k: usize, x: usize) -> u8
-    requires { ⌜ (x < length (now values)) × (allAtMost 3 (now values) ≡ true) ⌝ }
-    ensures { λ r. ⌜ r ≡ byteOf (getD (oldIn k (now (values .entry))) x false) ⌝ }
-{
-    if x < k { values[x] / 2 } else { values[x] % 2 }
-}
-
-// The value of row k with this kind and these fields, as 0 or 1.
-fn kind_value(values: &[u8], k: usize, kind: u8, x: u32, y: u32, a: Attempts, first: bool) -> u8
-    requires { ⌜ KindRow k (now values) kind x y first ⌝ }
-    ensures { λ r. ⌜ r ≡ byteOf (value first (periodOf a) (oldIn k (now (values .entry))) (valuesIn (now (values .entry))) (Option·getD (rowOf kind x y) never)) ⌝ }
-{
-    match kind {
-        0 => 0,
-        1 => first as u8,
-        2 => tried(a, x, y) as u8,
-        3 => 1 - (values[x as usize] & 1),
-        4 => (values[x as usize] & 1) & (values[y as usize] & 1),
-        5 => (values[x as usize] & 1) | (values[y as usize] & 1),
-        // A good row has no kind above 6.
-        6..=255 => old_value(values, k, x as usize),
-    }
-}
-
-// Row k's value as 0 or 1. Of the row values, those of the lower rows hold new + 2 × old, the others their value in the first bit.
-fn row_value(image: &[u8], values: &[u8], k: usize, a: Attempts, first: bool) -> u8
-    requires { ⌜ NextRow (now image) (now values) k first ⌝ }
-    ensures { λ r. ⌜ r ≡ byteOf (value first (periodOf a) (oldIn k (now (values .entry))) (valuesIn (now (values .entry))) (getD (imageOf (now (image .entry)) .rows) k never)) ⌝ }
-{
-    let at = ROW_BYTES * k;
-    kind_value(
-        values,
-        k,
-        image[at + 2],
-        records::get2(image, at + 4),
-        records::get2(image, at + 6),
-        a,
-        first,
-    )
-}
-
-// Gives every row its new value, in order, beside the old one.
-fn compute(image: &[u8], values: &mut [u8], a: Attempts, first: bool)
-    requires { ⌜ RowValues (now image) (now values) first ⌝ }
-    ensures { λ _. ⌜ now (values .exit) ≡ packed (valuesIn (now (values .entry))) (newBits (now (image .entry)) (periodOf a) first (firstBits (now (values .entry)))) ⌝ }
-{
-    let mut k = 0;
-    while k < values.len() {
-        values[k] = 2 * (values[k] & 1) + row_value(image, values, k, a, first);
-        k += 1;
-    }
-}
-
-// Keeps the first bits alone.
-fn keep_first(values: &mut [u8])
-    ensures { λ _. ⌜ now (values .exit) ≡ firstBits (now (values .entry)) ⌝ }
-{
-    let mut k = 0;
-    while k < values.len() {
-        values[k] = values[k] % 2;
-        k += 1;
-    }
-}
-
-// Leaves each row's value alone in its byte.
-fn settle(state: &mut [u8])
-    requires { ⌜ headBytes ≤ length (now state) ⌝ }
-    ensures { λ _. ⌜ now (state .exit) ≡ settled (now (state .entry)) ⌝ }
-{
-    keep_first(&mut state[HEAD_BYTES..]);
-}
-
-// The outcome that the values of S, V1 and V2 give.
-fn outcome(sat: bool, v1: bool, v2: bool) -> u8
-    ensures { λ r. ⌜ r ≡ outcomeOf sat v1 v2 ⌝ }
-{
-    if v1 {
-        return 2;
-    }
-    if v2 {
-        return 2;
-    }
-    sat as u8
-}
-
-// The blame that the values of V1 and V2 give.
-fn blame(v1: bool, v2: bool) -> u8
-    ensures { λ r. ⌜ r ≡ blameOf v1 v2 ⌝ }
-{
-    v1 as u8 + 2 * (v2 as u8)
-}
-
-// Writes outcome, blame and decision period as the values of S, V1 and V2 give them in a period.
-fn put_decision(state: &mut [u8], sat: bool, v1: bool, v2: bool, period: u32)
-    requires { ⌜ headBytes ≤ length (now state) ⌝ }
-    ensures { λ _. ⌜ now (state .exit) ≡ withDecision sat v1 v2 period (now (state .entry)) ⌝ }
-{
-    let o = outcome(sat, v1, v2);
-    state[0] = o;
-    state[1] = blame(v1, v2);
-    if o == 0 {
-        records::put4(state, 6, 0);
-    } else {
-        records::put4(state, 6, period);
-    }
-}
-
-// Decides in a period whose row values the state holds.
-fn decide(image: &[u8], state: &mut [u8], period: u32)
-    requires { ⌜ HasRows (now image) (now state) ⌝ }
-    ensures { λ _. ⌜ now (state .exit) ≡ decidedBytes (imageOf (now (image .entry))) period (now (state .entry)) ⌝ }
-{
-    let end = image.len() - ROW_BYTES;
-    let sat = state[HEAD_BYTES + records::get2(image, end + 2) as usize] % 2 == 1;
-    let v1 = state[HEAD_BYTES + records::get2(image, end + 4) as usize] % 2 == 1;
-    let v2 = state[HEAD_BYTES + records::get2(image, end + 6) as usize] % 2 == 1;
-    put_decision(state, sat, v1, v2, period);
-}
-
-// One period: the row machine on both parties' attempts. It leaves older values in second bits, so that the next period needs no pass before it.
-fn advance(image: &[u8], state: &mut [u8], a: Attempts)
-    requires { ⌜ Working (now image) (now state) 1 ⌝ }
-    ensures { λ _. ⌜ Advanced (now (image .entry)) (now (state .entry)) (periodOf a) (now (state .exit)) ⌝ }
-{
-    let taken = records::get4(state, 2);
-    records::put4(state, 2, taken + 1);
-    if state[0] == 0 {
-        compute(image, &mut state[HEAD_BYTES..], a, taken == 0);
-        decide(image, state, taken + 1);
-    }
-}
-
-// One period by itself.
-fn take_period(image: &[u8], state: &mut [u8], a: Attempts)
-    requires { ⌜ Ready (now image) (now state) 1 ⌝ }
-    ensures { λ _. ⌜ now (state .exit) ≡ stateBytes (afterPeriod (imageOf (now (image .entry))) (periodOf a) (stateOf (now (state .entry)))) ⌝ }
-{
-    advance(image, state, a);
-    settle(state);
-}
-
-// The periods of a trace of n records.
-fn take_periods(image: &[u8], state: &mut [u8], trace: &[u8], n: usize)
-    requires { ⌜ Ready (now image) (now state) n × (periodBytes * n ≤ length (now trace)) ⌝ }
-    ensures { λ _. ⌜ now (state .exit) ≡ stateBytes (afterPeriods (imageOf (now (image .entry))) (stateOf (now (state .entry))) (periodsOf (now (trace .entry)) n)) ⌝ }
-{
-    let mut k = 0;
-    while k < n {
-        advance(
-            image,
-            state,
-            records::read_period(trace, records::PERIOD_BYTES * k),
-        );
-        k += 1;
-    }
-    settle(state);
+    machine::count_test(state, periods::record_count(trace))
 }
 
 // ---- replies
-
-// The verdict's number that a state shows.
-fn verdict(state: &[u8]) -> u32
-    requires { ⌜ Answering (now state) ⌝ }
-    ensures { λ r. ⌜ r ≡ verdictNumber (verdict (stateOf (now (state .entry)))) ⌝ }
-{
-    let outcome = state[0];
-    if outcome == 0 {
-        return 0;
-    }
-    if records::get4(state, 6) < records::get4(state, 2) {
-        if outcome == 1 { 3 } else { 4 }
-    } else {
-        if outcome == 1 { 1 } else { 2 }
-    }
-}
 
 // Writes begin's reply, accepted or refused.
 fn put_begin_reply(reply: &mut [u8], t: Test)
     requires { ⌜ beginReplyBytes ≤ length (now reply) ⌝ }
     ensures { λ _. ⌜ now (reply .exit) ≡ sets (now (reply .entry)) 0 (beginReply t) ⌝ }
 {
-    records::put4(reply, 0, number(t));
+    records::put4(reply, 0, records::number(t));
     records::put4(reply, 4, 0);
-    records::put8(reply, 8, place(t));
+    records::put8(reply, 8, records::place(t));
 }
 
 // Writes step's or run's reply.
@@ -559,9 +89,9 @@ fn put_step_reply(reply: &mut [u8], t: Test, verdict: u32, blame: u32, decision:
     requires { ⌜ stepReplyBytes ≤ length (now reply) ⌝ }
     ensures { λ _. ⌜ now (reply .exit) ≡ sets (now (reply .entry)) 0 (stepReply t verdict blame decision) ⌝ }
 {
-    records::put4(reply, 0, number(t));
+    records::put4(reply, 0, records::number(t));
     records::put4(reply, 4, verdict);
-    records::put8(reply, 8, place(t));
+    records::put8(reply, 8, records::place(t));
     records::put4(reply, 16, blame);
     records::put4(reply, 20, decision);
 }
@@ -574,7 +104,7 @@ fn put_answer(reply: &mut [u8], state: &[u8])
     put_step_reply(
         reply,
         Test::Passed,
-        verdict(state),
+        machine::verdict(state),
         records::wide(state[1]),
         records::get4(state, 6),
     );
@@ -603,7 +133,7 @@ pub extern "C" fn monitor_begin(image: &[u8], state: &mut [u8], reply: &mut [u8]
     }
     let t = begin_test(image, state);
     put_begin_reply(reply, t);
-    if number(t) == 0 {
+    if records::number(t) == 0 {
         clear(state);
     }
     1
@@ -623,11 +153,11 @@ pub extern "C" fn monitor_step(
         return 0;
     }
     let t = step_test(image, state, period);
-    if number(t) != 0 {
+    if records::number(t) != 0 {
         put_step_reply(reply, t, 0, 0, 0);
         return 1;
     }
-    take_period(image, state, records::read_period(period, 0));
+    machine::take_periods(image, state, period, 1);
     put_answer(reply, state);
     1
 }
@@ -641,11 +171,11 @@ pub extern "C" fn monitor_run(image: &[u8], state: &mut [u8], trace: &[u8], repl
         return 0;
     }
     let t = run_test(image, state, trace);
-    if number(t) != 0 {
+    if records::number(t) != 0 {
         put_step_reply(reply, t, 0, 0, 0);
         return 1;
     }
-    take_periods(image, state, trace, record_count(trace));
+    machine::take_periods(image, state, trace, periods::record_count(trace));
     put_answer(reply, state);
     1
 }

@@ -7,7 +7,8 @@ use crate::timing::{exponent, nanoseconds, number, Plan, Side};
 use reference::{Monitor, Period};
 use std::array;
 
-const LENGTHS: [usize; 7] = [1, 2, 4, 8, 16, 32, 64];
+/// The numbers of records that are measured of each family.
+pub const LENGTHS: [usize; 7] = [1, 2, 4, 8, 16, 32, 64];
 /// Shorter contracts don't count in the exponent of growth.
 const LEAST_GROWN: usize = 8;
 
@@ -36,9 +37,14 @@ fn measure_family(plan: &Plan, family: &Family) {
     line(plan, "us", times.map(|n| number(n / 1e3)), &growth(times));
 }
 
+/// As many calls on a contract of so many records as make a turn.
+pub fn calls(plan: &Plan, records: usize) -> usize {
+    plan.size(16_384 / records, 1)
+}
+
 /// The best time for each contract in nanoseconds. The contracts take turns.
 fn times(plan: &Plan, contracts: &[Vec<u8>; LENGTHS.len()]) -> [f64; LENGTHS.len()] {
-    let calls = LENGTHS.map(|records| plan.size(16_384 / records, 1));
+    let calls = LENGTHS.map(|records| calls(plan, records));
     let mut sides: Vec<Side> = Vec::new();
     for (contract, calls) in contracts.iter().zip(calls) {
         let mut image = vec![0; LONGEST_IMAGE];

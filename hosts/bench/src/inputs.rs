@@ -4,6 +4,13 @@ use crate::product::ROW;
 use monitor::Period;
 use reference::{Clause, Decision, Monitor};
 
+/// An image, and a trace that doesn't decide.
+pub struct Input {
+    pub name: String,
+    pub image: Vec<u8>,
+    pub trace: Vec<u8>,
+}
+
 /// Random numbers (xorshift), the same in each run.
 pub struct Random(u64);
 

@@ -5,25 +5,13 @@
 //! is given, the program `watch`. Whatever is timed together is also checked to agree. With
 //! `--check` all sizes are tiny, nothing is printed but the last line, and no time counts.
 
-#![deny(unsafe_code)]
+#![forbid(unsafe_code)]
 
-mod compile;
-mod contracts;
-mod inputs;
-mod periods;
-#[allow(unsafe_code)]
-mod plain;
-mod product;
-mod rows;
-mod steps;
-mod timing;
-mod tree;
-mod watch;
-
+use bench::timing::Plan;
+use bench::{compile, periods, rows, steps, tree, watch};
 use std::env;
 use std::path::PathBuf;
 use std::process::ExitCode;
-use timing::Plan;
 
 const USAGE: &str = "usage: bench [--check] [--watch PATH]";
 

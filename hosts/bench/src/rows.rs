@@ -1,18 +1,12 @@
 //! Section 1: `run` against row machines without checks, by row visits.
 
 use crate::contracts::{self, Open};
-use crate::inputs::{self, Random};
+use crate::inputs::{self, Input, Random};
 use crate::plain::{self, Machine, PLACES};
 use crate::product;
-use crate::timing::{nanoseconds, Plan, Side, Times};
+use crate::timing::{fastest, nanoseconds, Plan, Side, Times};
 use std::fmt::Display;
 use std::iter;
-
-struct Input {
-    name: String,
-    image: Vec<u8>,
-    trace: Vec<u8>,
-}
 
 pub fn measure(plan: &Plan) {
     plan.say(
@@ -29,7 +23,8 @@ pub fn measure(plan: &Plan) {
     }
 }
 
-fn inputs(plan: &Plan) -> Vec<Input> {
+/// The images that `run` is timed on, with their traces.
+pub fn inputs(plan: &Plan) -> Vec<Input> {
     let random = &mut Random::new();
     let lone = inputs::without_decision(product::image_of(&contracts::duty()));
     let periods = periods_for(plan, &lone);
@@ -95,16 +90,7 @@ fn measure_input(plan: &Plan, input: &Input) {
             machine.name()
         );
     }
-    print(plan, input, &machines[0], &fastest(&times));
-}
-
-/// Of `run` and of each machine the times in the place where it is fastest.
-fn fastest(times: &[Times]) -> Vec<&Times> {
-    let sides = times.len() / PLACES;
-    let by_best = |one: &&Times, two: &&Times| one.best().total_cmp(&two.best());
-    (0..sides)
-        .filter_map(|side| times.iter().skip(side).step_by(sides).min_by(by_best))
-        .collect()
+    print(plan, input, &machines[0], &fastest(&times, PLACES));
 }
 
 fn time_run(input: &Input, state: &mut [u8]) -> f64 {

@@ -1,7 +1,7 @@
 //! Section 3: a call of `step` for each period against one call of `run`.
 
 use crate::contracts;
-use crate::inputs::{self, Random};
+use crate::inputs::{self, Input, Random};
 use crate::product::{self, Answer, PERIOD};
 use crate::timing::{nanoseconds, Plan};
 
@@ -12,7 +12,15 @@ pub fn measure(plan: &Plan) {
          `step` to `run`.\n",
     );
     line(plan, ["image", "rows", "run", "step", "ratio"]);
+    for input in inputs(plan) {
+        measure_input(plan, &input);
+    }
+}
+
+/// The images that `step` is timed on, with their traces: the smallest first, the largest last.
+pub fn inputs(plan: &Plan) -> Vec<Input> {
     let random = &mut Random::new();
+    let mut inputs = Vec::new();
     for contract in [
         contracts::repeated_duty(),
         contracts::repaired_duty(),
@@ -21,16 +29,22 @@ pub fn measure(plan: &Plan) {
         contracts::long_expression(),
     ] {
         let periods = plan.size(100_000 / contract.records, 30);
-        let trace = inputs::open(random, &contract.clause(), contract.kept, periods);
-        let name = format!("{} records, {}", contract.records, contract.name);
-        measure_image(plan, &name, &product::image_of(&contract.bytes), &trace);
+        inputs.push(Input {
+            name: format!("{} records, {}", contract.records, contract.name),
+            image: product::image_of(&contract.bytes),
+            trace: inputs::open(random, &contract.clause(), contract.kept, periods),
+        });
     }
-    let mixed = inputs::mixed_image(random, 2112);
-    let trace = inputs::any(random, plan.size(1_000, 30));
-    measure_image(plan, "mixed rows by hand", &mixed, &trace);
+    inputs.push(Input {
+        name: "mixed rows by hand".into(),
+        image: inputs::mixed_image(random, 2112),
+        trace: inputs::any(random, plan.size(1_000, 30)),
+    });
+    inputs
 }
 
-fn measure_image(plan: &Plan, name: &str, image: &[u8], trace: &[u8]) {
+fn measure_input(plan: &Plan, input: &Input) {
+    let Input { name, image, trace } = input;
     let (mut ran, mut stepped) = (product::begin(image), product::begin(image));
     let (mut at_once, mut at_last) = (Answer::default(), Answer::default());
     let times = plan.measure(&mut [

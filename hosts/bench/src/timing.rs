@@ -78,12 +78,26 @@ impl Times {
         format!("{} ({})", each(self.best()), each(median(self.0.clone())))
     }
 
-    /// The ratio to the other side's times: of the bests, and the median of the turns.
-    pub fn ratio(&self, other: &Times) -> String {
+    /// The ratios to the other side's times: of the bests, and the median of the turns.
+    pub fn ratios(&self, other: &Times) -> [f64; 2] {
         let turns = self.0.iter().zip(&other.0).map(|(own, other)| own / other);
-        let median = median(turns.collect());
-        format!("{:.2} ({median:.2})", self.best() / other.best())
+        [self.best() / other.best(), median(turns.collect())]
     }
+
+    /// Both ratios in print.
+    pub fn ratio(&self, other: &Times) -> String {
+        let [best, median] = self.ratios(other);
+        format!("{best:.2} ({median:.2})")
+    }
+}
+
+/// Of each side the times in the place where it is fastest. All sides of a place stand together.
+pub fn fastest(times: &[Times], places: usize) -> Vec<&Times> {
+    let sides = times.len() / places;
+    let by_best = |one: &&Times, two: &&Times| one.best().total_cmp(&two.best());
+    (0..sides)
+        .filter_map(|side| times.iter().skip(side).step_by(sides).min_by(by_best))
+        .collect()
 }
 
 fn median(mut values: Vec<f64>) -> f64 {

@@ -7,20 +7,9 @@
 
 #![forbid(unsafe_code)]
 
-mod cases;
-mod check;
-mod contracts;
-mod guard;
-mod images;
-mod random;
-mod report;
-mod shrink;
-mod small;
-mod traces;
-mod watch;
-
-use cases::{Case, Start, FAMILIES};
-use report::{Summary, Tally};
+use compare::cases::{Case, Start, FAMILIES};
+use compare::report::{self, Summary, Tally};
+use compare::{check, shrink, small, watch};
 use std::env;
 use std::path::{Path, PathBuf};
 use std::process::ExitCode;

@@ -1,4 +1,4 @@
-//! The four calls as the archives have them, on byte slices of any length.
+//! The four calls as the archive has them, on byte slices of any length.
 //!
 //! The result is 1, or 0 where the reply area is too short: then nothing is written. A refusal
 //! writes the reply alone. Every field is low byte first:

@@ -3,18 +3,18 @@
 use borrow.Author.Needs.{needs}
 use native.Mathlib.Omega.{arith}
 use mathlib.Core.Path.{_≡_, sym, _∙_}
-use Rattle.contract.specs.declared.Answer.the-variants.{Taken}
-use Rattle.contract.specs.Reader.{answer}
+use Rattle.reader.specs.declared.Answer.the-variants.{Taken}
+use Rattle.reader.specs.Reader.{answer}
+use Rattle.reader.proofs.number.Reads as number-reads
+use Rattle.reader.proofs.place.Reads as place-reads
+use Rattle.reader.proofs.read.Reads as read-reads
+use Rattle.emitter.proofs.put_image.Reads as put-image-reads
 use Rattle.compiler.proofs.Calls.{no-room, turned-away, short, served, few-records, may-write}
 use Rattle.compiler.proofs.monitor_compile.Statement.{statement}
 use Rattle.compiler.proofs.monitor_compile.Tie as tie
 use Rattle.compiler.proofs.monitor_compile.Reads as reads
 use Rattle.compiler.proofs.monitor_compile.Lts as lts
-use Rattle.compiler.proofs.put_image.Reads as put-image-reads
 use Rattle.compiler.proofs.put_reply.Reads as put-reply-reads
-use Rattle.contract.proofs.number.Reads as number-reads
-use Rattle.contract.proofs.place.Reads as place-reads
-use Rattle.contract.proofs.read.Reads as read-reads
 
 returns : tie.Need-returns
 returns c = no-room _ _ _ (c .if1 .taken)

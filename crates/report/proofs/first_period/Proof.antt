@@ -5,8 +5,8 @@ use native.Mathlib.Nat.{sub-zero}
 use native.Mathlib.Omega.{arith}
 use mathlib.Core.Bool.{not}
 use mathlib.Core.Path.{_≡_, sym, ap, _∙_}
-use Rattle.runner.specs.Refusals.{firstFailing}
-use Rattle.runner.proofs.Refusals.{failing-next, failing-here, failing-end}
+use Rattle.records.specs.Refusals.{firstFailing}
+use Rattle.records.proofs.Refusals.{failing-next, failing-here, failing-end}
 use Rattle.report.specs.Split.{unmarkedAt}
 use Rattle.report.proofs.first_period.Statement.{statement}
 use Rattle.report.proofs.first_period.Tie as tie

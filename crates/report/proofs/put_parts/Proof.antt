@@ -5,6 +5,9 @@ use native.Mathlib.Omega.{arith}
 use mathlib.Core.Path.{sym, _∙_}
 use lib.ListN.{take}
 use lib.Seq.{length-take-le}
+use Rattle.records.proofs.number.Reads as number-reads
+use Rattle.records.proofs.place.Reads as place-reads
+use Rattle.periods.proofs.trace_test.Reads as trace-test-reads
 use Rattle.report.proofs.Texts.{short-refused}
 use Rattle.report.proofs.Reports.{end-within, front-length, contract-refused, Served, served, trace-refused, may-follow, followed}
 use Rattle.report.proofs.put_parts.Statement.{statement}
@@ -15,9 +18,6 @@ use Rattle.report.proofs.compile.Reads as compile-reads
 use Rattle.report.proofs.contract_length.Reads as contract-length-reads
 use Rattle.report.proofs.follow.Reads as follow-reads
 use Rattle.report.proofs.put_refused.Reads as put-refused-reads
-use Rattle.runner.proofs.number.Reads as number-reads
-use Rattle.runner.proofs.place.Reads as place-reads
-use Rattle.runner.proofs.trace_test.Reads as trace-test-reads
 
 contract-length-requires : tie.Need-contract-length-requires
 contract-length-requires c κs = search needs

@@ -1,9 +1,9 @@
 -- `report::step` meets its contract: the part of the trace is its record k, and the fields are read from the reply.
 -- Assumes nothing.
 use Rattle.report.proofs.Following.{stepped-on}
-use borrow.Author.Needs.{needs}
 use Rattle.report.proofs.step.Statement.{statement}
 use Rattle.report.proofs.step.Tie as tie
+use borrow.Author.Needs.{needs}
 
 mul-from : tie.Need-mul-from
 mul-from c = search needs

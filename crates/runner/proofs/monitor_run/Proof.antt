@@ -3,22 +3,26 @@
 use native.Mathlib.Omega.{arith}
 use mathlib.Core.Path.{_≡_, sym, _∙_}
 use lib.ListN.{length}
-use Rattle.runner.specs.declared.Test.the-variants.{Passed}
-use Rattle.runner.specs.Refusals.{recordCount, runTest}
-use Rattle.runner.specs.Calls.{stepReplyBytes, refusal, periodsOf, run}
-use Rattle.runner.proofs.Calls.{number-passed, gives-no-room, gives-refused, gives-passed}
-use Rattle.runner.proofs.Steps.{length-periodsOf, later-read, later-answering, run-ready}
-use borrow.Author.Needs.{needs}
+use Rattle.records.specs.declared.Test.the-variants.{Passed}
+use Rattle.records.proofs.Refusals.{number-passed}
+use Rattle.records.proofs.number.Reads as number-reads
+use Rattle.periods.specs.Traces.{recordCount, periodsOf}
+use Rattle.periods.proofs.Traces.{length-periodsOf}
+use Rattle.periods.proofs.record_count.Reads as record-count-reads
+use Rattle.machine.proofs.Steps.{later-read, later-answering}
+use Rattle.machine.proofs.take_periods.Reads as take-periods-reads
+use Rattle.runner.specs.Refusals.{runTest}
+use Rattle.runner.specs.Calls.{stepReplyBytes, refusal, run}
+use Rattle.runner.proofs.Calls.{gives-no-room, gives-refused, gives-passed}
+use Rattle.runner.proofs.Refusals.{run-ready}
 use Rattle.runner.proofs.monitor_run.Statement.{statement}
 use Rattle.runner.proofs.monitor_run.Tie as tie
 use Rattle.runner.proofs.monitor_run.Reads as reads
 use Rattle.runner.proofs.monitor_run.Lts as lts
-use Rattle.runner.proofs.number.Reads as number-reads
 use Rattle.runner.proofs.put_answer.Reads as put-answer-reads
 use Rattle.runner.proofs.put_step_reply.Reads as put-step-reply-reads
-use Rattle.runner.proofs.record_count.Reads as record-count-reads
 use Rattle.runner.proofs.run_test.Reads as run-test-reads
-use Rattle.runner.proofs.take_periods.Reads as take-periods-reads
+use borrow.Author.Needs.{needs}
 
 returns : tie.Need-returns
 unfolding run

@@ -3,17 +3,18 @@
 use borrow.Author.Needs.{needs}
 use native.Mathlib.Omega.{arith}
 use mathlib.Core.Path.{_≡_, sym, _∙_}
-use Rattle.runner.specs.declared.Test.the-variants.{Passed}
-use Rattle.runner.specs.Refusals.{imageTest, readyTest}
-use Rattle.runner.proofs.Refusals.{refused-first}
-use Rattle.runner.proofs.Images.{passed-good}
+use Rattle.records.specs.declared.Test.the-variants.{Passed}
+use Rattle.records.proofs.Refusals.{refused-first}
+use Rattle.machine.specs.Refusals.{imageTest}
+use Rattle.machine.proofs.Images.{passed-good}
+use Rattle.machine.proofs.image_test.Reads as image-test-reads
+use Rattle.machine.proofs.row_count.Reads as row-count-reads
+use Rattle.machine.proofs.state_test.Reads as state-test-reads
+use Rattle.runner.specs.Refusals.{readyTest}
 use Rattle.runner.proofs.ready_test.Statement.{statement}
 use Rattle.runner.proofs.ready_test.Tie as tie
 use Rattle.runner.proofs.ready_test.Reads as reads
 use Rattle.runner.proofs.ready_test.Lts as lts
-use Rattle.runner.proofs.image_test.Reads as image-test-reads
-use Rattle.runner.proofs.row_count.Reads as row-count-reads
-use Rattle.runner.proofs.state_test.Reads as state-test-reads
 
 image-test-requires : tie.Need-image-test-requires
 image-test-requires c κs = search needs

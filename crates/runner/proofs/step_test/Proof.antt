@@ -2,16 +2,17 @@
 -- Assumes nothing.
 use borrow.Author.Needs.{needs}
 use mathlib.Core.Path.{_≡_, sym, _∙_}
-use Rattle.runner.specs.declared.Test.the-variants.{Passed}
+use Rattle.records.specs.declared.Test.the-variants.{Passed}
+use Rattle.records.proofs.Refusals.{refused-first}
+use Rattle.periods.proofs.record_test.Reads as record-test-reads
+use Rattle.machine.proofs.count_test.Reads as count-test-reads
 use Rattle.runner.specs.Refusals.{readyTest, stepTest}
-use Rattle.runner.proofs.Refusals.{refused-first, ready-head}
+use Rattle.runner.proofs.Refusals.{ready-head}
 use Rattle.runner.proofs.step_test.Statement.{statement}
 use Rattle.runner.proofs.step_test.Tie as tie
 use Rattle.runner.proofs.step_test.Reads as reads
 use Rattle.runner.proofs.step_test.Lts as lts
 use Rattle.runner.proofs.ready_test.Reads as ready-test-reads
-use Rattle.runner.proofs.record_test.Reads as record-test-reads
-use Rattle.runner.proofs.count_test.Reads as count-test-reads
 
 ready-test-requires : tie.Need-ready-test-requires
 ready-test-requires c κs = search needs

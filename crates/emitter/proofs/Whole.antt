@@ -1,0 +1,117 @@
+-- The image of a contract in the image buffer: the fixed rows, the clause's rows behind them and the end record are the image's bytes.
+-- Assumes nothing.
+use Prim.Native.Nat.{ℕ, _+_, _*_, _≤_}
+use native.Mathlib.Nat.{zero-add}
+use native.Mathlib.Omega.{arith}
+use mathlib.Core.List.{List, [], _∷_, map}
+use mathlib.Core.Path.{_≡_, refl, ap, _∙_}
+use lib.ListN.{length}
+use lib.Seq.{sets, take-all, length-sets}
+use Rattle.records.specs.Fields.{bytes}
+use Rattle.records.proofs.Written.{sets-append}
+use Rattle.machine.specs.Limits.{rowBytes}
+use Rattle.machine.specs.Rows.{never, initial, negation, rowRecord}
+use Rattle.machine.specs.Images.{rowsBytes, endRecord, endBytes, imageBytes, rowCount}
+use Rattle.machine.proofs.Images.{length-rowsBytes, rowCount-imageBytes}
+use Rattle.contract.specs.Meaning.{Clause}
+use Rattle.reader.specs.Limits.{recordBytes}
+use Rattle.reader.specs.Table.{clause}
+use Rattle.reader.proofs.Spelling.{length-spell}
+use Rattle.image.specs.Widths.{firstRow, laterRow, fixedRows, afterClause}
+use Rattle.image.specs.Blocks.{clauseRows}
+use Rattle.image.specs.Images as Images
+use Rattle.image.specs.Images.{rowsFor, imageFor}
+use Rattle.image.proofs.Goodness.{rows-allowed}
+use Rattle.emitter.specs.declared.Block.{Block}
+use Rattle.emitter.specs.Plans.{numbersOf, numbersBytes, writtenRows, blockOf, EndsWith, Emitted, Emits, Writes}
+use Rattle.emitter.proofs.Writing.{numbers-bytes, length-written, written-after}
+use Rattle.emitter.proofs.Plans.{after-tree}
+
+-- ---- the fixed rows
+
+-- a buffer with them written
+abbrev pub begun : List ℕ → List ℕ
+begun image = writtenRows image 0 (map numbersOf (never ∷ initial ∷ negation firstRow ∷ []))
+
+-- one after the other
+pub begun-rows : (image : List ℕ)
+    → sets (sets (sets image 0 (rowRecord 0 0 0)) 8 (rowRecord 1 0 0)) 16 (rowRecord 3 1 0) ≡ begun image
+unfolding writtenRows numbersBytes bytes
+begun-rows image = refl
+
+-- ---- the image of a clause
+
+module _ (c : Clause) where
+  -- the row after the clause's rows
+  after-rows : afterClause c fixedRows ≡ length (rowsFor c)
+  unfolding rowsFor
+  after-rows = omega (arith, after-tree clause c fixedRows firstRow laterRow)
+
+  rows-written : (image : List ℕ)
+      → writtenRows (begun image) fixedRows (map numbersOf (clauseRows c fixedRows firstRow laterRow [])) ≡ sets image 0 (rowsBytes (rowsFor c))
+  unfolding rowsFor writtenRows
+  rows-written image = written-after image 0 fixedRows _ _ refl ∙ ap (sets image 0) (numbers-bytes (rowsFor c))
+
+  -- and the end record
+  image-written : (image : List ℕ)
+      → sets (sets image 0 (rowsBytes (rowsFor c))) (rowBytes * afterClause c fixedRows) (endBytes (Images.image c))
+      ≡ sets image 0 (imageBytes (Images.image c))
+  unfolding imageBytes Images.image
+  image-written image = rw (after-rows, sets-append, zero-add, length-rowsBytes)
+
+-- ---- the program's image
+
+module _ (contract : List ℕ) (n : ℕ) (image : List ℕ) (w : Writes contract n image) where
+  abbrev c : Clause
+  c = w .taken .clause
+
+  imageFor-is : imageFor contract ≡ imageBytes (Images.image c)
+  unfolding imageFor
+  imageFor-is = rw (w .taken .is)
+
+  length-contract : length contract ≡ recordBytes * n
+  length-contract = rw (w .taken .spells .bytes, w .taken .count) (length-spell c)
+
+  ends : EndsWith contract n 0 clause c
+  ends =
+      record {
+        whole = omega (arith, length-contract);
+        count = rw zero-add (w .taken .count);
+        spelled = take-all (recordBytes * n) contract (omega (arith, length-contract)) ∙ w .taken .spells .bytes;
+      }
+
+  -- there is room for the rows and the end record
+  room : rowBytes * (afterClause c fixedRows + 1) ≤ length image
+  room = omega (arith, after-rows c, rows-allowed c, w .taken .count, w .room)
+
+  pub emits : Emits contract n (begun image) fixedRows firstRow laterRow
+  emits =
+      record {
+        before = 0;
+        sort = clause;
+        tree = c;
+        ends = ends;
+        room = rw length-written (omega (arith, room));
+        few = omega (arith, after-rows c, rows-allowed c, w .taken .spells .few-records);
+        begins = omega arith;
+        goes-on = omega arith;
+      }
+
+  module _ (later : List ℕ) (r : Block) (e : Emitted contract n (begun image) fixedRows firstRow laterRow later r) where
+    block-is : r ≡ blockOf clause c 0 fixedRows firstRow
+    block-is = e .tree-is 0 clause c ends .1
+
+    rows-are : later ≡ sets image 0 (rowsBytes (rowsFor c))
+    rows-are = e .tree-is 0 clause c ends .0 ∙ rows-written c image
+
+    -- there are the fixed rows at least, and room for the end record
+    pub end-room : (fixedRows ≤ r .next) × (rowBytes * r .next + rowBytes ≤ length later)
+    end-room = rw (block-is, rows-are, length-sets) (omega (arith, room, after-tree clause c fixedRows firstRow laterRow))
+
+    pub image-is : sets later (rowBytes * r .next) (endRecord (r .first) (r .second) (r .third)) ≡ sets image 0 (imageFor contract)
+    unfolding endBytes Images.image
+    image-is = rw (block-is, rows-are, imageFor-is) (image-written c image)
+
+    pub count-is : r .next ≡ rowCount (imageFor contract)
+    unfolding Images.image
+    count-is = rw (block-is, imageFor-is, rowCount-imageBytes) (after-rows c)

@@ -1,0 +1,2 @@
+-- What the program that writes rows computes with.
+pub mod Plans

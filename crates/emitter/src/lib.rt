@@ -1,0 +1,527 @@
+// Writes the rows of a contract's image, and its end record. Document 01, "Image and row machine".
+ghost use mathlib.Core.Path.{_≡_};
+ghost use mathlib.Core.Bool.{cond};
+ghost use mathlib.Core.Option.{some};
+ghost use Prim.Native.Nat.{_+_, _*_, _<_, _≤_};
+ghost use lib.Dec.{eqb};
+ghost use lib.ListN.{length, getD};
+ghost use lib.Seq.{sets};
+ghost use Rattle.machine.specs.Limits.{rowBytes};
+ghost use Rattle.machine.specs.Rows.{rowRecord};
+ghost use Rattle.machine.specs.Images.{rowCount, endRecord};
+ghost use Rattle.reader.specs.Table.{Kind, kindOf};
+ghost use Rattle.image.specs.Images.{imageFor};
+ghost use Rattle.emitter.specs.Plans.{rowTable, unpacked, named, planOf, basesOf, valueAt, tableRows, writtenRows, wiresOf, noBlock, Small, RoomForRows, RecordRows, recordBlock, recordWritten, Emits, Emitted, Writes};
+
+// ---- the rows of each kind
+
+// The kinds of rows.
+const NEVER: u8 = 0;
+
+const FIRST: u8 = 1;
+
+const TRIES: u8 = 2;
+
+const NOT: u8 = 3;
+
+const AND: u8 = 4;
+
+const OR: u8 = 5;
+
+const PREVIOUS: u8 = 6;
+
+// What the fields of a record's own rows name: a base, and so many on from it. Bases are sixteen apart.
+// The row that is never true, or a field that is not used; one and two on from it, the parties' numbers.
+const ZERO: u8 = 0x00;
+
+// The row that is true in a period in which the tree begins to read, and the one for a period in which it goes on.
+const S: u8 = 0x10;
+
+const K: u8 = 0x20;
+
+// The record's first row, and the first after its operands' rows.
+const B: u8 = 0x30;
+
+const N: u8 = 0x40;
+
+// What the left operand's block gives out, and then the right operand's, or the only one's.
+const L1: u8 = 0x50;
+
+const L2: u8 = 0x60;
+
+const L3: u8 = 0x70;
+
+const R1: u8 = 0x80;
+
+const R2: u8 = 0x90;
+
+const R3: u8 = 0xa0;
+
+// S where the left operand holds the empty list, and L1 where the right one does; otherwise the row that is never true.
+const SE: u8 = 0xb0;
+
+const LE: u8 = 0xc0;
+
+// No rows: the record's party, the other party, and the action.
+const P: u8 = 0xd0;
+
+const Q: u8 = 0xe0;
+
+const A: u8 = 0xf0;
+
+// The factors of a row's kind and of its fields x and y, where a row is one number.
+const KIND: u32 = 65536;
+
+const X: u32 = 256;
+
+const Y: u32 = 1;
+
+// Every kind's own rows, those before its operands' rows and then those after them.
+const ROWS: [u32; 97] = [
+    // duty
+    KIND * TRIES as u32 + X * P as u32 + Y * A as u32,
+    KIND * TRIES as u32 + X * Q as u32 + Y * A as u32,
+    KIND * AND as u32 + X * S as u32 + Y * B as u32,
+    KIND * AND as u32 + X * (B + 2) as u32 + Y * (B + 1) as u32,
+    KIND * NOT as u32 + X * B as u32,
+    KIND * AND as u32 + X * S as u32 + Y * (B + 4) as u32,
+    KIND * NOT as u32 + X * (B + 1) as u32,
+    KIND * AND as u32 + X * (B + 2) as u32 + Y * (B + 6) as u32,
+    // ban
+    KIND * TRIES as u32 + X * P as u32 + Y * A as u32,
+    KIND * TRIES as u32 + X * Q as u32 + Y * A as u32,
+    KIND * AND as u32 + X * S as u32 + Y * B as u32,
+    KIND * AND as u32 + X * (B + 2) as u32 + Y * (B + 1) as u32,
+    KIND * NOT as u32 + X * (B + 3) as u32,
+    KIND * AND as u32 + X * S as u32 + Y * (B + 4) as u32,
+    // power
+    KIND * TRIES as u32 + X * P as u32 + Y * A as u32,
+    KIND * TRIES as u32 + X * Q as u32 + Y * A as u32,
+    KIND * AND as u32 + X * S as u32 + Y * B as u32,
+    KIND * NOT as u32 + X * (B + 1) as u32,
+    KIND * AND as u32 + X * (B + 2) as u32 + Y * (B + 3) as u32,
+    KIND * NOT as u32 + X * (B + 4) as u32,
+    KIND * AND as u32 + X * S as u32 + Y * (B + 5) as u32,
+    // both
+    KIND * PREVIOUS as u32 + X * (N + 10) as u32,
+    KIND * NOT as u32 + X * B as u32,
+    KIND * AND as u32 + X * K as u32 + Y * (B + 1) as u32,
+    KIND * PREVIOUS as u32 + X * (N + 2) as u32,
+    KIND * AND as u32 + X * (B + 2) as u32 + Y * N as u32,
+    KIND * OR as u32 + X * (N + 1) as u32 + Y * L1 as u32,
+    KIND * PREVIOUS as u32 + X * (N + 5) as u32,
+    KIND * AND as u32 + X * (B + 2) as u32 + Y * (N + 3) as u32,
+    KIND * OR as u32 + X * (N + 4) as u32 + Y * R1 as u32,
+    KIND * AND as u32 + X * (N + 2) as u32 + Y * (N + 5) as u32,
+    KIND * OR as u32 + X * L2 as u32 + Y * R2 as u32,
+    KIND * OR as u32 + X * L3 as u32 + Y * R3 as u32,
+    KIND * OR as u32 + X * (N + 7) as u32 + Y * (N + 8) as u32,
+    KIND * OR as u32 + X * (N + 6) as u32 + Y * (N + 9) as u32,
+    // then
+    KIND * PREVIOUS as u32 + X * L1 as u32,
+    KIND * AND as u32 + X * K as u32 + Y * B as u32,
+    KIND * NOT as u32 + X * B as u32,
+    KIND * AND as u32 + X * K as u32 + Y * (B + 2) as u32,
+    KIND * OR as u32 + X * L2 as u32 + Y * R2 as u32,
+    KIND * OR as u32 + X * L3 as u32 + Y * R3 as u32,
+    // repair
+    KIND * PREVIOUS as u32 + X * N as u32,
+    KIND * AND as u32 + X * K as u32 + Y * B as u32,
+    KIND * NOT as u32 + X * B as u32,
+    KIND * AND as u32 + X * K as u32 + Y * (B + 2) as u32,
+    KIND * OR as u32 + X * L2 as u32 + Y * L3 as u32,
+    KIND * OR as u32 + X * L1 as u32 + Y * R1 as u32,
+    // repeat
+    KIND * PREVIOUS as u32 + X * R1 as u32,
+    KIND * AND as u32 + X * K as u32 + Y * B as u32,
+    KIND * NOT as u32 + X * B as u32,
+    KIND * AND as u32 + X * K as u32 + Y * (B + 2) as u32,
+    KIND * OR as u32 + X * S as u32 + Y * (B + 1) as u32,
+    // when
+    KIND * PREVIOUS as u32 + X * L1 as u32,
+    KIND * AND as u32 + X * K as u32 + Y * B as u32,
+    KIND * NOT as u32 + X * B as u32,
+    KIND * AND as u32 + X * K as u32 + Y * (B + 2) as u32,
+    KIND * PREVIOUS as u32 + X * L2 as u32,
+    KIND * AND as u32 + X * (B + 3) as u32 + Y * N as u32,
+    KIND * OR as u32 + X * S as u32 + Y * (N + 1) as u32,
+    KIND * OR as u32 + X * L1 as u32 + Y * L2 as u32,
+    KIND * NOT as u32 + X * (N + 3) as u32,
+    KIND * AND as u32 + X * (N + 2) as u32 + Y * (N + 4) as u32,
+    KIND * OR as u32 + X * R1 as u32 + Y * (N + 5) as u32,
+    // until
+    KIND * PREVIOUS as u32 + X * (N + 4) as u32,
+    KIND * NOT as u32 + X * B as u32,
+    KIND * AND as u32 + X * K as u32 + Y * (B + 1) as u32,
+    KIND * OR as u32 + X * L2 as u32 + Y * L3 as u32,
+    KIND * NOT as u32 + X * N as u32,
+    KIND * AND as u32 + X * R1 as u32 + Y * (N + 1) as u32,
+    KIND * OR as u32 + X * L1 as u32 + Y * (N + 2) as u32,
+    KIND * OR as u32 + X * (N + 3) as u32 + Y * N as u32,
+    // tries
+    KIND * TRIES as u32 + X * P as u32 + Y * A as u32,
+    KIND * AND as u32 + X * S as u32 + Y * B as u32,
+    // idle
+    KIND * TRIES as u32 + X * P as u32 + Y * A as u32,
+    KIND * NOT as u32 + X * B as u32,
+    KIND * AND as u32 + X * S as u32 + Y * (B + 1) as u32,
+    // succeeds
+    KIND * TRIES as u32 + X * (ZERO + 1) as u32 + Y * A as u32,
+    KIND * TRIES as u32 + X * (ZERO + 2) as u32 + Y * A as u32,
+    KIND * AND as u32 + X * B as u32 + Y * (B + 1) as u32,
+    KIND * AND as u32 + X * S as u32 + Y * (B + 2) as u32,
+    // fails
+    KIND * TRIES as u32 + X * (ZERO + 1) as u32 + Y * A as u32,
+    KIND * TRIES as u32 + X * (ZERO + 2) as u32 + Y * A as u32,
+    KIND * AND as u32 + X * B as u32 + Y * (B + 1) as u32,
+    KIND * NOT as u32 + X * (B + 2) as u32,
+    KIND * AND as u32 + X * S as u32 + Y * (B + 3) as u32,
+    // seq
+    KIND * PREVIOUS as u32 + X * L1 as u32,
+    KIND * AND as u32 + X * K as u32 + Y * B as u32,
+    KIND * OR as u32 + X * (B + 1) as u32 + Y * SE as u32,
+    KIND * OR as u32 + X * R1 as u32 + Y * LE as u32,
+    KIND * OR as u32 + X * L2 as u32 + Y * R2 as u32,
+    KIND * OR as u32 + X * (N + 1) as u32 + Y * L1 as u32,
+    // or
+    KIND * OR as u32 + X * L1 as u32 + Y * R1 as u32,
+    KIND * OR as u32 + X * L2 as u32 + Y * R2 as u32,
+    // star
+    KIND * PREVIOUS as u32 + X * R1 as u32,
+    KIND * AND as u32 + X * K as u32 + Y * B as u32,
+    KIND * OR as u32 + X * (B + 1) as u32 + Y * S as u32,
+    KIND * OR as u32 + X * R2 as u32 + Y * R1 as u32,
+];
+
+// A row of a record's own: its kind and its fields x and y.
+pub struct TableRow {
+    pub kind: u8,
+    pub x: u8,
+    pub y: u8,
+}
+
+// Row j of the table.
+fn table_row(table: &[u32; 97], j: u8) -> TableRow
+    requires { ⌜ j < length rowTable ⌝ }
+    ensures { λ r. ⌜ r ≡ unpacked (getD (now (table .entry)) j 0) ⌝ }
+{
+    let row = table[j as usize];
+    TableRow {
+        kind: (row / KIND % 256) as u8,
+        x: (row / X % 256) as u8,
+        y: (row % 256) as u8,
+    }
+}
+
+// A line of the table of plans, in the order of a plan's fields.
+pub struct PlanLine(
+    pub u8,
+    pub u8,
+    pub u8,
+    pub u8,
+    pub u8,
+    pub u8,
+    pub u8,
+    pub u8,
+    pub u8,
+);
+
+// A plan for each of the kinds 1 to 9, then 16 to 23.
+const PLANS: [PlanLine; 17] = [
+    PlanLine(0, 8, 0, ZERO, ZERO, ZERO, B + 3, B + 5, B + 7), // 1 duty
+    PlanLine(8, 6, 0, ZERO, ZERO, ZERO, B + 5, B + 3, ZERO), // 2 ban
+    PlanLine(14, 7, 0, ZERO, ZERO, ZERO, B + 6, ZERO, B + 4), // 3 power
+    PlanLine(21, 3, 11, S, B + 2, B + 2, N + 6, N + 7, N + 8), // 4 both
+    PlanLine(35, 4, 2, B + 1, B + 3, K, R1, N, N + 1), // 5 then
+    PlanLine(41, 4, 2, B + 1, B + 3, K, N + 1, R2, R3), // 6 repair
+    PlanLine(47, 5, 0, B + 4, B + 3, ZERO, ZERO, R2, R3), // 7 repeat
+    PlanLine(52, 4, 7, B + 1, B + 3, B + 3, N + 6, R2, R3), // 8 when
+    PlanLine(63, 3, 5, S, B + 2, B + 2, N + 3, L2, L3), // 9 until
+    PlanLine(71, 0, 0, ZERO, ZERO, ZERO, S, ZERO, ZERO), // 16 any
+    PlanLine(71, 2, 0, ZERO, ZERO, ZERO, B + 1, ZERO, ZERO), // 17 tries
+    PlanLine(73, 3, 0, ZERO, ZERO, ZERO, B + 2, ZERO, ZERO), // 18 idle
+    PlanLine(76, 4, 0, ZERO, ZERO, ZERO, B + 3, ZERO, ZERO), // 19 succeeds
+    PlanLine(80, 5, 0, ZERO, ZERO, ZERO, B + 4, ZERO, ZERO), // 20 fails
+    PlanLine(85, 3, 3, B + 2, K, K, N, N + 2, ZERO), // 21 seq
+    PlanLine(91, 0, 2, S, K, K, N, N + 1, ZERO), // 22 or
+    PlanLine(93, 3, 1, B + 2, K, ZERO, R1, N, ZERO), // 23 star
+];
+
+// How a kind's rows are laid out: the first of its own rows in ROWS, how many stand before its operands' rows and how many after them; the
+// rows that tell the right operand when it begins to read (start) and when it goes on (go), and the left operand when it goes on (keep; it
+// begins with the whole); and the three rows that the block gives out, of a literal with its own party's blame before the other's.
+pub struct Plan {
+    pub from: u8,
+    pub before: u8,
+    pub after: u8,
+    pub start: u8,
+    pub go: u8,
+    pub keep: u8,
+    pub first: u8,
+    pub second: u8,
+    pub third: u8,
+}
+
+fn named(l: PlanLine) -> Plan
+    ensures { λ r. ⌜ r ≡ named l ⌝ }
+{
+    Plan {
+        from: l.0,
+        before: l.1,
+        after: l.2,
+        start: l.3,
+        go: l.4,
+        keep: l.5,
+        first: l.6,
+        second: l.7,
+        third: l.8,
+    }
+}
+
+// The plan of a kind's number.
+fn plan_of(kind: u8) -> Plan
+    ensures { λ r. ⌜ ((k : Kind) → kindOf kind ≡ some k → r ≡ planOf k) ⌝ }
+{
+    let plans = PLANS;
+    match kind {
+        1..=9 => named(plans[kind as usize - 1]),
+        16..=23 => named(plans[kind as usize - 7]),
+        // No contract that is taken has such a record.
+        _ => named(PlanLine(0, 0, 0, ZERO, ZERO, ZERO, ZERO, ZERO, ZERO)),
+    }
+}
+
+// ---- the rows of one record
+
+// The rows of a tree, once they are written: how many records stand before the tree's own, the row after its rows, the three rows that it
+// gives out (of a clause: satisfied, violated with party 1, with party 2 to blame; of an expression: a list ends, one may go on), and the
+// tree's code as an operand.
+pub struct Block {
+    pub before: usize,
+    pub next: u32,
+    pub first: u32,
+    pub second: u32,
+    pub third: u32,
+    pub code: u8,
+}
+
+// A block of no rows, where a record has no such operand.
+fn no_block(before: usize, next: u32) -> Block
+    ensures { λ r. ⌜ r ≡ noBlock before next ⌝ }
+{
+    Block {
+        before: before,
+        next: next,
+        first: 0,
+        second: 0,
+        third: 0,
+        code: 0,
+    }
+}
+
+// x where the condition holds, otherwise the row that is never true.
+fn row_if(c: bool, x: u32) -> u32
+    ensures { λ r. ⌜ r ≡ cond c x 0 ⌝ }
+{
+    if c { x } else { 0 }
+}
+
+// The other party.
+fn other(party: u32) -> u32
+    ensures { λ r. ⌜ r ≡ cond (eqb party 1) 2 1 ⌝ }
+{
+    if party == 1 { 2 } else { 1 }
+}
+
+// What the bases stand for, in their order.
+fn bases(at: u32, s: u32, k: u32, left: Block, right: Block, party: u32, action: u32) -> [u32; 16]
+    ensures { λ r. ⌜ r ≡ basesOf at s k left right party action ⌝ }
+{
+    let se = row_if(left.code == reader::EMPTY, s);
+    let le = row_if(right.code == reader::EMPTY, left.first);
+    [
+        0,
+        s,
+        k,
+        at,
+        left.next,
+        left.first,
+        left.second,
+        left.third,
+        right.first,
+        right.second,
+        right.third,
+        se,
+        le,
+        party,
+        other(party),
+        action,
+    ]
+}
+
+// The row, or other number, that stands in the table as x.
+fn value_at(bases: &[u32; 16], x: u8) -> u32
+    requires { ⌜ Small (now bases) ⌝ }
+    ensures { λ r. ⌜ r ≡ valueAt (now (bases .entry)) x ⌝ }
+{
+    bases[(x / 16) as usize] + (x % 16) as u32
+}
+
+// Writes a row.
+fn put_row(image: &mut [u8], at: u32, kind: u8, x: u32, y: u32)
+    requires { ⌜ rowBytes * at + rowBytes ≤ length (now image) ⌝ }
+    ensures { λ _. ⌜ now (image .exit) ≡ sets (now (image .entry)) (rowBytes * at) (rowRecord kind x y) ⌝ }
+{
+    let i = machine::ROW_BYTES * at as usize;
+    image[i] = records::ROW_MARK[0];
+    image[i + 1] = records::ROW_MARK[1];
+    image[i + 2] = kind;
+    image[i + 3] = 0;
+    records::put2(image, i + 4, x);
+    records::put2(image, i + 6, y);
+}
+
+// Writes `count` of a record's own rows, from row `from` of the table on.
+fn put_rows(image: &mut [u8], at: u32, bases: &[u32; 16], from: u8, count: u8)
+    requires { ⌜ RoomForRows (now image) at (now bases) from count ⌝ }
+    ensures { λ _. ⌜ now (image .exit) ≡ writtenRows (now (image .entry)) at (tableRows (now (bases .entry)) from count) ⌝ }
+{
+    let table = ROWS;
+    let mut j = 0;
+    while j < count {
+        let row = table_row(&table, from + j);
+        put_row(
+            image,
+            at + j as u32,
+            row.kind,
+            value_at(bases, row.x),
+            value_at(bases, row.y),
+        );
+        j += 1;
+    }
+}
+
+// Writes a record's own rows, where its operands' rows are written: those from row `at` on, and those after the operands' rows.
+fn put_record(
+    image: &mut [u8],
+    plan: Plan,
+    kind: u8,
+    party: u32,
+    action: u32,
+    at: u32,
+    s: u32,
+    k: u32,
+    left: Block,
+    right: Block,
+) -> Block
+    requires { ⌜ RecordRows (now image) plan at (left .next) (basesOf at s k left right party action) ⌝ }
+    ensures written { λ _. ⌜ now (image .exit) ≡ recordWritten (now (image .entry)) (basesOf at s k left right party action) plan at (left .next) ⌝ }
+    ensures gives { λ r. ⌜ r ≡ recordBlock (basesOf at s k left right party action) plan kind party left right ⌝ }
+{
+    let meant = bases(at, s, k, left, right, party, action);
+    put_rows(image, at, &meant, plan.from, plan.before);
+    put_rows(
+        image,
+        left.next,
+        &meant,
+        plan.from + plan.before,
+        plan.after,
+    );
+    let own = value_at(&meant, plan.second);
+    let others = value_at(&meant, plan.third);
+    Block {
+        before: left.before,
+        next: left.next + plan.after as u32,
+        first: value_at(&meant, plan.first),
+        second: if party == 2 { others } else { own },
+        third: if party == 2 { own } else { others },
+        code: reader::completed(kind, left.code, right.code),
+    }
+}
+
+// ---- the rows of a tree
+
+// The rows that tell a record's operands when they read: the right one when it begins and when it goes on, the left one when it goes on.
+pub struct Wires {
+    pub start: u32,
+    pub go: u32,
+    pub keep: u32,
+}
+
+fn wires_of(plan: Plan, at: u32, s: u32, k: u32) -> Wires
+    requires { ⌜ Small (basesOf at s k (noBlock 0 0) (noBlock 0 0) 0 0) ⌝ }
+    ensures { λ r. ⌜ r ≡ wiresOf plan at s k ⌝ }
+{
+    let meant = bases(at, s, k, no_block(0, 0), no_block(0, 0), 0, 0);
+    Wires {
+        start: value_at(&meant, plan.start),
+        go: value_at(&meant, plan.go),
+        keep: value_at(&meant, plan.keep),
+    }
+}
+
+// Writes the rows of the tree that the last of the first n records completes, from row `at` on. Backwards its records are the operator, the
+// right operand's and the left operand's, so no operand is searched for; each record's own rows are written when those of its operands are.
+fn emit(contract: &[u8], n: usize, image: &mut [u8], at: u32, s: u32, k: u32) -> Block
+    requires { ⌜ Emits (now contract) n (now image) at s k ⌝ }
+    ensures { λ r. ⌜ Emitted (now (contract .entry)) n (now (image .entry)) at s k (now (image .exit)) r ⌝ }
+{
+    let last = n - 1;
+    let start = reader::RECORD_BYTES * last;
+    let kind = contract[start + 2];
+    let party = records::wide(contract[start + 3]);
+    let action = records::wide(contract[start + 4]);
+    let plan = plan_of(kind);
+    let operands = reader::operands(kind);
+    let inside = at + plan.before as u32;
+    if operands == 0 {
+        let none = no_block(last, inside);
+        return put_record(image, plan, kind, party, action, at, s, k, none, none);
+    }
+    let told = wires_of(plan, at, s, k);
+    let right = emit(contract, last, image, inside, told.start, told.go);
+    if operands == 1 {
+        let none = no_block(right.before, right.next);
+        return put_record(image, plan, kind, party, action, at, s, k, none, right);
+    }
+    let left = emit(contract, right.before, image, right.next, s, told.keep);
+    put_record(image, plan, kind, party, action, at, s, k, left, right)
+}
+
+// ---- the image
+
+// The rows that every image has first: never true, true in period 1 only, and true in all the others.
+const NEVER_ROW: u32 = 0;
+
+const FIRST_ROW: u32 = 1;
+
+const LATER_ROW: u32 = 2;
+
+const FIXED_ROWS: u32 = 3;
+
+// Writes the end record after `rows` rows.
+fn put_end(image: &mut [u8], rows: u32, sat: u32, one: u32, two: u32)
+    requires { ⌜ rowBytes * rows + rowBytes ≤ length (now image) ⌝ }
+    ensures { λ _. ⌜ now (image .exit) ≡ sets (now (image .entry)) (rowBytes * rows) (endRecord sat one two) ⌝ }
+{
+    let i = machine::ROW_BYTES * rows as usize;
+    image[i] = records::END_MARK[0];
+    image[i + 1] = records::END_MARK[1];
+    records::put2(image, i + 2, sat);
+    records::put2(image, i + 4, one);
+    records::put2(image, i + 6, two);
+}
+
+// Writes the image of a contract of n records, and gives its row count.
+pub fn put_image(contract: &[u8], n: usize, image: &mut [u8]) -> u32
+    requires { ⌜ Writes (now contract) n (now image) ⌝ }
+    ensures written { λ _. ⌜ now (image .exit) ≡ sets (now (image .entry)) 0 (imageFor (now (contract .entry))) ⌝ }
+    ensures count { λ r. ⌜ r ≡ rowCount (imageFor (now (contract .entry))) ⌝ }
+{
+    put_row(image, NEVER_ROW, NEVER, 0, 0);
+    put_row(image, FIRST_ROW, FIRST, 0, 0);
+    put_row(image, LATER_ROW, NOT, FIRST_ROW, 0);
+    let whole = emit(contract, n, image, FIXED_ROWS, FIRST_ROW, LATER_ROW);
+    put_end(image, whole.next, whole.first, whole.second, whole.third);
+    whole.next
+}

@@ -1,0 +1,52 @@
+-- The vectors hold of the definitions, by computation.
+use mathlib.Core.Path.{refl}
+use Rattle.records.specs.Fields.{bytes, field, value}
+use Rattle.records.specs.Marks.{marked}
+use Rattle.records.specs.Refusals.{firstFailing}
+use Rattle.periods.specs.Periods.{tries, bit, periodAt}
+use Rattle.periods.specs.Traces.{recordCount, marksTest, recordTest}
+use Rattle.machine.specs.Rows.{rowOf, encode, decode}
+use Rattle.machine.specs.Images.{imageBytes, rowsBytes, endBytes, rowCount, rowsOf, imageOf, goodLength, goodRowAt, goodEnd}
+use Rattle.machine.specs.States.{stateOf, stateBytes, sound, allAtMost, allZero}
+use Rattle.machine.specs.Machine.{afterPeriod, computed, counted, valuesAfter, newValues}
+use Rattle.machine.specs.Refusals.{imageTest, stateTest, countTest}
+use Rattle.runner.specs.Refusals.{beginTest, readyTest, stepTest}
+use Rattle.runner.specs.Calls.{stepReply, answer, call, begin, step}
+use Rattle.contract.specs.Expressions.{holdsEmpty}
+use Rattle.reader.specs.Table.{numbered, kindOf}
+use Rattle.reader.specs.Trees.{node}
+use Rattle.reader.specs.Reader as Reader
+use Rattle.reader.specs.Reader.{fieldsOf, operandsOf, readRecord, readRecords, read}
+use Rattle.image.specs.Widths.{afterExpression, afterClause}
+use Rattle.image.specs.Blocks.{endRow, liveRow, expressionRows, outputsOf, clauseRows}
+use Rattle.image.specs.Images.{rowsFor, image, imageFor}
+use Rattle.image.specs.Examples.{linesFrom, lines, repliesFrom, replies, KindVectors, StudentVectors, WatchVector}
+
+pub student-vectors : StudentVectors
+unfolding
+    lines linesFrom image rowsFor clauseRows expressionRows outputsOf endRow afterClause afterExpression stateOf afterPeriod valuesAfter newValues
+    computed counted tries bit field value
+student-vectors =
+    record {
+      no-later-blame = refl;
+      no-living-half = refl;
+      no-living-clause = refl;
+      right-of-then = refl;
+      right-of-repair = refl;
+      violation-first = refl;
+    }
+
+pub kind-vectors : KindVectors
+unfolding
+    lines linesFrom image rowsFor clauseRows expressionRows outputsOf endRow liveRow holdsEmpty afterClause afterExpression stateOf afterPeriod
+    valuesAfter newValues computed counted tries bit field value
+kind-vectors =
+    record { powers-and-duties = refl; accepted-second = refl; rejected-fails = refl; accepted-odd = refl; rejected-until = refl }
+
+pub watch-vector : WatchVector
+unfolding
+    replies repliesFrom read Reader.goodLength Reader.recordCount readRecords readRecord numbered kindOf fieldsOf operandsOf node imageFor image
+    rowsFor clauseRows outputsOf afterClause imageBytes rowsBytes endBytes encode begin step call beginTest stepTest readyTest stepReply answer
+    imageTest goodLength rowCount firstFailing goodRowAt goodEnd decode rowOf imageOf rowsOf stateTest stateOf stateBytes sound allAtMost allZero
+    recordTest marksTest recordCount countTest afterPeriod valuesAfter newValues computed counted periodAt tries bit marked bytes field value
+watch-vector = record { replied = refl }

@@ -1,0 +1,20 @@
+-- Why the image of a contract monitors it, layer by layer.
+pub mod Signals
+pub mod RowLaws
+pub mod Goodness
+pub mod Wiring
+pub mod Threads
+pub mod Languages
+pub mod Expressions
+pub mod Reports
+pub mod Tested
+pub mod Handing
+pub mod When
+pub mod Ending
+pub mod Literals
+pub mod Repeating
+pub mod Clauses
+pub mod Root
+pub mod Images
+pub mod Monitors
+pub mod Examples

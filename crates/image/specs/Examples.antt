@@ -1,0 +1,125 @@
+-- Vectors of the image, a dozen: every kind, every error of document 01's "What students hand in", and the example of "Watch" through the bytes;
+-- and vectors of compile.
+use Prim.Native.Nat.{ℕ, _+_}
+use mathlib.Core.List.{List, [], _∷_}
+use mathlib.Core.Path.{_≡_}
+use lib.ListN.{length, replicate}
+use Rattle.records.specs.Verdicts.{Verdict, «open», met, broken, broken-after, verdictNumber}
+use Rattle.records.specs.declared.Test.the-variants.{Passed}
+use Rattle.periods.specs.Periods.{party1, party2, Period}
+use Rattle.machine.specs.Limits.{headBytes}
+use Rattle.machine.specs.Images.{Image, rowCount}
+use Rattle.machine.specs.States.{State, stateOf}
+use Rattle.machine.specs.Machine.{afterPeriod, verdict}
+use Rattle.runner.specs.Calls.{beginReplyBytes, stepReply, stepReplyBytes, begin, step}
+use Rattle.contract.specs.Expressions.{any, tries, idle, succeeds, fails, atom, seq, or, star}
+use Rattle.contract.specs.Meaning.{Clause, both, then, repair, repeat, when, until}
+use Rattle.contract.specs.Examples.{a, b, duty, ban, power, nothing, just-a, just-b, one-period}
+use Rattle.image.specs.Images.{image, imageFor}
+
+-- verdict, blame and decision period
+abbrev pub Line : Type 0
+Line = Verdict × ℕ × ℕ
+
+-- the row machine's lines, one for each period
+unfoldable pub linesFrom : Image → State → List Period → List Line
+linesFrom m s [] = []
+linesFrom m s (x ∷ w) =
+    let t = afterPeriod m x s in
+    (verdict t, t .blame, t .decision) ∷ linesFrom m t w
+
+-- on the image of a clause, begun with zeros
+unfoldable pub lines : Clause → List Period → List Line
+lines c w = linesFrom (image c) (stateOf (replicate (headBytes + length (image c .rows)) 0)) w
+
+-- ---- kinds; those that are not here are among the students' below
+
+pub record KindVectors : Type 0 where
+  -- both violated in one period: the blames are united
+  pub powers-and-duties : lines (both (power party1 a) (duty party1 b)) (one-period just-a nothing ∷ []) ≡ (broken, 3, 1) ∷ []
+  -- accepted in period 2, by the second of the two that may follow; party 1 is barred from b in period 3
+  pub accepted-second :
+      lines (when (seq (atom (idle party1 b)) (or (atom (tries party2 b)) (atom (succeeds a)))) (ban party1 b))
+      (one-period just-a nothing ∷ one-period just-a just-a ∷ one-period just-b just-b ∷ [])
+      ≡ («open», 0, 0) ∷ («open», 0, 0) ∷ (broken, 1, 3) ∷ []
+  -- a succeeds, so the expression is rejected
+  pub rejected-fails : lines (when (atom (fails a)) (duty party2 a)) (one-period just-a just-a ∷ []) ≡ (met, 0, 1) ∷ []
+  -- accepted in the first odd period in which party 1 tries a
+  pub accepted-odd :
+      lines (until (repeat (ban party1 b)) (seq (star (seq (atom any) (atom any))) (atom (tries party1 a))))
+      (one-period nothing nothing ∷ one-period just-a nothing ∷ one-period just-a nothing ∷ [])
+      ≡ («open», 0, 0) ∷ («open», 0, 0) ∷ (met, 0, 3) ∷ []
+  -- rejected in period 1, which leaves the clause alone to decide
+  pub rejected-until :
+      lines (until (repeat (duty party1 a)) (atom (tries party1 b))) (one-period just-a just-a ∷ one-period just-b nothing ∷ [])
+      ≡ («open», 0, 0) ∷ (broken, 1, 2) ∷ []
+
+-- ---- what students hand in; the student's answer stands in brackets
+
+pub record StudentVectors : Type 0 where
+  -- party 2's later breach in the other half adds no blame (blame 3 in period 2)
+  pub no-later-blame :
+      lines (both (duty party1 a) (then (ban party2 b) (duty party2 b))) (one-period nothing just-a ∷ one-period just-b nothing ∷ [])
+      ≡ (broken, 1, 1) ∷ (broken-after, 1, 1) ∷ []
+  -- the half that bars b in period 2 dies with the whole in period 1, so the repair is not begun again in period 3 (broken there, blame 1)
+  pub no-living-half :
+      lines (repeat (repair (both (ban party1 a) (then (ban party1 b) (ban party2 b))) (then (ban party1 a) (ban party1 b))))
+      (one-period just-a just-a ∷ one-period just-b just-b ∷ one-period just-a just-a ∷ [])
+      ≡ («open», 0, 0) ∷ («open», 0, 0) ∷ («open», 0, 0) ∷ []
+  -- the clause that owes a in period 2 dies with the `until` that finished in period 1 (broken in 2, blame 2)
+  pub no-living-clause :
+      lines (repeat (then (until (then (ban party1 a) (duty party2 a)) (atom (tries party1 b))) (ban party1 b)))
+      (one-period just-b nothing ∷ one-period nothing nothing ∷ [])
+      ≡ («open», 0, 0) ∷ («open», 0, 0) ∷ []
+  -- party 1 owes b only from period 2 on (broken in 1, blame 1)
+  pub right-of-then :
+      lines (then (duty party1 a) (duty party1 b)) (one-period just-a just-a ∷ one-period just-b just-b ∷ [])
+      ≡ («open», 0, 0) ∷ (met, 0, 2) ∷ []
+  pub right-of-repair :
+      lines (repair (duty party1 a) (duty party1 b)) (one-period nothing nothing ∷ one-period just-b just-b ∷ [])
+      ≡ («open», 0, 0) ∷ (met, 0, 2) ∷ []
+  -- the violation in the accepting period counts, so it is repaired from period 2 on (met in 1)
+  pub violation-first :
+      lines (repair (until (duty party1 a) (atom (tries party1 b))) (duty party2 a)) (one-period just-b just-a ∷ one-period just-a nothing ∷ [])
+      ≡ («open», 0, 0) ∷ (broken, 2, 2) ∷ []
+
+-- ---- the contract and the periods of "Watch", byte for byte: its image, begin, and a step call for each period
+
+abbrev pub watchedBytes : List ℕ
+watchedBytes =
+    0x54 ∷ 0x43 ∷ 0x01 ∷ 0x01 ∷ 0x00 ∷ 0x00
+    ∷ 0x54 ∷ 0x43 ∷ 0x01 ∷ 0x01 ∷ 0x01 ∷ 0x00
+    ∷ 0x54 ∷ 0x43 ∷ 0x06 ∷ 0x00 ∷ 0x00 ∷ 0x00
+    ∷ 0x54 ∷ 0x43 ∷ 0x07 ∷ 0x00 ∷ 0x00 ∷ 0x00 ∷ []
+
+abbrev pub watchedRecords : List (List ℕ)
+watchedRecords =
+    (0x54 ∷ 0x50 ∷ 0x01 ∷ 0x00 ∷ 0x01 ∷ 0x00 ∷ [])
+    ∷ (0x54 ∷ 0x50 ∷ 0x00 ∷ 0x00 ∷ 0x00 ∷ 0x00 ∷ [])
+    ∷ (0x54 ∷ 0x50 ∷ 0x02 ∷ 0x00 ∷ 0x00 ∷ 0x00 ∷ [])
+    ∷ (0x54 ∷ 0x50 ∷ 0x01 ∷ 0x00 ∷ 0x01 ∷ 0x00 ∷ []) ∷ []
+
+-- the bytes of an area, before a call writes them
+abbrev pub area : ℕ → List ℕ
+area n = replicate n 0xff
+
+-- the replies of one step call after another
+unfoldable pub repliesFrom : (image state : List ℕ) → (records : List (List ℕ)) → List (List ℕ)
+repliesFrom image state [] = []
+repliesFrom image state (r ∷ rs) =
+    let after = step image state r (area stepReplyBytes) in
+    after .reply ∷ repliesFrom image (after .state) rs
+
+unfoldable pub replies : (contract : List ℕ) → (records : List (List ℕ)) → List (List ℕ)
+replies contract rs =
+    let image = imageFor contract in
+    repliesFrom image (begin image (area (headBytes + rowCount image)) (area beginReplyBytes) .state) rs
+
+-- an accepted step's reply
+abbrev pub says : Verdict → (blame decision : ℕ) → List ℕ
+says v p k = stepReply Passed (verdictNumber v) p k
+
+pub record WatchVector : Type 0 where
+  pub replied :
+      replies watchedBytes watchedRecords
+      ≡ says «open» 0 0 ∷ says «open» 0 0 ∷ says broken 2 3 ∷ says broken-after 2 3 ∷ []

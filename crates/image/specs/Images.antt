@@ -1,0 +1,63 @@
+-- The image of a clause, and the image of a contract: it follows from the contract's bytes alone. When an image is right for a contract.
+-- Document 01, "Image and row machine".
+use Prim.Native.Nat.{ℕ, _+_, _≤_}
+use mathlib.Core.List.{List, [], _∷_}
+use mathlib.Core.Path.{_≡_}
+use lib.ListN.{replicate}
+use Rattle.records.specs.declared.Test.the-variants.{Passed}
+use Rattle.periods.specs.Periods.{Period}
+use Rattle.machine.specs.Limits.{headBytes}
+use Rattle.machine.specs.Rows.{Row, never, initial, negation}
+use Rattle.machine.specs.Images.{Image, imageBytes, rowCount, imageOf}
+use Rattle.machine.specs.States.{State, stateOf}
+use Rattle.machine.specs.Machine.{afterPeriods}
+use Rattle.machine.specs.Refusals.{imageTest}
+use Rattle.contract.specs.Meaning.{Clause, Decision, undecided, satisfied, violated, meaning}
+use Rattle.contract.specs.Verdicts.{decisionPeriod, blame}
+use Rattle.reader.specs.Reader.{Result, refused, taken, read, recordCount}
+use Rattle.image.specs.Widths.{clauseSize, firstRow, laterRow, fixedRows, mostRows, allowedRows}
+use Rattle.image.specs.Blocks.{outputsOf, clauseRows}
+
+-- the clause's block after the fixed rows: it begins to read in period 1 and goes on in every later one
+unfoldable pub rowsFor : Clause → List Row
+rowsFor c = never ∷ initial ∷ negation firstRow ∷ clauseRows c fixedRows firstRow laterRow []
+
+unfoldable pub image : Clause → Image
+image c =
+    let out = outputsOf c fixedRows in
+    record { rows = rowsFor c; S = out .sat; V1 = out .one; V2 = out .two }
+
+-- the bytes of the image of a contract that is taken
+abbrev pub imageOfResult : Result Clause → List ℕ
+imageOfResult (refused f k) = []
+imageOfResult (taken c) = imageBytes (image c)
+
+unfoldable pub imageFor : (contract : List ℕ) → List ℕ
+imageFor contract = imageOfResult (read contract)
+
+-- ---- when an image is right
+
+-- a state shows a decision: "outcome (0 undecided, 1 satisfied, 2 violated); blame; .. decision period (.. 0 for none)"
+abbrev pub outcome : Decision → ℕ
+outcome undecided = 0
+outcome (satisfied k) = 1
+outcome (violated k b) = 2
+
+pub record Shows (d : Decision) (s : State) : Type 0 where
+  pub outcome-is : s .outcome ≡ outcome d
+  pub blame-is : s .blame ≡ blame d
+  pub decision-is : s .decision ≡ decisionPeriod d
+
+-- The image is right for the clause, whatever rows it has: refusal 9 does not apply, and the row machine on it, begun with a state of zeros, shows
+-- after every list of periods what the clause means on it.
+pub record RightFor (clause : Clause) (image : List ℕ) : Type 0 where
+  pub good : imageTest image ≡ Passed
+  pub shows : (w : List Period)
+      → Shows (meaning clause w) (afterPeriods (imageOf image) (stateOf (replicate (headBytes + rowCount image) 0)) w)
+
+-- how many rows it has, for a contract that means this clause: as many as the widths of the contract's records and the fixed rows add up to, at
+-- most 14 × records + 3, and so within the 32 × records + 64 that refusal 8 makes room for
+pub record SizedFor (contract : List ℕ) (clause : Clause) (image : List ℕ) : Type 0 where
+  pub rows-are : rowCount image ≡ clauseSize clause + fixedRows
+  pub rows-most : rowCount image ≤ mostRows (recordCount contract)
+  pub rows-allowed : rowCount image ≤ allowedRows (recordCount contract)

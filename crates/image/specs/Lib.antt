@@ -1,0 +1,6 @@
+-- The image of a contract, and what it means for an image to monitor a contract. Document 01, "Image and row machine" and "Calls".
+pub mod Widths
+pub mod Blocks
+pub mod Images
+pub mod Monitors
+pub mod Examples

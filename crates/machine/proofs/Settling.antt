@@ -1,0 +1,105 @@
+-- A state whose rows' bytes hold two values each, and the state that it stands for.
+-- Assumes nothing.
+use Prim.Native.Nat.{ℕ, suc, _+_, _-_, _%_, _≤_, _<_}
+use native.Mathlib.Nat.{mod-eq-of-lt, le-refl}
+use native.Mathlib.Omega.{arith}
+use mathlib.Core.Bool.{true}
+use mathlib.Core.List.{List, [], _∷_, _++_, append-nil}
+use mathlib.Core.Path.{_≡_, refl, sym, ap, _∙_}
+use borrow.Rule.Slice.PartMut.{putMid}
+use lib.ListN.{length, getD, take, drop, length-append, length-drop, length-map, take-append-drop, drop-of-length-le, List·getD-append}
+use lib.Seq.{take-append-le, take-take, getD-take, drop-at, length-take-le}
+use Rattle.records.specs.Fields.{value, bytes, field}
+use Rattle.records.specs.declared.Test.the-variants.{Passed}
+use Rattle.records.proofs.Written.{drop-take}
+use Rattle.machine.specs.Limits.{headBytes}
+use Rattle.machine.specs.States.{State, stateOf, stateBytes, allAtMost}
+use Rattle.machine.specs.Refusals.{stateTest}
+use Rattle.machine.specs.Computing.{firstBits, settled}
+use Rattle.machine.proofs.Refusals.{state-passed}
+use Rattle.machine.proofs.States.{at-allAtMost, Sound, sound-facts, part-rest}
+
+pub length-firstBits : (l : List ℕ) → length (firstBits l) ≡ length l
+unfolding firstBits
+length-firstBits l = length-map l (λ (v : ℕ). v % 2)
+
+pub length-settled : (l : List ℕ) → length (settled l) ≡ length l
+unfolding settled
+length-settled l = length-append (take headBytes l) (firstBits (drop headBytes l)) ∙ ap (λ (n : ℕ). length (take headBytes l) + n) (length-firstBits (drop headBytes l))
+    ∙ sym (length-append (take headBytes l) (drop headBytes l)) ∙ ap length (take-append-drop headBytes l)
+
+-- a part up to the end, put back
+pub put-rest : (n : ℕ) (l vs : List ℕ) → putMid n (length l - n) l vs ≡ take n l ++ vs
+put-rest n l vs =
+    ap (λ (r : List ℕ). take n l ++ (vs ++ r)) (drop-of-length-le (drop n l) {i = length l - n} (simp length-drop (le-refl (length l - n))))
+    ∙ ap (λ (r : List ℕ). take n l ++ r) (append-nil vs)
+
+-- the rows' part with its first bits alone
+pub settled-put : (l vs : List ℕ) → vs ≡ firstBits (take (length l - headBytes) (drop headBytes l)) → putMid headBytes (length l - headBytes) l vs ≡ settled l
+unfolding settled
+settled-put l vs e = put-rest headBytes l vs ∙ ap (λ (r : List ℕ). take headBytes l ++ r) (e ∙ ap firstBits (part-rest headBytes l))
+
+-- ---- a state that passes its test stands for itself
+
+pub state-sound : (n : ℕ) (l : List ℕ) → stateTest n l ≡ Passed → Sound n (stateOf l)
+unfolding stateOf
+state-sound n l h =
+    let b = state-passed n l h in
+    sound-facts n (stateOf l) (b .1) (length-drop headBytes l ∙ rw (b .0) (omega arith))
+
+firstBits-plain : (l : List ℕ) → ((i : ℕ) → getD l i 0 ≤ 1) → firstBits l ≡ l
+unfolding firstBits
+firstBits-plain [] h = refl
+firstBits-plain (v ∷ l) h =
+    let k : v < 2 = omega (arith, h 0) in
+    rw (mod-eq-of-lt k, firstBits-plain l (λ i. h (suc i)))
+
+module _ (n : ℕ) (l : List ℕ) (h : stateTest n l ≡ Passed) where
+  values-small : (i : ℕ) → getD (drop headBytes l) i 0 ≤ 1
+  unfolding stateOf
+  values-small = state-sound n l h .values≤
+
+  pub settled-plain : settled l ≡ l
+  unfolding settled
+  settled-plain = rw (firstBits-plain (drop headBytes l) values-small) (take-append-drop headBytes l)
+
+  pub plain-small : allAtMost 3 (drop headBytes l) ≡ true
+  plain-small = at-allAtMost 3 (drop headBytes l) (λ i. omega (arith, values-small i))
+
+-- ---- the state that bytes stand for
+
+-- a state with the first bits of its row values alone
+abbrev pub plain : State → State
+plain s = record { outcome = s .outcome; blame = s .blame; periods = s .periods; decision = s .decision; values = firstBits (s .values) }
+
+pub settled-bytes : (s : State) → settled (stateBytes s) ≡ stateBytes (plain s)
+unfolding settled stateBytes bytes
+settled-bytes s = refl
+
+-- in the head the bytes are as they were
+module _ (l : List ℕ) (h : headBytes ≤ length l) where
+  abbrev rest : List ℕ
+  rest = firstBits (drop headBytes l)
+
+  head-long : length (take headBytes l) ≡ headBytes
+  head-long = length-take-le headBytes l h
+
+  settled-at : (i : ℕ) → i < headBytes → getD (settled l) i 0 ≡ getD l i 0
+  unfolding settled
+  settled-at i k = List·getD-append (take headBytes l) rest 0 i (rw head-long k) ∙ getD-take headBytes l i 0 k
+
+  settled-field : (at w : ℕ) → at + w ≤ headBytes → field (settled l) at w ≡ field l at w
+  unfolding settled field
+  settled-field at w k =
+      let part : (m : List ℕ) → drop at (take (at + w) m) ≡ take w (drop at m) =
+      λ m. let e : at + w - at ≡ w = omega arith in rw e at (drop-take at (at + w) m) in
+      ap value (sym (part (take headBytes l ++ rest))
+      ∙ ap (drop at) (take-append-le (at + w) (take headBytes l) rest (rw head-long k) ∙ take-take (at + w) headBytes l k) ∙ part l)
+
+  settled-rest : drop headBytes (settled l) ≡ rest
+  unfolding settled
+  settled-rest = drop-at (take headBytes l) rest headBytes head-long
+
+  pub settled-state : stateOf (settled l) ≡ plain (stateOf l)
+  unfolding stateOf
+  settled-state = rw (settled-at 0 (omega arith), settled-at 1 (omega arith), settled-field 2 4 (omega arith), settled-field 6 4 (omega arith), settled-rest)

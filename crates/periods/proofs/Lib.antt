@@ -1,0 +1,3 @@
+-- The laws of masks and of traces.
+pub mod Periods
+pub mod Traces

@@ -1,0 +1,21 @@
+-- `periods::trace_test` meets its contract: the length, then the marks.
+-- Assumes nothing.
+use borrow.Author.Needs.{needs}
+use borrow.Author.Tests.{eq-eqb, ne-eqb}
+use Rattle.periods.specs.Traces.{traceTest}
+use Rattle.periods.proofs.trace_test.Statement.{statement}
+use Rattle.periods.proofs.trace_test.Tie as tie
+
+returns : tie.Need-returns
+unfolding traceTest
+returns c = rw (ne-eqb _ _ (c .if1 .taken))
+
+marks-test-requires : tie.Need-marks-test-requires
+marks-test-requires c κs = search needs
+
+returns-2 : tie.Need-returns-2
+unfolding traceTest
+returns-2 c = rw (eq-eqb _ _ (c .before .if1 .left)) (c .marks-test .ensures)
+
+pub trace-test-spec : {M : Type 1} → statement M
+trace-test-spec = tie.close (tie.spec returns marks-test-requires returns-2)

@@ -1,0 +1,64 @@
+-- Parties, periods and what is tried in them. Document 01, "Records", the period record.
+use Prim.Native.Nat.{ℕ, _+_, _/_, _%_, _^_, _<_}
+use mathlib.Core.Path.{_≡_}
+use mathlib.Core.Bool.{Bool, _&&_, cond}
+use mathlib.Core.List.{List}
+use mathlib.Core.Option.{Option, none, some}
+use lib.Dec.{eqb}
+use Rattle.records.specs.Fields.{field}
+use Rattle.periods.specs.declared.Attempts.{Attempts}
+use Rattle.periods.specs.Limits.{actions}
+
+-- the two parties to a contract
+pub data Party : Type 0 where
+  party1 party2 : Party
+
+-- a party's number in records: 1 or 2
+abbrev pub number : Party → ℕ
+number party1 = 1
+number party2 = 2
+
+-- the party of a number in records, if it is one
+abbrev pub partyOf : ℕ → Option Party
+partyOf n = cond (eqb n 1) (some party1) (cond (eqb n 2) (some party2) none)
+
+-- p is the record's party, q the other
+abbrev pub other : Party → Party
+other party1 = party2
+other party2 = party1
+
+-- a period: both parties' attempts, one mask each
+pub record Period : Type 0 where
+  pub attempts1 : ℕ
+  pub attempts2 : ℕ
+
+-- a party's mask
+abbrev pub attempts : Period → Party → ℕ
+attempts x party1 = x .attempts1
+attempts x party2 = x .attempts2
+
+-- bit a of a mask
+unfoldable pub bit : ℕ → ℕ → Bool
+bit mask a = eqb (mask / 2 ^ a % 2) 1
+
+-- bit a is set when the party tries action a
+unfoldable pub tries : Period → Party → ℕ → Bool
+tries x p a = bit (attempts x p) a
+
+-- an action succeeds when both try it
+unfoldable pub succeeds : Period → ℕ → Bool
+succeeds x a = tries x party1 a && tries x party2 a
+
+-- the period that the period record from byte `at` on holds: two bytes of party 1's attempts after the mark, then two of party 2's
+unfoldable pub periodAt : List ℕ → ℕ → Period
+periodAt l at = record { attempts1 = field l (at + 2) 2; attempts2 = field l (at + 4) 2 }
+
+-- a program's two masks, as a period
+abbrev pub periodOf : Attempts → Period
+periodOf a = record { attempts1 = a .one; attempts2 = a .two }
+
+-- a is the period that the period record from byte `at` on holds, and no mask has a bit above the last action's
+pub record HoldsPeriod (l : List ℕ) (at : ℕ) (a : Attempts) : Type 0 where
+  pub is : periodOf a ≡ periodAt l at
+  pub small1 : a .one < 2 ^ actions
+  pub small2 : a .two < 2 ^ actions

@@ -1,0 +1,10 @@
+-- The laws of the definitions in specs/, module by module, for this crate and the crates above it.
+pub mod Table
+pub mod Spelling
+pub mod Nodes
+pub mod Reader
+pub mod Answers
+pub mod Places
+pub mod Codes
+pub mod Tests
+pub mod Stack

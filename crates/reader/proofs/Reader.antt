@@ -1,0 +1,191 @@
+-- The reader takes exactly the bytes that spell a clause, as that clause.
+-- Assumes nothing.
+use Prim.Native.Nat.{ℕ, zero, suc, _+_, _*_, _/_, _%_, _≤_}
+use native.Mathlib.Nat.{add-zero, add-assoc, zero-add}
+use native.Mathlib.Omega.{arith}
+use mathlib.Core.Bool.{Bool, true, false, _&&_, and-eq-true-iff}
+use mathlib.Core.List.{List, [], _∷_, _++_, append-nil, append-assoc}
+use mathlib.Core.Logic.{_↔_}
+use mathlib.Core.Path.{_≡_, refl, sym, ap, _∙_}
+use lib.Dec.{eqb, ltb, leb}
+use lib.ListN.{length, take, drop, length-drop}
+use lib.Seq.{take-add, take-all}
+use borrow.Author.Tests.{eqb-true, eq-eqb, ltb-true, lt-ltb, leb-true, le-leb}
+use Rattle.contract.specs.Meaning.{Clause, EmptyFree}
+use Rattle.reader.specs.declared.Fault.the-variants.{BadLength}
+use Rattle.reader.specs.Limits.{maxRecords, recordBytes}
+use Rattle.reader.specs.Table.{Sort, clause, expression, Kind, line}
+use Rattle.reader.specs.Trees.{Tree, Trees, Fields, node}
+use Rattle.reader.specs.Spelling.{recordOf, spell, records, InRange, Spells, spellTree, treeRecords}
+use Rattle.reader.specs.Reader.{taken, Operand, operand, readRecord, readRecords, justOne, recordCount, goodLength, read}
+use Rattle.reader.proofs.Spelling.{spellTrees, treesRecords, All, recordWith, on-tree, spell-node, records-node, length-spell, some-records}
+use Rattle.reader.proofs.Nodes.{Good, GoodNode, good-node, onto, read-node, Completed, required, followed, completed}
+
+-- ---- what has been read is what the stack spells
+
+-- bottom first
+abbrev spellStack : List Operand → List ℕ
+spellStack [] = []
+spellStack (operand s t ∷ st) = spellStack st ++ spellTree s t
+
+abbrev GoodStack : List Operand → Type 0
+GoodStack [] = Unit {0}
+GoodStack (operand s t ∷ st) = Good s t × GoodStack st
+
+spell-onto : (ss : List Sort) (ts : Trees ss) (st : List Operand) → spellStack (onto ss ts st) ≡ spellStack st ++ spellTrees ss ts
+spell-onto [] ts st = sym (append-nil (spellStack st))
+spell-onto (s ∷ ss) ts st =
+    spell-onto ss (ts .1) (operand s (ts .0) ∷ st) ∙ append-assoc (spellStack st) (spellTree s (ts .0)) (spellTrees ss (ts .1))
+
+good-onto : (ss : List Sort) (ts : Trees ss) (st : List Operand) → GoodStack (onto ss ts st) → All Good ss ts × GoodStack st
+good-onto [] ts st g = (tt, g)
+good-onto (s ∷ ss) ts st g = let h = good-onto ss (ts .1) (operand s (ts .0) ∷ st) g in ((h .1 .0, h .0), h .1 .1)
+
+completed-spells : (st : List Operand) (l : List ℕ) (st′ : List Operand) → Completed st l st′
+    → spellStack st′ ≡ spellStack st ++ take recordBytes l
+completed-spells st l st′ c =
+    rw (c .after, c .before, c .bytes, spell-node (c .kind) (c .fields) (c .trees), spell-onto (line (c .kind) .operands) (c .trees) (c .rest))
+    (sym (append-assoc (spellStack (c .rest)) (spellTrees (line (c .kind) .operands) (c .trees)) (recordWith (c .kind) (c .fields))))
+
+completed-good : (st : List Operand) (l : List ℕ) (st′ : List Operand) → Completed st l st′ → GoodStack st → GoodStack st′
+completed-good st l st′ c g =
+    let h = good-onto (line (c .kind) .operands) (c .trees) (c .rest) (rw (c .before) at g) in
+    rw (c .after) (good-node (c .kind) (c .fields) (c .trees) .1 (c .in-range, h .0, c .not-empty), h .1)
+
+-- n records, all of them there, leave a stack that spells what the stack spelled before and the records after it
+records-spell : (k n : ℕ) (st : List Operand) (l : List ℕ) (st′ : List Operand) → recordBytes * n ≤ length l
+    → readRecords k n st l ≡ taken st′ → GoodStack st → (spellStack st′ ≡ spellStack st ++ take (recordBytes * n) l) × GoodStack st′
+unfolding readRecords
+records-spell k zero st l st′ w h g = let e : st ≡ st′ = cc in (rw (← e) (sym (append-nil (spellStack st))), rw e at g)
+records-spell k (suc n) st l st′ w h g = followed (readRecord k st l) h λ st₂ i j.
+    let c = completed k st l st₂ (omega arith) i in
+    let d = records-spell (suc k) n st₂ (drop recordBytes l) st′ (rw length-drop (omega arith)) j (completed-good st l st₂ c g) in
+    let s : recordBytes * suc n ≡ recordBytes + recordBytes * n = omega arith in
+    let e = rw (completed-spells st l st₂ c, append-assoc (spellStack st)) at (d .0) in
+    (rw (s, take-add recordBytes (recordBytes * n) l) e, d .1)
+
+-- ---- the length
+
+pub record WholeRecords (l : List ℕ) : Type 0 where
+  pub some-records : 1 ≤ recordCount l
+  pub few-records : recordCount l ≤ maxRecords
+  pub whole : length l ≡ recordBytes * recordCount l
+
+pub good-length : (l : List ℕ) → goodLength l ≡ true ↔ WholeRecords l
+unfolding goodLength recordCount
+good-length l = (there, back)
+  where
+    there : goodLength l ≡ true → WholeRecords l
+    there h =
+        let a = and-eq-true-iff (ltb 0 (length l) && eqb (length l % recordBytes) 0) (leb (length l) (recordBytes * maxRecords)) .0 h in
+        let b = and-eq-true-iff (ltb 0 (length l)) (eqb (length l % recordBytes) 0) .0 (a .0) in
+        let c = ltb-true 0 (length l) (b .0) in
+        let d = eqb-true (length l % recordBytes) 0 (b .1) in
+        let e = leb-true (length l) (recordBytes * maxRecords) (a .1) in
+        record { some-records = omega arith; few-records = omega arith; whole = omega arith }
+
+    back : WholeRecords l → goodLength l ≡ true
+    back w =
+        let e : length l ≡ recordBytes * (length l / recordBytes) = w .whole in
+        let f = le-leb (length l) (recordBytes * maxRecords) (omega (arith, w .few-records)) in
+        rw (lt-ltb 0 (length l) (omega (arith, w .some-records)), eq-eqb (length l % recordBytes) 0 (omega arith), f)
+
+pub not-whole : (l : List ℕ) → ¬ WholeRecords l → goodLength l ≡ false
+not-whole l n = go (goodLength l) refl
+  where
+    go : (t : Bool) → goodLength l ≡ t → t ≡ false
+    go true e = absurd (n (good-length l .0 e))
+    go false e = refl
+
+-- ---- what is taken spells its clause
+
+just-one : (n : ℕ) (st : List Operand) (c : Clause) → justOne n st ≡ taken c → st ≡ operand clause c ∷ []
+just-one n [] c h = cc
+just-one n (operand clause d ∷ []) c h = cc
+just-one n (operand expression e ∷ []) c h = cc
+just-one n (operand clause d ∷ p ∷ st) c h = cc
+just-one n (operand expression d ∷ p ∷ st) c h = cc
+
+module _ (l : List ℕ) (c : Clause) (h : read l ≡ taken c) where
+  read-taken : WholeRecords l × (readRecords 0 (recordCount l) [] l ≡ taken (operand clause c ∷ []))
+  unfolding read
+  read-taken =
+      required (goodLength l) BadLength 0 h λ g h₂.
+      followed (readRecords 0 (recordCount l) [] l) h₂ λ st h₃ h₄.
+      (good-length l .0 g, rw (just-one (recordCount l) st c h₄) at h₃)
+
+  pub taken-length : goodLength l ≡ true
+  taken-length = good-length l .1 (read-taken .0)
+
+  taken-stack : (l ≡ spell c) × Good clause c
+  taken-stack =
+      let w = read-taken .0 .whole in
+      let s = records-spell 0 (recordCount l) [] l (operand clause c ∷ []) (omega arith) (read-taken .1) tt in
+      (sym (s .0 ∙ take-all (recordBytes * recordCount l) l (omega arith)), s .1 .0)
+
+  pub taken-count : recordCount l ≡ records c
+  taken-count = omega (arith, read-taken .0 .whole, ap length (taken-stack .0), length-spell c)
+
+  pub taken-spells : Spells l c
+  taken-spells =
+      record {
+        bytes = taken-stack .0;
+        some-records = some-records c;
+        few-records = omega (arith, taken-count, read-taken .0 .few-records);
+        in-range = taken-stack .1 .0;
+        empty-free = taken-stack .1 .1;
+      }
+
+-- ---- what spells a clause is taken as it
+
+-- a tree's bytes put it on the stack
+Reads : (s : Sort) → Tree s → Type 0
+Reads s t = Good s t → (k n : ℕ) (st : List Operand) (rest : List ℕ)
+    → readRecords k (treeRecords s t + n) st (spellTree s t ++ rest) ≡ readRecords (k + treeRecords s t) n (operand s t ∷ st) rest
+
+reads-trees : (ss : List Sort) (ts : Trees ss) → All Reads ss ts → All Good ss ts → (k n : ℕ) (st : List Operand) (rest : List ℕ)
+    → readRecords k (treesRecords ss ts + n) st (spellTrees ss ts ++ rest) ≡ readRecords (k + treesRecords ss ts) n (onto ss ts st) rest
+unfolding Reads
+reads-trees [] ts h g k n st rest = rw (zero-add, add-zero)
+reads-trees (s ∷ ss) ts h g k n st rest =
+    rw (add-assoc, append-assoc, h .0 (g .0), reads-trees ss (ts .1) (h .1) (g .1), add-assoc)
+
+read-next : (kind : Kind) (f : Fields kind) (ts : Trees (line kind .operands)) → GoodNode kind f ts
+    → (k n : ℕ) (st : List Operand) (rest : List ℕ)
+    → readRecords k (suc n) (onto (line kind .operands) ts st) (recordWith kind f ++ rest)
+    ≡ readRecords (suc k) n (operand (line kind .completes) (node kind f ts) ∷ st) rest
+unfolding readRecords recordOf
+read-next kind f ts g k n st rest = rw (read-node k kind f ts st rest (g .0), g .2)
+
+reads-node : (k : Kind) (f : Fields k) (ts : Trees (line k .operands)) → All Reads (line k .operands) ts → Reads (line k .completes) (node k f ts)
+unfolding Reads
+reads-node kind f ts h good k n st rest =
+    let g = good-node kind f ts .0 good in
+    let m : ℕ = treesRecords (line kind .operands) ts in
+    let i : m + 1 + n ≡ m + suc n = omega arith in
+    let j : k + (m + 1) ≡ suc (k + m) = omega arith in
+    rw (records-node kind f ts, spell-node kind f ts, i, j, append-assoc (spellTrees (line kind .operands) ts) (recordWith kind f) rest)
+    (reads-trees (line kind .operands) ts h (g .1) k (suc n) st (recordWith kind f ++ rest) ∙ read-next kind f ts g (k + m) n st rest)
+
+reads : (s : Sort) (t : Tree s) → Reads s t
+reads = on-tree Reads reads-node
+
+pub spelled-taken : (c : Clause) → records c ≤ maxRecords → InRange c → EmptyFree c → read (spell c) ≡ taken c
+unfolding read readRecords Reads
+spelled-taken c n r e =
+    let count : recordCount (spell c) ≡ records c = unfold recordCount in rw length-spell (omega arith) in
+    let w : WholeRecords (spell c) =
+    record { some-records = rw count (some-records c); few-records = rw count n; whole = rw count (length-spell c) } in
+    let s : readRecords 0 (records c) [] (spell c) ≡ taken (operand clause c ∷ []) =
+    rw (add-zero, append-nil) at (reads clause c (r, e) 0 0 [] []) in
+    rw (good-length (spell c) .1 w, count, s)
+
+pub spells-taken : (l : List ℕ) (c : Clause) → Spells l c → read l ≡ taken c
+spells-taken l c s = rw (s .bytes) (spelled-taken c (s .few-records) (s .in-range) (s .empty-free))
+
+pub taken-iff : (l : List ℕ) (c : Clause) → (read l ≡ taken c) ↔ Spells l c
+taken-iff l c = (taken-spells l c, spells-taken l c)
+
+-- a contract that is taken spells exactly one clause
+pub spells-once : {l : List ℕ} {c d : Clause} → Spells l c → Spells l d → c ≡ d
+spells-once {l} {c} {d} s t = let h = spells-taken l c s in let i = spells-taken l d t in cc

@@ -1,0 +1,143 @@
+-- The table by its numbers: each kind is the kind of its own number, which numbers are a kind's, and what the program's table has at each.
+-- Assumes nothing.
+use Prim.Native.Nat.{ℕ, zero, suc, _+_, _-_, _≤_, _<_}
+use native.Mathlib.Omega.{arith}
+use mathlib.Core.Path.{_≡_, refl, subst}
+use mathlib.Core.Logic.{⊎-elim}
+use mathlib.Core.Bool.{Bool, true, false, _&&_, not, cond, and-eq-true-iff, false≢true}
+use mathlib.Core.List.{List, [], _∷_, map}
+use mathlib.Core.Option.{Option, none, some}
+use lib.Dec.{eqb, ltb, leb}
+use lib.ListN.{length, getD}
+use borrow.Author.Tests.{eqb-true, lt-ltb, le-leb}
+use Rattle.records.proofs.Numbers.{lt-or-le}
+use Rattle.reader.specs.declared.Entry.{Entry}
+use Rattle.reader.specs.declared.Lookup.the-variants.{Found, Unknown}
+use Rattle.reader.specs.Table.{Kind, kinds, numbered, kindOf, line, duty, ban, power, both, then, repair, repeat, when, until, any, tries, idle, succeeds, fails, seq, or, star}
+use Rattle.reader.specs.Codes.{entryOf, lookupOf}
+
+pub kind-number : (k : Kind) → kindOf (line k .number) ≡ some k
+unfolding kindOf numbered
+kind-number duty = refl
+kind-number ban = refl
+kind-number power = refl
+kind-number both = refl
+kind-number then = refl
+kind-number repair = refl
+kind-number repeat = refl
+kind-number when = refl
+kind-number until = refl
+kind-number any = refl
+kind-number tries = refl
+kind-number idle = refl
+kind-number succeeds = refl
+kind-number fails = refl
+kind-number seq = refl
+kind-number or = refl
+kind-number star = refl
+
+abbrev pub every : (Kind → Bool) → List Kind → Bool
+every f [] = true
+every f (K ∷ Ks) = f K && every f Ks
+
+-- the kind has this number and passes this test
+abbrev Listed : (Kind → Bool) → ℕ → Option Kind → Type 0
+Listed f n none = Unit {0}
+Listed f n (some K) = (line K .number ≡ n) × (f K ≡ true)
+
+-- a kind found by its number passes the test that all do
+listed : (f : Kind → Bool) (n : ℕ) (Ks : List Kind) → every f Ks ≡ true → Listed f n (numbered n Ks)
+unfolding numbered
+listed f n [] h = tt
+listed f n (K ∷ Ks) h = go (eqb (line K .number) n) refl (listed f n Ks (and-eq-true-iff (f K) (every f Ks) .0 h .1))
+  where
+    go : (t : Bool) → eqb (line K .number) n ≡ t → Listed f n (numbered n Ks) → Listed f n (cond t (some K) (numbered n Ks))
+    go true e rest = (eqb-true (line K .number) n e, and-eq-true-iff (f K) (every f Ks) .0 h .0)
+    go false e rest = rest
+
+-- a test that all kinds of the table pass is passed by every kind
+pub of-all : (f : Kind → Bool) → every f kinds ≡ true → (k : Kind) → f k ≡ true
+unfolding kindOf
+of-all f h k = subst (Listed f (line k .number)) (kind-number k) (listed f (line k .number) kinds h) .1
+
+pub number-kind : (n : ℕ) (k : Kind) → kindOf n ≡ some k → line k .number ≡ n
+unfolding kindOf
+number-kind n k h = subst (Listed (λ j. true) n) h (listed (λ j. true) n kinds refl) .0
+
+-- ---- the kinds of the numbers
+
+-- true of each of so many numbers from i on
+abbrev From : (ℕ → Type 0) → (i count : ℕ) → Type 0
+From P i zero = Unit {0}
+From P i (suc m) = P i × From P (suc i) m
+
+infixr 5 _and_
+abbrev _and_ : {A B : Type 0} → A → B → A × B
+a and b = (a, b)
+
+at : (P : ℕ → Type 0) (i m : ℕ) → From P i m → (n : ℕ) → i ≤ n → n < i + m → P n
+at P i zero all n h l = absurd (omega arith)
+at P i (suc m) all n h l =
+    ⊎-elim (λ s. let e : i ≡ n = omega arith in subst P e (all .0)) (λ s. at P (suc i) m (all .1) n s (omega arith)) (lt-or-le n (suc i))
+
+-- the numbers that are a kind's, by its place among the kinds
+pub clause-kind : (n : ℕ) → 1 ≤ n → n ≤ 9 → kindOf n ≡ some (getD kinds (n - 1) duty)
+unfolding kindOf numbered
+clause-kind n h l =
+    at (λ n. kindOf n ≡ some (getD kinds (n - 1) duty)) 1 9
+    (refl and refl and refl and refl and refl and refl and refl and refl and refl and tt)
+    n h (omega arith)
+
+pub expression-kind : (n : ℕ) → 16 ≤ n → n ≤ 23 → kindOf n ≡ some (getD kinds (n - 7) duty)
+unfolding kindOf numbered
+expression-kind n h l =
+    at (λ n. kindOf n ≡ some (getD kinds (n - 7) duty)) 16 8
+    (refl and refl and refl and refl and refl and refl and refl and refl and tt)
+    n h (omega arith)
+
+-- no kind has a number from a on and below b
+none-between : (a b n : ℕ) → every (λ K. not (leb a (line K .number) && ltb (line K .number) b)) kinds ≡ true → a ≤ n → n < b
+    → kindOf n ≡ none
+unfolding kindOf
+none-between a b n none-there h l = go (kindOf n) refl
+  where
+    outside : Kind → Bool
+    outside K = not (leb a (line K .number) && ltb (line K .number) b)
+
+    go : (o : Option Kind) → kindOf n ≡ o → kindOf n ≡ none
+    go none e = e
+    go (some K) e = absurd (false≢true (rw (number-kind n K e, le-leb a n h, lt-ltb n b l) at (of-all outside none-there K)))
+
+pub no-kind : (n : ℕ) → ¬ ((1 ≤ n) × (n ≤ 9)) → ¬ ((16 ≤ n) × (n ≤ 23)) → kindOf n ≡ none
+no-kind n no-clause no-expression =
+    ⊎-elim (λ l. none-between 0 1 n refl (omega arith) l)
+    (λ a. ⊎-elim (λ l. absurd (no-clause (a, omega arith)))
+    (λ b. ⊎-elim (λ l. none-between 10 16 n refl b l)
+    (λ c. ⊎-elim (λ l. absurd (no-expression (c, omega arith)))
+    (λ d. none-between 24 (suc n) n refl d (omega arith))
+    (lt-or-le n 24)) (lt-or-le n 16)) (lt-or-le n 10)) (lt-or-le n 1)
+
+-- ---- tables of the kinds
+
+-- what a table with an entry for each kind has at a place in it
+pub table-at : {A : Type 0} (f : Kind → A) (d : A) (i : ℕ) → i < length kinds → getD (map f kinds) i d ≡ f (getD kinds i duty)
+table-at f d i h = go kinds i h
+  where
+    go : (Ks : List Kind) (i : ℕ) → i < length Ks → getD (map f Ks) i d ≡ f (getD Ks i duty)
+    go [] i h = absurd (omega arith)
+    go (K ∷ Ks) zero h = refl
+    go (K ∷ Ks) (suc i) h = go Ks i (omega arith)
+
+-- the program's table
+abbrev pub entries : List Entry
+entries = map entryOf kinds
+
+module _ (d : Entry) where
+  pub known-clause : (n : ℕ) → 1 ≤ n → n ≤ 9 → lookupOf (kindOf n) ≡ Found (getD entries (n - 1) d)
+  known-clause n h l = rw (clause-kind n h l, table-at entryOf d (n - 1) (omega arith))
+
+  pub known-expression : (n : ℕ) → 16 ≤ n → n ≤ 23 → lookupOf (kindOf n) ≡ Found (getD entries (n - 7) d)
+  known-expression n h l = rw (expression-kind n h l, table-at entryOf d (n - 7) (omega arith))
+
+pub unknown : (n : ℕ) → ¬ ((1 ≤ n) × (n ≤ 9)) → ¬ ((16 ≤ n) × (n ≤ 23)) → lookupOf (kindOf n) ≡ Unknown
+unknown n no-clause no-expression = rw (no-kind n no-clause no-expression)

@@ -1,0 +1,169 @@
+-- `reader::read_records` meets its contract. The loop's invariant: the stack has the codes of the operands that the records so far leave.
+-- Assumes nothing.
+use borrow.Author.Needs.{needs}
+use Prim.Native.Nat.{_+_, _*_, _≤_, _-_}
+use native.Mathlib.Omega.{arith}
+use mathlib.Core.Path.{_≡_, sym, _∙_}
+use mathlib.Core.Logic.{⊎-elim}
+use lib.ListN.{drop, getD, set}
+use Rattle.reader.specs.Limits.{maxRecords, recordBytes}
+use Rattle.reader.specs.Codes.{stepOf}
+use Rattle.reader.proofs.Stack.{Read, read-none, read-bad, read-pushed, ends-taken, ends-many, ends-unmet}
+use Rattle.reader.proofs.read_records.Statement.{statement}
+use Rattle.reader.proofs.read_records.Tie as tie
+use Rattle.reader.proofs.read_records.Reads as reads
+use Rattle.reader.proofs.read_records.Lts as lts
+use Rattle.reader.proofs.peek.Reads as peek-reads
+use Rattle.reader.proofs.read_record.Reads as read-record-reads
+
+abbrev Inv-loop : tie.InvT-loop
+Inv-loop contract n stack₀ top₀ k₀ stack top k = Read contract n stack top k
+
+abbrev μ-loop : tie.MeasureT-loop
+μ-loop contract n stack₀ top₀ k₀ stack top k = n - k
+
+-- what the record does, by the codes of the stack
+step : (c : lts.After-read-record (peek-reads.Asked, peek-reads.Learnt, read-record-reads.Asked, read-record-reads.Learnt) reads.Pre reads.Post Inv-loop μ-loop)
+    → let d = c .before .before .before .before .before .before in
+    let v = d .loop in
+    stepOf (drop (recordBytes * v .k) (d .before .before .args .contract .now)) (getD (v .stack) (v .top + 1) 0) (getD (v .stack) (v .top) 0)
+    ≡ c .read-record .result
+step c = rw (← c .before .before .before .peek .ensures, ← c .before .peek2 .ensures) (sym (c .read-record .ensures))
+
+-- where it completes a tree, the stack has it
+pushed : (c : lts.After-known-told2 (peek-reads.Asked, peek-reads.Learnt, read-record-reads.Asked, read-record-reads.Learnt) reads.Pre reads.Post Inv-loop μ-loop)
+    → let d = c .before .before .before .before .before .before .before .before .before in
+    let v = d .loop in
+    let m = c .before .step2 .given .0 .0 in
+    (1 ≤ v .top + m)
+    × (v .top + m ≤ maxRecords)
+    × Read (d .before .before .args .contract .now) (d .before .before .args .n) (set (v .stack) (v .top + m - 1) (c .before .step2 .given .0 .1 .0)) (v .top + m - 1) (v .k + 1)
+pushed c =
+    let r = c .before .before .before in
+    let i = r .before .before .before .before .before in
+    read-pushed (i .before .loop .inv) (i .loop-test .taken) _ _ (step r ∙ c .before .step2 .given .1)
+
+loop-holds : tie.Need-loop-holds Inv-loop μ-loop
+loop-holds c = read-none (c .before .args .contract .now) (c .before .args .n) (c .before .pre .few)
+
+mul-read-record : tie.Need-mul-read-record Inv-loop μ-loop
+mul-read-record c =
+    let h = c .loop-test .taken in
+    let few = c .before .before .before .pre .few in
+    search needs
+
+slice-aggregate-peek : tie.Need-slice-aggregate-peek Inv-loop μ-loop
+slice-aggregate-peek c = c .before .before .loop .inv .sized
+
+add-peek : tie.Need-add-peek Inv-loop μ-loop
+add-peek c =
+    let i = c .before .before .loop .inv .inside in
+    search needs
+
+peek-requires : tie.Need-peek-requires Inv-loop μ-loop
+peek-requires c κs = search needs
+
+slice-aggregate-peek-2 : tie.Need-slice-aggregate-peek-2 Inv-loop μ-loop
+slice-aggregate-peek-2 c = c .before .before .before .before .loop .inv .sized
+
+peek-requires-2 : tie.Need-peek-requires-2 Inv-loop μ-loop
+peek-requires-2 c κs = search needs
+
+read-record-requires : tie.Need-read-record-requires Inv-loop μ-loop
+read-record-requires c κs =
+    let t = c .before .before .before .before in
+    let h = t .loop-test .taken in
+    let w = t .before .before .before .pre .whole in
+    omega arith
+
+enum-known-step : tie.Need-enum-known-step Inv-loop μ-loop
+enum-known-step c = search needs
+
+returns : tie.Need-returns Inv-loop μ-loop
+returns c =
+    let r = c .before .before .before in
+    let i = r .before .before .before .before .before in
+    rw (read-bad (i .before .loop .inv) (i .loop-test .taken) _ (step r ∙ c .before .step .given .1))
+
+enum-known-step-2 : tie.Need-enum-known-step-2 Inv-loop μ-loop
+enum-known-step-2 c = search needs
+
+cast-top : tie.Need-cast-top Inv-loop μ-loop
+cast-top c = search needs
+
+add-top : tie.Need-add-top Inv-loop μ-loop
+add-top c =
+    let p = pushed c .1 in
+    search needs
+
+sub-top : tie.Need-sub-top Inv-loop μ-loop
+sub-top c = pushed c .0
+
+array-write-stack : tie.Need-array-write-stack Inv-loop μ-loop
+array-write-stack c =
+    let p = pushed c .0 in
+    let q = pushed c .1 in
+    omega arith
+
+add-k : tie.Need-add-k Inv-loop μ-loop
+add-k c =
+    let w = pushed c .2 .within in
+    search needs
+
+loop-less : tie.Need-loop-less Inv-loop μ-loop
+loop-less c =
+    let h = c .before .before .before .before .before .before .before .before .loop-test .taken in
+    omega arith
+
+loop-again : tie.Need-loop-again Inv-loop μ-loop
+loop-again c = pushed c .2
+
+sub-if1 : tie.Need-sub-if1 Inv-loop μ-loop
+sub-if1 c = search needs
+
+array-read-if2 : tie.Need-array-read-if2 Inv-loop μ-loop
+array-read-if2 c =
+    let e = c .if1 .left in
+    omega arith
+
+returns-2 : tie.Need-returns-2 Inv-loop μ-loop
+returns-2 c =
+    let a = c .before in
+    ⊎-elim
+    (λ w. sym (ends-many (a .before .loop .inv) (a .loop-test .left) (w .taken)))
+    (λ w. sym (ends-unmet (a .before .loop .inv) (a .loop-test .left) (w .0 .left) (w .1 .taken)))
+    (c .if1 .came)
+
+returns-3 : tie.Need-returns-3 Inv-loop μ-loop
+returns-3 c =
+    let a = c .before .before in
+    sym (ends-taken (a .before .loop .inv) (a .loop-test .left) (c .before .if1 .left) (c .if2 .left))
+
+pub read-records-spec : {M : Type 1} → statement M
+read-records-spec =
+    tie.close
+    (tie.spec
+    Inv-loop
+    μ-loop
+    loop-holds
+    mul-read-record
+    slice-aggregate-peek
+    add-peek
+    peek-requires
+    slice-aggregate-peek-2
+    peek-requires-2
+    read-record-requires
+    enum-known-step
+    returns
+    enum-known-step-2
+    cast-top
+    add-top
+    sub-top
+    array-write-stack
+    add-k
+    loop-less
+    loop-again
+    sub-if1
+    array-read-if2
+    returns-2
+    returns-3)

@@ -1,0 +1,195 @@
+-- How a contract's bytes are read: record by record onto a stack of operands, to a clause or the first refusal.
+-- Document 01, "Records" and, for refusals 1 to 7, "Replies that refuse".
+use Prim.Native.Nat.{ℕ, zero, suc, _*_, _/_, _%_, _≤_}
+use mathlib.Core.Bool.{Bool, true, false, _&&_, not, cond}
+use mathlib.Core.List.{List, [], _∷_}
+use mathlib.Core.Option.{Option, none, some}
+use mathlib.Core.Path.{_≡_}
+use lib.Dec.{eqb, ltb, leb}
+use lib.ListN.{length, take, drop, getD}
+use Rattle.records.specs.Marks.{contractMark, marked}
+use Rattle.periods.specs.Limits.{actions}
+use Rattle.periods.specs.Periods.{Party, partyOf}
+use Rattle.contract.specs.Expressions.{holdsEmpty}
+use Rattle.contract.specs.Meaning.{Clause, literal, both, then, repair, repeat, when, until}
+use Rattle.reader.specs.declared.Fault.{Fault}
+use Rattle.reader.specs.declared.Fault.the-variants.{BadLength, BadMark, UnknownKind, BadField, BadOperands, NotOneClause, EmptyList}
+use Rattle.reader.specs.declared.Answer.{Answer}
+use Rattle.reader.specs.declared.Answer.the-variants.{Refused, Taken}
+use Rattle.reader.specs.Limits.{maxRecords, recordBytes}
+use Rattle.reader.specs.Table.{Sort, clause, expression, Kind, kindOf, line}
+use Rattle.reader.specs.Trees.{Tree, Trees, Used, Fields, node}
+
+-- a fault's number among the refusals
+abbrev pub faultNumber : Fault → ℕ
+faultNumber BadLength = 1
+faultNumber BadMark = 2
+faultNumber UnknownKind = 3
+faultNumber BadField = 4
+faultNumber BadOperands = 5
+faultNumber NotOneClause = 6
+faultNumber EmptyList = 7
+
+-- refused for a fault at a place, or taken
+pub data Result (A : Type 0) : Type 0 where
+  refused : Fault → (place : ℕ) → Result A
+  taken : A → Result A
+
+-- what follows where nothing is refused
+abbrev pub next : {A B : Type 0} → Result A → (A → Result B) → Result B
+next (refused f k) g = refused f k
+next (taken x) g = g x
+
+-- refused unless the condition holds
+abbrev pub require : {A : Type 0} → Bool → Fault → (place : ℕ) → Result A → Result A
+require ok f k r = cond ok r (refused f k)
+
+-- refused where there is none
+abbrev pub demand : {A B : Type 0} → Option A → Fault → (place : ℕ) → (A → Result B) → Result B
+demand none f k g = refused f k
+demand (some x) f k g = g x
+
+-- ---- 4: the fields
+
+-- "party (1 or 2)", and 0 where it is not used
+abbrev pub partyField : (used : Bool) → ℕ → Option (Used used Party)
+partyField true n = partyOf n
+partyField false n = cond (eqb n 0) (some tt) none
+
+-- "action (0 to 15)", and 0 where it is not used
+abbrev pub actionField : (used : Bool) → ℕ → Option (Used used ℕ)
+actionField true n = cond (ltb n actions) (some n) none
+actionField false n = cond (eqb n 0) (some tt) none
+
+abbrev pub fieldsFrom : (k : Kind) → Option (Used (line k .usesParty) Party) → Option (Used (line k .usesAction) ℕ) → Option (Fields k)
+fieldsFrom k none a = none
+fieldsFrom k (some p) none = none
+fieldsFrom k (some p) (some a) = some (record { party = p; action = a })
+
+-- a record's fields; the last byte is 0, since no kind uses it
+unfoldable pub fieldsOf : (k : Kind) → (party action last : ℕ) → Option (Fields k)
+fieldsOf k p a z = cond (eqb z 0) (fieldsFrom k (partyField (line k .usesParty) p) (actionField (line k .usesAction) a)) none
+
+-- ---- 5: the operands
+
+-- a tree that awaits its operator
+pub data Operand : Type 0 where
+  operand : (s : Sort) → Tree s → Operand
+
+-- operands of these sorts, and the stack below them
+pub record Operands (ss : List Sort) : Type 0 where
+  pub trees : Trees ss
+  pub rest : List Operand
+
+-- one more operand, from the top of the stack below the others
+abbrev pub oneMore : (s : Sort) {ss : List Sort} → Trees ss → List Operand → Option (Operands (s ∷ ss))
+oneMore s ts [] = none
+oneMore clause ts (operand clause c ∷ st) = some (record { trees = (c, ts); rest = st })
+oneMore clause ts (operand expression e ∷ st) = none
+oneMore expression ts (operand clause c ∷ st) = none
+oneMore expression ts (operand expression e ∷ st) = some (record { trees = (e, ts); rest = st })
+
+abbrev pub below : (s : Sort) {ss : List Sort} → Option (Operands ss) → Option (Operands (s ∷ ss))
+below s none = none
+below s (some os) = oneMore s (os .trees) (os .rest)
+
+-- the operands of these sorts on a stack, its top first: the last operand is on top
+unfoldable pub operandsOf : (ss : List Sort) → List Operand → Option (Operands ss)
+operandsOf [] st = some (record { trees = tt; rest = st })
+operandsOf (s ∷ ss) st = below s (operandsOf ss st)
+
+-- ---- 7: "An expression under `when` or `until` must not hold the empty list." The test `holdsEmpty` decides whether the empty list is in the
+-- expression's set.
+
+abbrev pub clauseHoldsEmpty : Clause → Bool
+clauseHoldsEmpty (literal l p a) = false
+clauseHoldsEmpty (both l r) = false
+clauseHoldsEmpty (then l r) = false
+clauseHoldsEmpty (repair l r) = false
+clauseHoldsEmpty (repeat c) = false
+clauseHoldsEmpty (when e c) = holdsEmpty e
+clauseHoldsEmpty (until c e) = holdsEmpty e
+
+abbrev pub holdsEmptyUnder : (s : Sort) → Tree s → Bool
+holdsEmptyUnder clause c = clauseHoldsEmpty c
+holdsEmptyUnder expression e = false
+
+-- ---- "for each record 2, 3, 4, 5, 7, then 6"
+
+-- the tree of record k with its operands, pushed where it passes 7
+abbrev pub push : (k : ℕ) (s : Sort) → Tree s → List Operand → Result (List Operand)
+push k s t st = require (not (holdsEmptyUnder s t)) EmptyList k (taken (operand s t ∷ st))
+
+-- the stack after record k, which stands first in the bytes
+unfoldable pub readRecord : (k : ℕ) → List Operand → List ℕ → Result (List Operand)
+readRecord k st l =
+    require (marked l 0 contractMark) BadMark k
+    (demand (kindOf (getD l 2 0)) UnknownKind k
+    (λ kind. demand (fieldsOf kind (getD l 3 0) (getD l 4 0) (getD l 5 0)) BadField k
+    (λ fields. demand (operandsOf (line kind .operands) st) BadOperands k
+    (λ os. push k (line kind .completes) (node kind fields (os .trees)) (os .rest)))))
+
+-- the stack after n records, the first of which is record k
+unfoldable pub readRecords : (k n : ℕ) → List Operand → List ℕ → Result (List Operand)
+readRecords k zero st l = taken st
+readRecords k (suc n) st l = next (readRecord k st l) (λ st′. readRecords (suc k) n st′ (drop recordBytes l))
+
+-- 6: "at the end not just one clause; record count"
+abbrev pub justOne : (n : ℕ) → List Operand → Result Clause
+justOne n [] = refused NotOneClause n
+justOne n (operand clause c ∷ []) = taken c
+justOne n (operand expression e ∷ []) = refused NotOneClause n
+justOne n (o ∷ p ∷ st) = refused NotOneClause n
+
+-- how many records a contract has
+unfoldable pub recordCount : List ℕ → ℕ
+recordCount l = length l / recordBytes
+
+-- 1: "contract empty, not a multiple of 6 bytes, or over 64 records; 0"
+unfoldable pub goodLength : List ℕ → Bool
+goodLength l = ltb 0 (length l) && eqb (length l % recordBytes) 0 && leb (length l) (recordBytes * maxRecords)
+
+-- the clause that a contract's records spell, or the first refusal: "A contract means what the clause that its last record completes means."
+unfoldable pub read : List ℕ → Result Clause
+read l = require (goodLength l) BadLength 0 (next (readRecords 0 (recordCount l) [] l) (justOne (recordCount l)))
+
+-- ---- the answer
+
+-- what the program answers: a refusal with its place, or the number of records taken
+abbrev pub answerOf : ℕ → Result Clause → Answer
+answerOf n (refused f k) = Refused f k
+answerOf n (taken c) = Taken n
+
+unfoldable pub answer : List ℕ → Answer
+answer l = answerOf (recordCount l) (read l)
+
+-- its number in replies: a contract that is taken has number 0 and place 0
+abbrev pub numberOf : Answer → ℕ
+numberOf (Refused f k) = faultNumber f
+numberOf (Taken n) = 0
+
+-- its place
+abbrev pub placeOf : Answer → ℕ
+placeOf (Refused f k) = k
+placeOf (Taken n) = 0
+
+-- ---- the place of a refusal
+
+-- the faults of one record: 2 to 5 and 7
+abbrev pub ofRecord : Fault → Bool
+ofRecord BadLength = false
+ofRecord BadMark = true
+ofRecord UnknownKind = true
+ofRecord BadField = true
+ofRecord BadOperands = true
+ofRecord NotOneClause = false
+ofRecord EmptyList = true
+
+-- reading the bytes meets no fault of a record
+pub record Faultless (l : List ℕ) : Type 0 where
+  pub none-met : (f : Fault) (k : ℕ) → read l ≡ refused f k → ofRecord f ≡ false
+
+-- "the first record at fault": the fault is met where the bytes end with record k, and no fault of a record where they end before it
+pub record FirstFault (l : List ℕ) (f : Fault) (k : ℕ) : Type 0 where
+  pub here : read (take (recordBytes * suc k) l) ≡ refused f k
+  pub before : (n : ℕ) → n ≤ k → Faultless (take (recordBytes * n) l)

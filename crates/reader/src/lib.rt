@@ -1,0 +1,299 @@
+// The reader, which takes the bytes of a contract or refuses them. Document 01, "Records" and "Replies that refuse".
+ghost use mathlib.Core.Path.{_≡_};
+ghost use mathlib.Core.List.{[]};
+ghost use Prim.Native.Nat.{_+_, _≤_};
+ghost use lib.ListN.{length, drop, getD};
+ghost use Rattle.reader.specs.Limits.{recordBytes};
+ghost use Rattle.reader.specs.Table.{kindOf};
+ghost use Rattle.reader.specs.Reader.{faultNumber, numberOf, placeOf, next, readRecords, justOne, answerOf, answer};
+ghost use Rattle.reader.specs.Codes.{lookupOf, operandCount, goodParty, goodAction, goodFields, expressionCode, sortOf, goodOperands, emptyUnder, completed, stepOf, HasRecords};
+
+// The most records of a contract.
+pub const MAX_RECORDS: usize = 64;
+
+// The bytes of a contract record.
+pub const RECORD_BYTES: usize = 6;
+
+// What is wrong with a contract.
+pub enum Fault {
+    BadLength,
+    BadMark,
+    UnknownKind,
+    BadField,
+    BadOperands,
+    NotOneClause,
+    EmptyList,
+}
+
+// A contract is refused for a fault at a place, or taken with so many records.
+pub enum Answer {
+    Refused(Fault, usize),
+    Taken(usize),
+}
+
+// A fault's number among the refusals.
+fn fault_number(f: Fault) -> u32
+    ensures { λ r. ⌜ r ≡ faultNumber f ⌝ }
+{
+    match f {
+        Fault::BadLength => 1,
+        Fault::BadMark => 2,
+        Fault::UnknownKind => 3,
+        Fault::BadField => 4,
+        Fault::BadOperands => 5,
+        Fault::NotOneClause => 6,
+        Fault::EmptyList => 7,
+    }
+}
+
+// An answer's number in replies, 0 for a contract that is taken.
+pub fn number(a: Answer) -> u32
+    ensures { λ r. ⌜ r ≡ numberOf a ⌝ }
+{
+    match a {
+        Answer::Refused(f, _) => fault_number(f),
+        Answer::Taken(_) => 0,
+    }
+}
+
+// Its place, 0 for a contract that is taken.
+pub fn place(a: Answer) -> u64
+    ensures { λ r. ⌜ r ≡ placeOf a ⌝ }
+{
+    match a {
+        Answer::Refused(_, k) => k as u64,
+        Answer::Taken(_) => 0,
+    }
+}
+
+// ---- the table
+
+// No operand, a clause, an expression: the sorts in the table, and the codes of operands on the stack.
+const NONE: u8 = 0;
+
+const CLAUSE: u8 = 1;
+
+const EXPRESSION: u8 = 2;
+
+// The code of an expression that holds the empty list.
+pub const EMPTY: u8 = 3;
+
+// A line of the table: how many operands, the sorts of the first and the second in the order in which they are read, whether the party is
+// used, and whether the action is.
+pub struct Entry(pub u8, pub u8, pub u8, pub bool, pub bool);
+
+// A line for each of the kinds 1 to 9, then 16 to 23.
+const TABLE: [Entry; 17] = [
+    Entry(0, NONE, NONE, true, true), // 1 duty
+    Entry(0, NONE, NONE, true, true), // 2 ban
+    Entry(0, NONE, NONE, true, true), // 3 power
+    Entry(2, CLAUSE, CLAUSE, false, false), // 4 both
+    Entry(2, CLAUSE, CLAUSE, false, false), // 5 then
+    Entry(2, CLAUSE, CLAUSE, false, false), // 6 repair
+    Entry(1, CLAUSE, NONE, false, false), // 7 repeat
+    Entry(2, EXPRESSION, CLAUSE, false, false), // 8 when
+    Entry(2, CLAUSE, EXPRESSION, false, false), // 9 until
+    Entry(0, NONE, NONE, false, false), // 16 any
+    Entry(0, NONE, NONE, true, true), // 17 tries
+    Entry(0, NONE, NONE, true, true), // 18 idle
+    Entry(0, NONE, NONE, false, true), // 19 succeeds
+    Entry(0, NONE, NONE, false, true), // 20 fails
+    Entry(2, EXPRESSION, EXPRESSION, false, false), // 21 seq
+    Entry(2, EXPRESSION, EXPRESSION, false, false), // 22 or
+    Entry(1, EXPRESSION, NONE, false, false), // 23 star
+];
+
+// What the table has for a kind's number.
+pub enum Lookup {
+    Found(Entry),
+    Unknown,
+}
+
+fn entry_of(kind: u8) -> Lookup
+    ensures { λ r. ⌜ r ≡ lookupOf (kindOf kind) ⌝ }
+{
+    match kind {
+        1..=9 => Lookup::Found(TABLE[kind as usize - 1]),
+        16..=23 => Lookup::Found(TABLE[kind as usize - 7]),
+        _ => Lookup::Unknown,
+    }
+}
+
+// How many operands a kind has, 0 for a number that is no kind's.
+pub fn operands(kind: u8) -> u8
+    ensures { λ r. ⌜ r ≡ operandCount (kindOf kind) ⌝ }
+{
+    let found = entry_of(kind);
+    match found {
+        Lookup::Found(e) => e.0,
+        Lookup::Unknown => 0,
+    }
+}
+
+// ---- a record
+
+fn good_party(used: bool, party: u8) -> bool
+    ensures { λ r. ⌜ r ≡ goodParty used party ⌝ }
+{
+    match party {
+        0 => !used,
+        1..=2 => used,
+        _ => false,
+    }
+}
+
+fn good_action(used: bool, action: u8) -> bool
+    ensures { λ r. ⌜ r ≡ goodAction used action ⌝ }
+{
+    if used {
+        periods::is_action(records::wide(action))
+    } else {
+        action == 0
+    }
+}
+
+// Whether the fields that a kind uses are in range, and the others 0.
+fn good_fields(e: Entry, party: u8, action: u8, last: u8) -> bool
+    ensures { λ r. ⌜ r ≡ goodFields e party action last ⌝ }
+{
+    if !good_party(e.3, party) {
+        return false;
+    }
+    if !good_action(e.4, action) {
+        return false;
+    }
+    last == 0
+}
+
+// The sort of an operand's code.
+fn sort(code: u8) -> u8
+    ensures { λ r. ⌜ r ≡ sortOf code ⌝ }
+{
+    if code == EMPTY { EXPRESSION } else { code }
+}
+
+// Whether the two operands on top are those that a kind asks for.
+fn good_operands(e: Entry, below: u8, top: u8) -> bool
+    ensures { λ r. ⌜ r ≡ goodOperands e below top ⌝ }
+{
+    let operands = e.0;
+    match operands {
+        0 => true,
+        1 => sort(top) == e.1,
+        _ => sort(below) == e.1 && sort(top) == e.2,
+    }
+}
+
+// Whether the expression under `when` or `until` holds the empty list.
+fn empty_under(kind: u8, below: u8, top: u8) -> bool
+    ensures { λ r. ⌜ r ≡ emptyUnder kind below top ⌝ }
+{
+    match kind {
+        8 => below == EMPTY,
+        9 => top == EMPTY,
+        _ => false,
+    }
+}
+
+// The code of an expression.
+fn expression(empty: bool) -> u8
+    ensures { λ r. ⌜ r ≡ expressionCode empty ⌝ }
+{
+    if empty { EMPTY } else { EXPRESSION }
+}
+
+// The code of what a record completes.
+pub fn completed(kind: u8, below: u8, top: u8) -> u8
+    ensures { λ r. ⌜ r ≡ completed kind below top ⌝ }
+{
+    match kind {
+        1..=9 => CLAUSE,
+        21 => expression(below == EMPTY && top == EMPTY),
+        22 => expression(below == EMPTY || top == EMPTY),
+        23 => EMPTY,
+        _ => EXPRESSION,
+    }
+}
+
+// What a record does to the stack: a fault, or so many operands replaced by one of this code.
+pub enum Step {
+    Bad(Fault),
+    Completed(u8, u8),
+}
+
+// The tests of the record from byte `at` on, in their order.
+fn read_record(contract: &[u8], at: usize, below: u8, top: u8) -> Step
+    requires { ⌜ at + recordBytes ≤ length (now contract) ⌝ }
+    ensures { λ r. ⌜ r ≡ stepOf (drop at (now (contract .entry))) below top ⌝ }
+{
+    if !records::contract_marked(contract, at) {
+        return Step::Bad(Fault::BadMark);
+    }
+    let kind = contract[at + 2];
+    let found = entry_of(kind);
+    let Lookup::Found(e) = found else {
+        return Step::Bad(Fault::UnknownKind);
+    };
+    if !good_fields(e, contract[at + 3], contract[at + 4], contract[at + 5]) {
+        return Step::Bad(Fault::BadField);
+    }
+    if !good_operands(e, below, top) {
+        return Step::Bad(Fault::BadOperands);
+    }
+    if empty_under(kind, below, top) {
+        return Step::Bad(Fault::EmptyList);
+    }
+    Step::Completed(e.0, completed(kind, below, top))
+}
+
+// ---- the contract
+
+// The code at a place of the stack, NONE beyond its end.
+fn peek(stack: &[u8], at: usize) -> u8
+    ensures { λ r. ⌜ r ≡ getD (now (stack .entry)) at 0 ⌝ }
+{
+    if at < stack.len() { stack[at] } else { NONE }
+}
+
+// The records one after the other. The stack grows from the end of its array down: its top is at `top`.
+fn read_records(contract: &[u8], n: usize) -> Answer
+    requires { ⌜ HasRecords (now contract) n ⌝ }
+    ensures { λ r. ⌜ r ≡ answerOf n (next (readRecords 0 n [] (now (contract .entry))) (justOne n)) ⌝ }
+{
+    let mut stack = [NONE; MAX_RECORDS];
+    let mut top = MAX_RECORDS;
+    let mut k = 0;
+    while k < n {
+        let step = read_record(
+            contract,
+            RECORD_BYTES * k,
+            peek(&stack, top + 1),
+            peek(&stack, top),
+        );
+        match step {
+            Step::Bad(fault) => {
+                return Answer::Refused(fault, k);
+            }
+            Step::Completed(operands, code) => {
+                top = top + operands as usize - 1;
+                stack[top] = code;
+            }
+        }
+        k += 1;
+    }
+    if top != MAX_RECORDS - 1 || stack[top] != CLAUSE {
+        return Answer::Refused(Fault::NotOneClause, n);
+    }
+    Answer::Taken(n)
+}
+
+// Reads a contract: the first refusal of 1 to 7, or the number of its records.
+pub fn read(contract: &[u8]) -> Answer
+    ensures { λ r. ⌜ r ≡ answer (now (contract .entry)) ⌝ }
+{
+    let bytes = contract.len();
+    if bytes == 0 || bytes % RECORD_BYTES != 0 || RECORD_BYTES * MAX_RECORDS < bytes {
+        return Answer::Refused(Fault::BadLength, 0);
+    }
+    read_records(contract, bytes / RECORD_BYTES)
+}

@@ -1,0 +1,136 @@
+//! Compares the monitor's archive with an earlier one: `before [--seed S] [--cases N]`,
+//! `before --speed`, `before --stack`.
+//!
+//! The earlier archive is linked beside today's where MONITOR_BEFORE names its folder at the build.
+//! The first form makes every call of `compare`'s cases with both archives on equal copies of what
+//! is lent; all must be the same at the call's end. Case number i is that of the seed S + i, so
+//! `before --seed S --cases 1` repeats one case. The second form times both archives on the
+//! benchmark's inputs; the third measures the stack that the calls use.
+
+#![deny(unsafe_code)]
+
+#[allow(unsafe_code)]
+mod archive;
+#[cfg(test)]
+mod archives;
+#[allow(unsafe_code)]
+mod painted;
+mod same;
+mod speed;
+#[cfg(test)]
+#[allow(unsafe_code)]
+mod spoiled;
+mod stack;
+
+use archive::{Archive, Sides};
+use bench::timing::Plan;
+use compare::cases::Case;
+use compare::{report, shrink};
+use same::{Pair, Tally};
+use std::env;
+use std::process::ExitCode;
+
+const USAGE: &str = "usage: before [--seed S] [--cases N], before --speed, before --stack";
+const NOT_LINKED: &str =
+    "no earlier archive is linked: build with MONITOR_BEFORE set to a folder that has libmonitor.a, \
+     or libcompiler.a and librunner.a (a whole path, or one from hosts/before)";
+
+#[derive(Debug, PartialEq, Eq)]
+enum Task {
+    Bytes { seed: u64, cases: u64 },
+    Speed,
+    Stack,
+}
+
+fn task(mut words: impl Iterator<Item = String>) -> Option<Task> {
+    let (mut seed, mut cases) = (1, 100000);
+    while let Some(word) = words.next() {
+        match word.as_str() {
+            "--seed" => seed = words.next()?.parse().ok()?,
+            "--cases" => cases = words.next()?.parse().ok()?,
+            "--speed" => return words.next().is_none().then_some(Task::Speed),
+            "--stack" => return words.next().is_none().then_some(Task::Stack),
+            _ => return None,
+        }
+    }
+    Some(Task::Bytes { seed, cases })
+}
+
+/// Compares cases up to the first difference, which is printed.
+fn compare_bytes(sides: &Sides, seed: u64, cases: u64) -> ExitCode {
+    let pair = Pair {
+        before: sides.before.places[0],
+        now: Archive::of_hosts(),
+    };
+    let mut tally = Tally::default();
+    for number in 0..cases {
+        let seed = seed.wrapping_add(number);
+        let case = Case::of_seed(seed);
+        if pair.check(&case, &mut tally).is_err() {
+            print_difference(&pair, seed, case);
+            return ExitCode::FAILURE;
+        }
+    }
+    println!("{tally}: before and now agree byte for byte");
+    ExitCode::SUCCESS
+}
+
+/// Prints the seed, and the smallest case that it could be shrunk to.
+fn print_difference(pair: &Pair, seed: u64, case: Case) {
+    println!("seed {seed}: a difference");
+    let check = |case: &Case| pair.check(case, &mut Tally::default());
+    let smaller = shrink::case(case, &mut |case| check(case).is_err());
+    report::print_case(&smaller);
+    if let Err(difference) = check(&smaller) {
+        difference.print();
+    }
+}
+
+/// Prints which archive is which.
+fn print_sides(sides: &Sides) {
+    println!("before: {}", sides.before.files);
+    println!("now:    {}", sides.now.files);
+    if sides.alike {
+        println!("Both hold the same code.");
+    }
+}
+
+fn main() -> ExitCode {
+    let Some(task) = task(env::args().skip(1)) else {
+        eprintln!("{USAGE}");
+        return ExitCode::from(2);
+    };
+    let Some(sides) = archive::sides() else {
+        eprintln!("{NOT_LINKED}");
+        return ExitCode::from(2);
+    };
+    assert!(sides.are_apart(), "the archives share code");
+    print_sides(&sides);
+    match task {
+        Task::Bytes { seed, cases } => return compare_bytes(&sides, seed, cases),
+        Task::Speed => speed::measure(&Plan::new(false), &sides),
+        Task::Stack => stack::measure(&sides),
+    }
+    ExitCode::SUCCESS
+}
+
+#[cfg(test)]
+mod tests {
+    use super::*;
+
+    fn read(line: &str) -> Option<Task> {
+        task(line.split_whitespace().map(str::to_string))
+    }
+
+    #[test]
+    fn tasks_are_read() {
+        let bytes = |seed, cases| Some(Task::Bytes { seed, cases });
+        assert_eq!(read(""), bytes(1, 100000));
+        assert_eq!(read("--seed 7 --cases 2"), bytes(7, 2));
+        assert_eq!(read("--speed"), Some(Task::Speed));
+        assert_eq!(read("--stack"), Some(Task::Stack));
+        for wrong in ["--cases", "--cases x", "--speed --stack", "--other"] {
+            assert_eq!(read(wrong), None, "{wrong}");
+        }
+    }
+}

@@ -1,0 +1,269 @@
+//! One case on both archives: every call leaves the same bytes.
+
+use crate::archive::Archive;
+use compare::cases::{Call, Case, Start};
+use compare::guard::Lent;
+use compare::random::Random;
+use compare::report::Difference;
+use reference::contract::least_buffer;
+use reference::records::{four_bytes, RECORD_BYTES};
+use std::fmt::{self, Display, Formatter};
+
+/// How often each call was made with both archives.
+#[derive(Debug, Default, PartialEq, Eq)]
+pub struct Tally {
+    pub cases: u64,
+    pub compiles: u64,
+    /// The compiles that were accepted.
+    pub taken: u64,
+    pub begins: u64,
+    pub steps: u64,
+    pub runs: u64,
+}
+
+impl Display for Tally {
+    fn fmt(&self, to: &mut Formatter) -> fmt::Result {
+        write!(
+            to,
+            "{} cases with {} compiles ({} taken), {} begins, {} steps, {} runs",
+            self.cases, self.compiles, self.taken, self.begins, self.steps, self.runs
+        )
+    }
+}
+
+/// The two archives. Of each lent area the earlier one gets the copy of the reference.
+#[derive(Clone, Copy)]
+pub struct Pair {
+    pub before: Archive,
+    pub now: Archive,
+}
+
+impl Pair {
+    /// Runs the case; an error is the first difference.
+    pub fn check(&self, case: &Case, tally: &mut Tally) -> Result<(), Difference> {
+        tally.cases += 1;
+        let checked = self.check_start(case, tally);
+        checked.map_err(|difference| difference.between(&["before", "now"]))
+    }
+
+    fn check_start(&self, case: &Case, tally: &mut Tally) -> Result<(), Difference> {
+        let mut random = Random::new(case.fill);
+        match &case.start {
+            Start::Contract {
+                bytes,
+                buffer,
+                reply,
+            } => {
+                let contract = Lent::new("contract", bytes, &mut random);
+                let image = self.compile(&contract, *buffer, *reply, &mut random, tally)?;
+                let Some(image) = image else {
+                    return Ok(());
+                };
+                // Another compile, into a buffer of another length and content.
+                let buffer = least_buffer(bytes.len() / RECORD_BYTES) + random.below(100);
+                self.compile(&contract, buffer, 2048, &mut random, tally)?;
+                let state = random.bytes(10 + image.len() / 8 - 1);
+                self.check_calls(case, &image, &state, random, tally)
+            }
+            Start::Image { bytes, state } => self.check_calls(case, bytes, state, random, tally),
+        }
+    }
+
+    /// The image, where compile accepts.
+    fn compile(
+        &self,
+        contract: &Lent,
+        buffer: usize,
+        reply: usize,
+        random: &mut Random,
+        tally: &mut Tally,
+    ) -> Result<Option<Vec<u8>>, Difference> {
+        let mut image = Lent::random("image buffer", buffer, random);
+        let mut reply = Lent::random("reply area", reply, random);
+        let results = [
+            self.before.compile(
+                contract.reference(),
+                image.reference_mut(),
+                reply.reference_mut(),
+            ),
+            self.now
+                .compile(contract.product(), image.product_mut(), reply.product_mut()),
+        ];
+        tally.compiles += 1;
+        same("compile", results, &[contract, &image, &reply])?;
+        if results[1] == 0 || four_bytes(reply.product(), 0) != 0 {
+            return Ok(None);
+        }
+        tally.taken += 1;
+        let rows = four_bytes(reply.product(), 4) as usize;
+        Ok(image.product().get(..8 * (rows + 1)).map(<[u8]>::to_vec))
+    }
+
+    fn check_calls(
+        &self,
+        case: &Case,
+        image: &[u8],
+        state: &[u8],
+        mut random: Random,
+        tally: &mut Tally,
+    ) -> Result<(), Difference> {
+        let image = Lent::new("image", image, &mut random);
+        let state = Lent::new("state", state, &mut random);
+        let mut calls = Calls {
+            pair: self,
+            image,
+            state,
+            random,
+        };
+        for (number, call) in case.calls.iter().enumerate() {
+            calls.check(number, call, tally)?;
+        }
+        Ok(())
+    }
+}
+
+/// Calls on one image and one state.
+struct Calls<'a> {
+    pair: &'a Pair,
+    image: Lent,
+    state: Lent,
+    random: Random,
+}
+
+/// Step or run.
+type Taking = fn(&Archive, &[u8], &mut [u8], &[u8], &mut [u8]) -> u32;
+
+impl Calls<'_> {
+    fn check(&mut self, number: usize, call: &Call, tally: &mut Tally) -> Result<(), Difference> {
+        let name = |call: &str| format!("call {number}, {call}");
+        match call {
+            Call::Begin { reply } => {
+                tally.begins += 1;
+                self.begin(&name("begin"), *reply)
+            }
+            Call::Step { period, reply } => {
+                tally.steps += 1;
+                self.take(&name("step"), Archive::step, period, *reply)
+            }
+            Call::Run { trace, reply } => {
+                tally.runs += 1;
+                self.take(&name("run"), Archive::run, trace, *reply)
+            }
+        }
+    }
+
+    fn begin(&mut self, name: &str, reply: usize) -> Result<(), Difference> {
+        let mut reply = Lent::random("reply area", reply, &mut self.random);
+        let results = [
+            self.pair.before.begin(
+                self.image.reference(),
+                self.state.reference_mut(),
+                reply.reference_mut(),
+            ),
+            self.pair.now.begin(
+                self.image.product(),
+                self.state.product_mut(),
+                reply.product_mut(),
+            ),
+        ];
+        same(name, results, &[&reply, &self.state, &self.image])
+    }
+
+    fn take(
+        &mut self,
+        name: &str,
+        taking: Taking,
+        periods: &[u8],
+        reply: usize,
+    ) -> Result<(), Difference> {
+        let periods = Lent::new("period records", periods, &mut self.random);
+        let mut reply = Lent::random("reply area", reply, &mut self.random);
+        let results = [
+            taking(
+                &self.pair.before,
+                self.image.reference(),
+                self.state.reference_mut(),
+                periods.reference(),
+                reply.reference_mut(),
+            ),
+            taking(
+                &self.pair.now,
+                self.image.product(),
+                self.state.product_mut(),
+                periods.product(),
+                reply.product_mut(),
+            ),
+        ];
+        same(name, results, &[&reply, &self.state, &self.image, &periods])
+    }
+}
+
+/// That both archives gave the same result and left the same bytes.
+fn same(call: &str, [before, now]: [u32; 2], lent: &[&Lent]) -> Result<(), Difference> {
+    Difference::unless_same(call, "the result", &before, &now)?;
+    lent.iter().try_for_each(|lent| lent.compare(call))
+}
+
+#[cfg(test)]
+mod tests {
+    use super::*;
+    use crate::spoiled::{spoiled, OUTPUT, REPLY, RESULT};
+
+    fn pair(now: Archive) -> Pair {
+        Pair {
+            before: Archive::of_hosts(),
+            now,
+        }
+    }
+
+    /// The first difference in some cases.
+    fn difference(now: Archive) -> String {
+        let pair = pair(now);
+        let check = |seed| pair.check(&Case::of_seed(seed), &mut Tally::default());
+        let found = (0..1000).find_map(|seed| check(seed).err());
+        found.expect("there is a difference").to_string()
+    }
+
+    #[test]
+    fn an_archive_agrees_with_itself() {
+        let pair = pair(Archive::of_hosts());
+        let mut tally = Tally::default();
+        for seed in 0..1000 {
+            pair.check(&Case::of_seed(seed), &mut tally).unwrap();
+        }
+        assert_eq!(tally.cases, 1000);
+        assert!(0 < tally.taken && tally.taken < tally.compiles);
+        assert!([tally.begins, tally.steps, tally.runs]
+            .iter()
+            .all(|n| *n > 300));
+    }
+
+    #[test]
+    fn every_other_result_is_a_difference() {
+        for (archive, call) in spoiled::<RESULT>() {
+            let text = difference(archive);
+            assert!(text.contains(call) && text.contains("the result"), "{text}");
+        }
+    }
+
+    #[test]
+    fn every_other_byte_is_a_difference() {
+        for (archive, call) in spoiled::<OUTPUT>() {
+            let area = if call == "compile" {
+                "image buffer"
+            } else {
+                "state"
+            };
+            let text = difference(archive);
+            assert!(text.contains(call) && text.contains(area), "{text}");
+            assert!(
+                text.contains("\n  before ") && text.contains("\n  now "),
+                "{text}"
+            );
+        }
+        for (archive, call) in spoiled::<REPLY>() {
+            let text = difference(archive);
+            assert!(text.contains(call) && text.contains("reply area"), "{text}");
+        }
+    }
+}

@@ -1,0 +1,184 @@
+//! Times of both archives on the benchmark's inputs, as ratios.
+
+use crate::archive::{Archive, Sides, PLACES};
+use bench::compile::{calls, LENGTHS};
+use bench::contracts::{Family, FAMILIES};
+use bench::product::{self, LONGEST_IMAGE, PERIOD};
+use bench::timing::{fastest, nanoseconds, Plan, Side};
+use bench::{rows, steps, Input};
+use std::cell::RefCell;
+
+pub fn measure(plan: &Plan, sides: &Sides) {
+    plan.say(&plan.method());
+    plan.say(
+        "The ratio is that of now to before. Each archive is linked four times, its code 16 bytes further\n\
+         on each time, and the fastest place counts. Nanoseconds are those of a row visit in run, of a\n\
+         period in step, of a call in compile.\n",
+    );
+    line(plan, ["call", "input", "before", "now", "ratio"]);
+    let table = Table { plan, sides };
+    let (run_inputs, step_inputs) = (rows::inputs(plan), steps::inputs(plan));
+    let runs = run_inputs.iter().map(|input| table.run(input)).collect();
+    let steps = step_inputs.iter().map(|input| table.step(input)).collect();
+    let compiles = lengths_of_families()
+        .map(|(family, records)| table.compile(family, records))
+        .collect();
+    plan.say("");
+    for (call, ratios) in [("run", runs), ("step", steps), ("compile", compiles)] {
+        plan.say(&summary(call, ratios));
+    }
+}
+
+fn lengths_of_families() -> impl Iterator<Item = (&'static Family, usize)> {
+    let lengths = |family| LENGTHS.map(|records| (family, records));
+    FAMILIES.iter().flat_map(lengths)
+}
+
+/// The ratios of a row: of the bests, and the median of the turns.
+type Ratios = [f64; 2];
+
+/// The least and the greatest ratios of a call.
+fn summary(call: &str, rows: Vec<Ratios>) -> String {
+    let [bests, medians] = [0, 1].map(|which| {
+        let ratios = || rows.iter().map(|ratios| ratios[which]);
+        let least = ratios().fold(f64::INFINITY, f64::min);
+        let most = ratios().fold(0.0, f64::max);
+        format!("{least:.2} to {most:.2}")
+    });
+    let inputs = rows.len();
+    format!("{call}, {inputs} inputs: ratios of the bests {bests}, medians of the turns {medians}")
+}
+
+/// What the rows of the table have in common.
+struct Table<'a> {
+    plan: &'a Plan,
+    sides: &'a Sides,
+}
+
+impl Table<'_> {
+    /// One row. The work is done with each archive in each place, in turns, and in the same memory.
+    fn row(&self, call: &str, input: &str, parts: usize, work: &dyn Fn(&Archive) -> f64) -> Ratios {
+        let mut turns: Vec<Side> = Vec::new();
+        for place in 0..PLACES {
+            for copies in [&self.sides.before, &self.sides.now] {
+                let archive = &copies.places[place];
+                turns.push(Box::new(move || work(archive)));
+            }
+        }
+        let times = self.plan.measure(&mut turns);
+        let fastest = fastest(&times, PLACES);
+        let (before, now) = (fastest[0], fastest[1]);
+        let cells = [before.per(parts), now.per(parts), now.ratio(before)];
+        line(self.plan, [call, input, &cells[0], &cells[1], &cells[2]]);
+        now.ratios(before)
+    }
+
+    fn run(&self, input: &Input) -> Ratios {
+        let Input { image, trace, .. } = input;
+        let visits = trace.len() / PERIOD * product::rows_of(image);
+        self.taking("run", input, visits, &|archive, state| {
+            archive.run(image, state, trace, &mut [0; 24]);
+        })
+    }
+
+    fn step(&self, input: &Input) -> Ratios {
+        let Input { image, trace, .. } = input;
+        self.taking("step", input, trace.len() / PERIOD, &|archive, state| {
+            for record in trace.chunks_exact(PERIOD) {
+                archive.step(image, state, record, &mut [0; 24]);
+            }
+        })
+    }
+
+    /// A row of step or run.
+    fn taking(
+        &self,
+        call: &str,
+        input: &Input,
+        parts: usize,
+        take: &dyn Fn(&Archive, &mut [u8]),
+    ) -> Ratios {
+        let mut end = product::begin(&input.image);
+        product::run(&input.image, &mut end, &input.trace);
+        let state = RefCell::new(end.clone());
+        let name = format!("{}, {} rows", input.name, product::rows_of(&input.image));
+        self.row(call, &name, parts, &|archive| {
+            let mut state = state.borrow_mut();
+            state.fill(0);
+            let time = nanoseconds(|| take(archive, &mut state));
+            assert!(*state == end, "{name}: {call} ends otherwise");
+            time
+        })
+    }
+
+    fn compile(&self, family: &Family, records: usize) -> Ratios {
+        let contract = family.contract(records);
+        let mut end = vec![0; LONGEST_IMAGE];
+        product::compile(&contract, &mut end);
+        let image = RefCell::new(end.clone());
+        let name = match records {
+            1 => format!("1 record, {}", family.name),
+            _ => format!("{records} records, {}", family.name),
+        };
+        let calls = calls(self.plan, records);
+        self.row("compile", &name, calls, &|archive| {
+            let mut image = image.borrow_mut();
+            image.fill(0);
+            let time = nanoseconds(|| {
+                for _ in 0..calls {
+                    archive.compile(&contract, &mut image, &mut [0; 16]);
+                }
+            });
+            assert!(*image == end, "{name}: compile ends otherwise");
+            time
+        })
+    }
+}
+
+fn line(plan: &Plan, [call, input, before, now, ratio]: [&str; 5]) {
+    plan.say(&format!(
+        "{call:<9}{input:<56}{before:>15}{now:>15}{ratio:>13}"
+    ));
+}
+
+#[cfg(test)]
+mod tests {
+    use super::*;
+    use crate::archive::Copies;
+    use crate::spoiled::{spoiled, OUTPUT};
+    use std::panic::catch_unwind;
+
+    /// Today's archive, and another one that is to be like it.
+    fn sides(now: Archive) -> Sides {
+        let copies = |archive| Copies {
+            files: "",
+            places: [archive; PLACES],
+        };
+        Sides {
+            before: copies(Archive::of_hosts()),
+            now: copies(now),
+            alike: false,
+        }
+    }
+
+    #[test]
+    fn what_is_timed_ends_alike() {
+        measure(&Plan::new(true), &sides(Archive::of_hosts()));
+    }
+
+    #[test]
+    fn what_ends_otherwise_is_not_timed() {
+        for (archive, call) in spoiled::<OUTPUT>() {
+            let ended = catch_unwind(|| measure(&Plan::new(true), &sides(archive)));
+            assert_eq!(ended.is_err(), call != "begin", "{call}");
+        }
+    }
+
+    #[test]
+    fn ratios_are_summed_up() {
+        assert_eq!(
+            summary("run", vec![[1.02, 1.0], [0.98, 1.01], [1.0, 0.99]]),
+            "run, 3 inputs: ratios of the bests 0.98 to 1.02, medians of the turns 0.99 to 1.01"
+        );
+    }
+}

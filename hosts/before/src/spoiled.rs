@@ -1,0 +1,133 @@
+//! Today's archive with one fault, for tests.
+
+use crate::archive::Archive;
+
+/// The result is another one.
+pub const RESULT: u8 = 0;
+/// The last byte of the image buffer or of the state is another one.
+pub const OUTPUT: u8 = 1;
+/// The last byte of the reply area is another one.
+pub const REPLY: u8 = 2;
+
+/// An archive with the fault in each call, and the call's name.
+pub fn spoiled<const FAULT: u8>() -> [(Archive, &'static str); 4] {
+    let mut archives = [Archive::of_hosts(); 4];
+    archives[0].compile = compile::<FAULT>;
+    archives[1].begin = begin::<FAULT>;
+    archives[2].step = step::<FAULT>;
+    archives[3].run = run::<FAULT>;
+    let [one, two, three, four] = archives;
+    [
+        (one, "compile"),
+        (two, "begin"),
+        (three, "step"),
+        (four, "run"),
+    ]
+}
+
+// Safety of what follows: the pointers and lengths are those of slices that live through the call.
+
+unsafe fn flip_last(area: *mut u8, length: usize) {
+    if length > 0 {
+        *area.add(length - 1) ^= 1;
+    }
+}
+
+unsafe fn spoil<const FAULT: u8>(
+    result: u32,
+    output: *mut u8,
+    output_length: usize,
+    reply: *mut u8,
+    reply_length: usize,
+) -> u32 {
+    match FAULT {
+        RESULT => return result ^ 1,
+        OUTPUT => flip_last(output, output_length),
+        _ => flip_last(reply, reply_length),
+    }
+    result
+}
+
+unsafe extern "C" fn compile<const FAULT: u8>(
+    contract: *const u8,
+    contract_length: usize,
+    image: *mut u8,
+    image_length: usize,
+    reply: *mut u8,
+    reply_length: usize,
+) -> u32 {
+    let result = (Archive::of_hosts().compile)(
+        contract,
+        contract_length,
+        image,
+        image_length,
+        reply,
+        reply_length,
+    );
+    spoil::<FAULT>(result, image, image_length, reply, reply_length)
+}
+
+unsafe extern "C" fn begin<const FAULT: u8>(
+    image: *const u8,
+    image_length: usize,
+    state: *mut u8,
+    state_length: usize,
+    reply: *mut u8,
+    reply_length: usize,
+) -> u32 {
+    let result = (Archive::of_hosts().begin)(
+        image,
+        image_length,
+        state,
+        state_length,
+        reply,
+        reply_length,
+    );
+    spoil::<FAULT>(result, state, state_length, reply, reply_length)
+}
+
+unsafe extern "C" fn step<const FAULT: u8>(
+    image: *const u8,
+    image_length: usize,
+    state: *mut u8,
+    state_length: usize,
+    period: *const u8,
+    period_length: usize,
+    reply: *mut u8,
+    reply_length: usize,
+) -> u32 {
+    let result = (Archive::of_hosts().step)(
+        image,
+        image_length,
+        state,
+        state_length,
+        period,
+        period_length,
+        reply,
+        reply_length,
+    );
+    spoil::<FAULT>(result, state, state_length, reply, reply_length)
+}
+
+unsafe extern "C" fn run<const FAULT: u8>(
+    image: *const u8,
+    image_length: usize,
+    state: *mut u8,
+    state_length: usize,
+    trace: *const u8,
+    trace_length: usize,
+    reply: *mut u8,
+    reply_length: usize,
+) -> u32 {
+    let result = (Archive::of_hosts().run)(
+        image,
+        image_length,
+        state,
+        state_length,
+        trace,
+        trace_length,
+        reply,
+        reply_length,
+    );
+    spoil::<FAULT>(result, state, state_length, reply, reply_length)
+}

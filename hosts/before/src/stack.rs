@@ -1,0 +1,125 @@
+//! The stack that the calls use with both archives.
+
+use crate::archive::{Archive, Sides};
+use crate::painted;
+use bench::contracts::{self, FAMILIES};
+use bench::product::{self, LONGEST_IMAGE, PERIOD};
+use bench::timing::Plan;
+use bench::{steps, Input};
+use monitor::Record::{Any, Duty, Repeat, Seq, Star, Then, Until, When};
+use monitor::{Action, Contract, Party, Record};
+
+pub fn measure(sides: &Sides) {
+    println!(
+        "Bytes of stack that a call uses, its return address among them, on a stack painted beforehand.\n"
+    );
+    line(["call", "input", "before", "now"]);
+    let archives = [sides.before.places[0], Archive::of_hosts()];
+    for (name, contract) in contracts() {
+        let bytes = archives.map(|archive| of_compile(&archive, &contract));
+        row("compile", &name, bytes);
+    }
+    let inputs = steps::inputs(&Plan::new(true));
+    for input in [&inputs[0], &inputs[inputs.len() - 1]] {
+        let name = format!("{} rows", product::rows_of(&input.image));
+        let bytes = archives.map(|archive| of_calls(&archive, input));
+        for (number, call) in ["begin", "step", "run"].into_iter().enumerate() {
+            row(call, &name, bytes.map(|bytes| bytes[number]));
+        }
+    }
+}
+
+fn row(call: &str, input: &str, bytes: [usize; 2]) {
+    let [before, now] = bytes.map(|bytes| bytes.to_string());
+    line([call, input, &before, &now]);
+}
+
+fn line([call, input, before, now]: [&str; 4]) {
+    println!("{call:<9}{input:<57}{before:>8}{now:>8}");
+}
+
+fn of_compile(archive: &Archive, contract: &[u8]) -> usize {
+    painted::compile(archive, contract, &mut vec![0; LONGEST_IMAGE])
+}
+
+/// The bytes of begin, step and run.
+fn of_calls(archive: &Archive, input: &Input) -> [usize; 3] {
+    let Input { image, trace, .. } = input;
+    let mut state = product::begin(image);
+    [
+        painted::begin(archive, image, &mut state),
+        painted::step(archive, image, &mut state, &trace[..PERIOD]),
+        painted::run(archive, image, &mut state, trace),
+    ]
+}
+
+/// A lone record, and contracts of 64 records in several shapes.
+fn contracts() -> Vec<(String, Vec<u8>)> {
+    let mut contracts = vec![("1 record".to_string(), contracts::duty())];
+    for family in &FAMILIES {
+        let name = format!("64 records, {}", family.name);
+        contracts.push((name, family.contract(64)));
+    }
+    for (name, records) in deep_shapes() {
+        let name = format!("{} records, {name}", records.len());
+        let contract = Contract::from_records(&records);
+        contracts.push((name, contract.as_bytes().to_vec()));
+    }
+    contracts
+}
+
+/// Shapes as deep as 64 records allow that are none of the benchmark's.
+fn deep_shapes() -> [(&'static str, Vec<Record>); 5] {
+    let duty = Duty(Party::One, Action::new(0).expect("below 16"));
+    [
+        (
+            "right-deep chain of 31 then",
+            [&[duty; 32][..], &[Then; 31], &[Repeat]].concat(),
+        ),
+        (
+            "31 nested when",
+            [&[Any; 31][..], &[duty], &[When; 31], &[Repeat]].concat(),
+        ),
+        (
+            "31 nested until",
+            [&[duty][..], &[Any, Until].repeat(31), &[Repeat]].concat(),
+        ),
+        (
+            "right-deep chain of 30 seq under when",
+            [&[Any; 31][..], &[Seq; 30], &[duty, When, Repeat]].concat(),
+        ),
+        (
+            "59 stars in a seq under when",
+            [&[Any; 2][..], &[Star; 59], &[Seq, duty, When]].concat(),
+        ),
+    ]
+}
+
+#[cfg(test)]
+mod tests {
+    use super::*;
+
+    #[test]
+    fn contracts_are_taken_and_long() {
+        for (name, contract) in &contracts()[1..] {
+            assert_eq!(contract.len(), 6 * 64, "{name}");
+            assert!(of_compile(&Archive::of_hosts(), contract) > 0, "{name}");
+        }
+    }
+
+    #[test]
+    fn deeper_contracts_use_more() {
+        let hosts = Archive::of_hosts();
+        let contracts = contracts();
+        let [one, deepest] = [0, 1].map(|n| of_compile(&hosts, &contracts[n].1));
+        assert!(one < deepest, "{one}, {deepest}");
+    }
+
+    #[test]
+    fn every_call_is_measured() {
+        for input in steps::inputs(&Plan::new(true)) {
+            let bytes = of_calls(&Archive::of_hosts(), &input);
+            assert!(bytes.iter().all(|bytes| *bytes >= 8), "{bytes:?}");
+        }
+    }
+}

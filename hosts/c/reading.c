@@ -1,0 +1,196 @@
+/* Which contracts compile takes and which it refuses by 1 to 7: small inputs, the order of tests, every kind and field, nests. */
+/* Document 01, "Records" and "Replies that refuse". What it prints is held to the file reading.expected. */
+#include <ctype.h>
+
+#include "testing.h"
+
+static struct monitor_compile_reply answer(void)
+{
+    if (compile(BUFFER_BYTES, sizeof(struct monitor_compile_reply)) != 1)
+        fault("no reply");
+    return compile_reply();
+}
+
+static void put_reply(struct monitor_compile_reply r)
+{
+    if (r.number == MONITOR_ACCEPTED) {
+        printf(" taken");
+    } else {
+        printf(" refused");
+        PUT(r.number, r.place);
+    }
+}
+
+/* ---- contracts by their bytes */
+
+#define RECORD(kind) MONITOR_RECORD(kind, 0, 0)
+#define DUTY MONITOR_RECORD(MONITOR_DUTY, 1, 0)
+#define ANY RECORD(MONITOR_ANY)
+#define STAR RECORD(MONITOR_STAR)
+#define WHEN RECORD(MONITOR_WHEN)
+#define UNTIL RECORD(MONITOR_UNTIL)
+#define WRONG_MARK 'T', 'D', MONITOR_DUTY, 1, 0, 0
+
+static const struct { const char *label; struct bytes contract; } samples[] = {
+    /* The refusal table's small inputs for 1 to 7, short lengths, and the contract of "Watch". */
+    {"5 bytes", BYTES('T', 'C', MONITOR_DUTY, 1, 0)},
+    {"mark 54 44", BYTES(WRONG_MARK)},
+    {"kind 10", BYTES(RECORD(10))},
+    {"duty, party 3", BYTES(MONITOR_RECORD(MONITOR_DUTY, 3, 0))},
+    {"repeat", BYTES(RECORD(MONITOR_REPEAT))},
+    {"any", BYTES(ANY)},
+    {"any, star, duty, when", BYTES(ANY, STAR, DUTY, WHEN)},
+    {"0 bytes", NO_BYTES},
+    {"6 bytes", BYTES(DUTY)},
+    {"7 bytes", BYTES(DUTY, 'T')},
+    {"8 bytes", BYTES(DUTY, 'T', 'C')},
+    {"9 bytes", BYTES(DUTY, 'T', 'C', MONITOR_REPEAT)},
+    {"duty, duty, repair, repeat",
+     BYTES(DUTY, MONITOR_RECORD(MONITOR_DUTY, 1, 1), RECORD(MONITOR_REPAIR), RECORD(MONITOR_REPEAT))},
+    /* Two faults: the one that is tested first is answered, and of two records' the earlier one's. */
+    {"length, mark", BYTES(WRONG_MARK, 'T')},
+    {"mark, kind", BYTES('T', 'D', 10, 1, 0, 0)},
+    {"kind, field", BYTES('T', 'C', 10, 3, 16, 1)},
+    {"field, operands", BYTES(MONITOR_RECORD(MONITOR_REPEAT, 1, 0))},
+    {"operands, empty list", BYTES(ANY, STAR, ANY, WHEN)},
+    {"empty list, not one clause", BYTES(DUTY, DUTY, ANY, STAR, UNTIL)},
+    {"mark, then mark", BYTES('t', 'C', MONITOR_DUTY, 1, 0, 0, 't', 'C', MONITOR_DUTY, 1, 0, 0)},
+    {"kind, then mark", BYTES(RECORD(10), WRONG_MARK)},
+    {"field, then kind", BYTES(MONITOR_RECORD(MONITOR_DUTY, 1, 16), RECORD(10))},
+    {"operands, then mark", BYTES(RECORD(MONITOR_REPEAT), WRONG_MARK)},
+    {"empty list, then mark", BYTES(ANY, STAR, DUTY, WHEN, WRONG_MARK)},
+    {"not one clause, but a mark", BYTES(ANY, WRONG_MARK)},
+};
+
+static void by_bytes(void)
+{
+    for (size_t k = 0; k < COUNT(samples); k++) {
+        copy(&contract, samples[k].contract);
+        printf("%s:", samples[k].label);
+        put_reply(answer());
+        printf("\n");
+    }
+}
+
+/* ---- contracts by letters */
+
+/* A letter for each record, with party 1 and action 0 where they are used; those of expressions are small, and _ is kind 0. */
+static void spell(const char *text, size_t length)
+{
+    cut(&contract, 0);
+    for (size_t k = 0; k < length; k++)
+        add_record(kind_of((char)toupper((unsigned char)text[k])), strchr("DBPti", text[k]) != NULL, 0);
+}
+
+/* A byte of the last record takes the values up to one: a range for each reply. */
+static void sweep(size_t byte, unsigned to)
+{
+    uint8_t *swept = start(&contract) + contract.length - MONITOR_RECORD_BYTES + byte;
+    struct monitor_compile_reply last = {0, 0, 0};
+    unsigned from = 0;
+
+    for (unsigned value = 0; value <= to; value++) {
+        *swept = (uint8_t)value;
+        struct monitor_compile_reply r = answer();
+        if (value > 0 && (r.number != last.number || r.place != last.place)) {
+            put_range(from, value - 1);
+            put_reply(last);
+            printf(",");
+            from = value;
+        }
+        last = r;
+    }
+    put_range(from, to);
+    put_reply(last);
+}
+
+/* A text as it is, or with a byte of its last record swept. */
+static void line(const char *text, size_t length, size_t byte, unsigned to)
+{
+    spell(text, length);
+    printf("%.*s", (int)length, text);
+    if (to > 0) {
+        printf(" byte %u:", (unsigned)byte);
+        sweep(byte, to);
+    } else {
+        printf(":");
+        put_reply(answer());
+    }
+    printf("\n");
+}
+
+/* The texts of a list, with blanks between them. */
+static void lines(const char *list, size_t byte, unsigned to)
+{
+    while (*list != '\0') {
+        size_t length = strcspn(list, " ");
+        line(list, length, byte, to);
+        list += length;
+        list += strspn(list, " ");
+    }
+}
+
+/* The fields of the last record. */
+static void fields(const char *list, unsigned to)
+{
+    for (size_t byte = 3; byte < MONITOR_RECORD_BYTES; byte++)
+        lines(list, byte, to);
+}
+
+/* Marks, kinds above each stack of at most two operands, and the fields of each kind. */
+static void sweeps(void)
+{
+    lines("D DR", 0, 255);
+    lines("D DR", 1, 255);
+    lines("D _ D_ a_ DD_ Da_ aD_ aa_", 2, 255);
+    fields("D DD& s", 255);
+    fields("B P DD; DD/ DR aDW DaU a t i f aa. aa| a*", 31);
+}
+
+/* Expressions with and without the empty list, under `when` and `until`. */
+static void empty_lists(void)
+{
+    lines("aDW DaU tDW DtU iDW DiU sDW DsU fDW DfU a*DW Da*U "
+          "aa.DW a*a.DW aa*.DW a*a*.DW Daa.U Da*a.U Daa*.U Da*a*.U "
+          "aa|DW a*a|DW aa*|DW a*a*|DW Daa|U Da*a|U Daa*|U Da*a*|U "
+          "a**DW Da**U aa.*DW aa|*DW a*a.a*a*.|DW a*a|aa*|.DW Da*a|a.U "
+          "DDa*a.U& aDa*UW aDWa*a.U aDWa*a*.U DaDW/a*a.aa|.U",
+          0, 0);
+}
+
+/* Nests of 64 records, and of 65. */
+static void nests(void)
+{
+    lines("DRRRRRRRRRRRRRRRRRRRRRRRRRRRRRRRRRRRRRRRRRRRRRRRRRRRRRRRRRRRRRRR "
+          "DDDDDDDDDDDDDDDDDDDDDDDDDDDDDDDD&&&&&&&&&&&&&&&&&&&&&&&&&&&&&&&R "
+          "DD&D&D&D&D&D&D&D&D&D&D&D&D&D&D&D&D&D&D&D&D&D&D&D&D&D&D&D&D&D&D&R "
+          "DDDDDDDDDDDDDDDDDDDDDDDDDDDDDDDD//////////////////////////////// "
+          "DDDDDDDDDDDDDDDDDDDDDDDDDDDDDDDDD;;;;;;;;;;;;;;;;;;;;;;;;;;;;;;; "
+          "DDDDDDDDDDDDDDDDDDDDDDDDDDDDDDDDDDDDDDDDDDDDDDDDDDDDDDDDDDDDDDDD "
+          "aaaaaaaaaaaaaaaaaaaaaaaaaaaaaaaaaaaaaaaaaaaaaaaaaaaaaaaaaaaaaaaa "
+          "aaaaaaaaaaaaaaaaaaaaaaaaaaaaaaaDWWWWWWWWWWWWWWWWWWWWWWWWWWWWWWWR "
+          "DaUaUaUaUaUaUaUaUaUaUaUaUaUaUaUaUaUaUaUaUaUaUaUaUaUaUaUaUaUaUaUR "
+          "a*************************************************************DW "
+          "a**********************************************************a.DWR "
+          "Daaaaaaaaaaaaaaaaaaaaaaaaaaaaaaa..............................UR "
+          "Daa|a|a|a|a|a|a|a|a|a|a|a|a|a|a|a|a|a|a|a|a|a|a|a|a|a|a|a|a|a|UR "
+          "Da*a*a*a*a*a*a*a*a*a*a*a*a*a*a*a*a*a*a*a*...................URRR "
+          "Da*a*a*a*a*a*a*a*a*a*aa*a*a*a*a*a*a*a*a*...................URRRR "
+          "Daaaaaaaaaaa*aaaaaaaaaaaaaaaaaaa|||||||||||||||||||||||||||||URR",
+          0, 0);
+    lines("DRRRRRRRRRRRRRRRRRRRRRRRRRRRRRRRRRRRRRRRRRRRRRRRRRRRRRRRRRRRRRRRR "
+          "DDDDDDDDDDDDDDDDDDDDDDDDDDDDDDDD&&&&&&&&&&&&&&&&&&&&&&&&&&&&&&&RR "
+          "DD&D&D&D&D&D&D&D&D&D&D&D&D&D&D&D&D&D&D&D&D&D&D&D&D&D&D&D&D&D&D&RR "
+          "a**************************************************************DW "
+          "DDDDDDDDDDDDDDDDDDDDDDDDDDDDDDDDDDDDDDDDDDDDDDDDDDDDDDDDDDDDDDDDD",
+          0, 0);
+}
+
+int main(void)
+{
+    by_bytes();
+    sweeps();
+    empty_lists();
+    nests();
+    return faults != 0;
+}

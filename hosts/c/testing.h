@@ -1,0 +1,313 @@
+/* What the tests share: areas between guard bytes, the calls on them, replies by their fields, and contracts by letters. */
+#ifndef TESTING_H
+#define TESTING_H
+
+#include <stdio.h>
+#include <stdlib.h>
+#include <string.h>
+
+#include "monitor.h"
+
+#define COUNT(table) (sizeof(table) / sizeof(table)[0])
+
+/* ---- what a test prints, held to its file of expected lines */
+
+static int faults;
+
+static inline void fault(const char *what)
+{
+    printf("%s\n", what);
+    faults++;
+}
+
+static inline void check(const char *label, int good)
+{
+    printf("%s: %s\n", label, good ? "yes" : "no");
+    if (!good)
+        faults++;
+}
+
+static inline void put_numbers(const uint64_t *numbers, size_t count)
+{
+    for (size_t k = 0; k < count; k++)
+        printf(" %llu", (unsigned long long)numbers[k]);
+}
+
+/* Numbers, each after a blank. */
+#define PUT(...) put_numbers((const uint64_t[]){__VA_ARGS__}, COUNT(((const uint64_t[]){__VA_ARGS__})))
+
+static inline void put_bytes(const uint8_t *from, size_t length)
+{
+    for (size_t k = 0; k < length; k++)
+        PUT(from[k]);
+}
+
+/* Periods or values with the same answer. */
+static inline void put_range(unsigned from, unsigned to)
+{
+    PUT(from);
+    if (from < to)
+        printf("-%u", to);
+}
+
+/* ---- bytes that are given, as a field of a table outside functions */
+
+struct bytes {
+    const uint8_t *at;
+    size_t length;
+};
+
+#define BYTES(...) {(const uint8_t[]){__VA_ARGS__}, sizeof((const uint8_t[]){__VA_ARGS__})}
+#define NO_BYTES {(const uint8_t *)"", 0}
+
+/* ---- areas that are lent, each between guard bytes */
+
+enum {
+    GUARD = 165,
+    GUARD_BYTES = 16,
+    UNWRITTEN = 238,                                                /* each byte of an area before a call writes it */
+    MOST_BYTES = MONITOR_ROW_BYTES * (MONITOR_MOST_ROWS + 2),       /* an image of one row too many */
+    BUFFER_BYTES = MONITOR_ROW_BYTES * (MONITOR_MOST_ROWS + 1)      /* an image buffer that takes every contract */
+};
+
+struct area {
+    uint8_t all[GUARD_BYTES + MOST_BYTES + GUARD_BYTES];
+    size_t length;
+};
+
+static struct area contract, image, state, trace, reply;
+
+static inline uint8_t *start(struct area *a)
+{
+    return a->all + GUARD_BYTES;
+}
+
+/* The area has so many bytes from now on; all others are guards. */
+static inline void cut(struct area *a, size_t length)
+{
+    if (length > MOST_BYTES)
+        abort();
+    memset(a->all, GUARD, GUARD_BYTES);
+    memset(start(a) + length, GUARD, MOST_BYTES - length + GUARD_BYTES);
+    a->length = length;
+}
+
+static inline void fill(struct area *a, uint8_t value, size_t length)
+{
+    cut(a, length);
+    memset(start(a), value, length);
+}
+
+static inline void copy(struct area *a, struct bytes from)
+{
+    cut(a, from.length);
+    memcpy(start(a), from.at, from.length);
+}
+
+static inline int holds(struct area *a, struct bytes given)
+{
+    return a->length == given.length && memcmp(start(a), given.at, given.length) == 0;
+}
+
+/* How many bytes there are up to the last one that isn't the value. */
+static inline size_t reach(const uint8_t *from, size_t length, uint8_t value)
+{
+    while (length > 0 && from[length - 1] == value)
+        length--;
+    return length;
+}
+
+static inline size_t changed(struct area *a, uint8_t before)
+{
+    return reach(start(a), a->length, before);
+}
+
+static inline void check_guards(struct area *a)
+{
+    if (reach(a->all, GUARD_BYTES, GUARD) != 0 || reach(start(a) + a->length, MOST_BYTES - a->length + GUARD_BYTES, GUARD) != 0)
+        fault("guard bytes changed");
+}
+
+/* An area that is only read. */
+static inline void check_kept(struct area *a, const struct area *before)
+{
+    if (memcmp(a->all, before->all, sizeof a->all) != 0)
+        fault("bytes changed that are only read");
+}
+
+/* ---- replies, by their fields */
+
+static inline uint32_t four(const uint8_t *from)
+{
+    return from[0] | (uint32_t)from[1] << 8 | (uint32_t)from[2] << 16 | (uint32_t)from[3] << 24;
+}
+
+static inline uint64_t eight(const uint8_t *from)
+{
+    return four(from) | (uint64_t)four(from + 4) << 32;
+}
+
+static inline struct monitor_compile_reply compile_reply(void)
+{
+    const uint8_t *r = start(&reply);
+    return (struct monitor_compile_reply){four(r), four(r + 4), eight(r + 8)};
+}
+
+static inline struct monitor_begin_reply begin_reply(void)
+{
+    const uint8_t *r = start(&reply);
+    return (struct monitor_begin_reply){four(r), four(r + 4), eight(r + 8)};
+}
+
+static inline struct monitor_reply step_reply(void)
+{
+    const uint8_t *r = start(&reply);
+    return (struct monitor_reply){four(r), four(r + 4), eight(r + 8), four(r + 16), four(r + 20)};
+}
+
+static inline const char *verdict_name(uint32_t verdict)
+{
+    static const char *const names[] = {"open", "met", "broken", "met-after", "broken-after"};
+    return verdict < COUNT(names) ? names[verdict] : "unknown";
+}
+
+/* ---- the calls on the areas, with a reply area of so many bytes */
+
+/* Compile, also into a buffer that holds something. */
+static inline uint32_t compile_over(size_t reply_length)
+{
+    static struct area before;
+
+    before = contract;
+    fill(&reply, UNWRITTEN, reply_length);
+    uint32_t result = monitor_compile(start(&contract), contract.length, start(&image), image.length,
+                                      start(&reply), reply.length);
+    check_kept(&contract, &before);
+    check_guards(&image);
+    check_guards(&reply);
+    return result;
+}
+
+/* Compile into an unwritten buffer, of which just the image may change. */
+static inline uint32_t compile(size_t buffer_length, size_t reply_length)
+{
+    fill(&image, UNWRITTEN, buffer_length);
+    uint32_t result = compile_over(reply_length);
+    int written = result == 1 && compile_reply().number == MONITOR_ACCEPTED;
+    if (changed(&image, UNWRITTEN) != (written ? MONITOR_IMAGE_BYTES(compile_reply().rows) : 0))
+        fault("changed bytes are not the image's");
+    return result;
+}
+
+enum call { BEGIN, STEP, RUN };
+
+static inline uint32_t lend(enum call call, size_t reply_length)
+{
+    static struct area image_before, trace_before;
+    uint32_t result = 0;
+
+    image_before = image;
+    trace_before = trace;
+    fill(&reply, UNWRITTEN, reply_length);
+    switch (call) {
+    case BEGIN:
+        result = monitor_begin(start(&image), image.length, start(&state), state.length, start(&reply), reply.length);
+        break;
+    case STEP:
+        result = monitor_step(start(&image), image.length, start(&state), state.length, start(&trace), trace.length,
+                              start(&reply), reply.length);
+        break;
+    case RUN:
+        result = monitor_run(start(&image), image.length, start(&state), state.length, start(&trace), trace.length,
+                             start(&reply), reply.length);
+        break;
+    }
+    check_kept(&image, &image_before);
+    check_kept(&trace, &trace_before);
+    check_guards(&state);
+    check_guards(&reply);
+    return result;
+}
+
+/* ---- a contract that is followed */
+
+/* Compiles the contract, which must be taken, and leaves just the image in its area; the rows. */
+static inline uint32_t compile_taken(void)
+{
+    uint32_t result = compile(BUFFER_BYTES, sizeof(struct monitor_compile_reply));
+    struct monitor_compile_reply r = compile_reply();
+    if (result != 1 || r.number != MONITOR_ACCEPTED || r.place != 0)
+        fault("compile: not accepted");
+    cut(&image, MONITOR_IMAGE_BYTES(r.rows));
+    return r.rows;
+}
+
+static inline uint32_t begin(void)
+{
+    fill(&state, UNWRITTEN, MONITOR_STATE_BYTES(image.length / MONITOR_ROW_BYTES - 1));
+    uint32_t result = lend(BEGIN, sizeof(struct monitor_begin_reply));
+    struct monitor_begin_reply r = begin_reply();
+    if (result != 1 || r.number != MONITOR_ACCEPTED || r.zero != 0 || r.place != 0)
+        fault("begin: not accepted");
+    return result;
+}
+
+static inline struct monitor_reply take(enum call call, struct bytes records)
+{
+    copy(&trace, records);
+    uint32_t result = lend(call, sizeof(struct monitor_reply));
+    struct monitor_reply r = step_reply();
+    if (result != 1 || r.number != MONITOR_ACCEPTED || r.place != 0)
+        fault("step or run: not accepted");
+    return r;
+}
+
+/* ---- contracts by letters, and nests, in the contract's area */
+
+/* Duty D, ban B, power P, both &, then ;, repair /, repeat R, when W, until U, */
+/* any A, tries T, idle I, succeeds S, fails F, seq ., or |, star *; 0 for another letter. */
+static inline int kind_of(char letter)
+{
+    static const char clauses[] = "DBP&;/RWU", expressions[] = "ATISF.|*";
+    const char *clause = strchr(clauses, letter), *expression = strchr(expressions, letter);
+
+    if (clause)
+        return MONITOR_DUTY + (int)(clause - clauses);
+    return expression ? MONITOR_ANY + (int)(expression - expressions) : 0;
+}
+
+static inline void add_record(int kind, int party, int action)
+{
+    const uint8_t record[] = {MONITOR_RECORD(kind, party, action)};
+    size_t end = contract.length;
+
+    cut(&contract, end + sizeof record);
+    memcpy(start(&contract) + end, record, sizeof record);
+}
+
+/* Leaf i: 0 to 15 have party 1 and action i, 16 to 31 have party 2 and action i - 16. */
+static inline void add_leaf(int kind, int i)
+{
+    add_record(kind, 1 + i / 16, i % 16);
+}
+
+/* Leaves `from` to `to` - 1 of a kind, and after each an operator; a kind 0 leaves out the one or the other. */
+static inline void add_run(int leaf, int operator, int from, int to)
+{
+    for (int i = from; i < to; i++) {
+        if (leaf != 0)
+            add_leaf(leaf, i);
+        if (operator != 0)
+            add_record(operator, 0, 0);
+    }
+}
+
+/* Leaves 0 to `count` - 1 under one operator, nested in its left operand. */
+static inline void nest_left(int leaf, int operator, int count)
+{
+    cut(&contract, 0);
+    add_leaf(leaf, 0);
+    add_run(leaf, operator, 1, count);
+}
+
+#endif

@@ -1,0 +1,16 @@
+//! Random inputs of the four calls and of `watch`, and the comparison of the monitor with the
+//! reference on them.
+
+#![forbid(unsafe_code)]
+
+pub mod cases;
+pub mod check;
+mod contracts;
+pub mod guard;
+mod images;
+pub mod random;
+pub mod report;
+pub mod shrink;
+pub mod small;
+mod traces;
+pub mod watch;
