@@ -12,9 +12,9 @@ use borrow.Author.Tests.{lt-ltb, le-ltb}
 use Rattle.records.specs.Fields.{bytes, field}
 use Rattle.records.proofs.Fields.{value-bytes-lt}
 use Rattle.records.proofs.Written.{take-through, field-in}
-use Rattle.machine.specs.Limits.{rowBytes}
-use Rattle.machine.specs.Images.{rowCount}
-use Rattle.machine.proofs.Images.{GoodImage, passed-good}
+use Rattle.layout.specs.Limits.{rowBytes}
+use Rattle.layout.specs.Images.{rowCount}
+use Rattle.layout.proofs.Images.{GoodImage, passed-good}
 use Rattle.contract.specs.Meaning.{Clause}
 use Rattle.reader.specs.declared.Fault.{Fault}
 use Rattle.reader.specs.declared.Answer.{Answer}

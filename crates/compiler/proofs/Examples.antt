@@ -3,8 +3,8 @@ use mathlib.Core.Path.{refl}
 use Rattle.records.specs.Fields.{bytes}
 use Rattle.records.specs.Marks.{marked}
 use Rattle.periods.specs.Traces.{recordCount}
-use Rattle.machine.specs.Rows.{encode}
-use Rattle.machine.specs.Images.{imageBytes, rowsBytes, endBytes, rowCount, goodLength}
+use Rattle.layout.specs.Rows.{encode}
+use Rattle.layout.specs.Images.{imageBytes, rowsBytes, endBytes, rowCount, goodLength}
 use Rattle.reader.specs.Table.{numbered, kindOf}
 use Rattle.reader.specs.Trees.{node}
 use Rattle.reader.specs.Reader as Reader

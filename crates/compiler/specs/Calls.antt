@@ -9,9 +9,9 @@ use lib.ListN.{length, take}
 use lib.Seq.{sets}
 use Rattle.records.specs.Fields.{bytes, field}
 use Rattle.records.specs.declared.Test.the-variants.{Passed}
-use Rattle.machine.specs.Limits.{rowBytes}
-use Rattle.machine.specs.Images.{rowCount, imageBytes}
-use Rattle.machine.specs.Refusals.{imageTest}
+use Rattle.layout.specs.Limits.{rowBytes}
+use Rattle.layout.specs.Images.{rowCount, imageBytes}
+use Rattle.layout.specs.Refusals.{imageTest}
 use Rattle.contract.specs.Meaning.{Clause}
 use Rattle.reader.specs.Reader.{Result, refused, taken, faultNumber, read, recordCount}
 use Rattle.image.specs.Widths.{allowedRows, bufferBytes}

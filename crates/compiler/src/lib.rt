@@ -40,7 +40,7 @@ pub extern "C" fn monitor_compile(contract: &[u8], image: &mut [u8], reply: &mut
         put_reply(reply, reader::number(answer), 0, reader::place(answer));
         return 1;
     };
-    if image.len() < machine::ROW_BYTES * (RECORD_ROWS * n + MORE_ROWS) {
+    if image.len() < layout::ROW_BYTES * (RECORD_ROWS * n + MORE_ROWS) {
         put_reply(reply, SHORT_BUFFER, 0, 0);
         return 1;
     }

@@ -6,11 +6,12 @@ use native.Mathlib.Omega.{arith}
 use mathlib.Core.Bool.{Bool, true, false, cond}
 use mathlib.Core.List.{List, [], _∷_, _++_, map, map-append, append-assoc, append-nil}
 use mathlib.Core.Option.{some}
+use mathlib.Core.Logic.{_⊎_, inl, inr, ⊎-elim}
 use mathlib.Core.Path.{_≡_, refl, sym, _∙_}
 use lib.Dec.{eqb, lit<}
 use lib.ListN.{length, take, getD, length-append, length-map}
 use lib.Seq.{take-at, take-take, getD-take, getD-append-add, length-take-le}
-use Rattle.machine.specs.Limits.{rowBytes, maxRows}
+use Rattle.layout.specs.Limits.{rowBytes, maxRows}
 use Rattle.reader.specs.Limits.{recordBytes}
 use Rattle.reader.specs.Table.{Sort, Kind, line, kindOf, duty, ban, power, both, then, repair, repeat, when, until, any, tries, idle, succeeds, fails, seq, or, star}
 use Rattle.reader.specs.Trees.{Tree, Trees, Fields, node}
@@ -24,9 +25,9 @@ use Rattle.image.proofs.Goodness.{⊹-plus}
 use Rattle.emitter.specs.declared.Block.{Block}
 use Rattle.emitter.specs.declared.Plan.{Plan}
 use Rattle.emitter.specs.declared.Wires.{Wires}
-use Rattle.emitter.specs.Plans.{numbersOf, writtenRows, rowTable, planOf, noBlock, basesOf, recordWritten, recordBlock, wiresOf, treeRows, afterTree, blockOf, EndsWith, Emitted, Small, RecordRows, Emits}
+use Rattle.emitter.specs.Plans.{numbersOf, writtenRows, leafRows, rowTable, planOf, noBlock, basesOf, recordWritten, recordBlock, wiresOf, treeRows, afterTree, blockOf, EndsWith, Emitted, Small, RecordRows, Emits}
 use Rattle.emitter.proofs.Writing.{written-none, written-after, written-around}
-use Rattle.emitter.proofs.Plans.{leftBlock, rightBlock, operandRows, nodeBases, rows-node, block-node, before-is, after-node, after-tree, listed, length-kindRows, Given, block-inside}
+use Rattle.emitter.proofs.Plans.{leftBlock, rightBlock, operandRows, nodeBases, rows-node, block-node, before-is, after-node, after-tree, listed, in-one-table, length-kindRows, Given, block-inside}
 
 -- ---- every tree is a node
 
@@ -506,9 +507,16 @@ module _ {contract : List ℕ} {n : ℕ} {image : List ℕ} {b S K : ℕ} (e : E
         let room : rowBytes * (left .next + p .after) ≤ length later = rw (l, d .left-is) (o .room) in
         let few : left .next + p .after ≤ maxRows = rw (d .left-is) (o .few) in
         let in-table : p .from + p .before + p .after ≤ length rowTable = rw (o .is .plan-is) (listed (o .k)) in
+        let in-one : (p .from + p .before + p .after ≤ length leafRows) ⊎ (length leafRows ≤ p .from) = rw (o .is .plan-is) (in-one-table (o .k)) in
         let small =
         small-bases (left .next) b S K left right party action (omega arith) (omega arith) (e .begins) (e .goes-on) (omega arith) l-given r-given pa ac in
         record {
-          first = record { bases-small = small; listed = omega arith; room = omega arith; few = omega arith };
-          second = record { bases-small = small; listed = in-table; room = room; few = few };
+          first = record {
+            has-room = record { bases-small = small; short = omega arith; listed = omega arith; room = omega arith; few = omega arith };
+            in-one = ⊎-elim (λ h. inl (omega arith)) inr in-one;
+          };
+          second = record {
+            has-room = record { bases-small = small; short = omega arith; listed = in-table; room = room; few = few };
+            in-one = ⊎-elim inl (λ h. inr (omega arith)) in-one;
+          };
         }

@@ -1,16 +1,17 @@
--- The program's table and plans give the rows of Blocks.antt: a node's rows are its own rows round those of its operands, and its block is
+-- The program's tables and plans give the rows of image/specs/Blocks.antt: a node's rows are its own rows round those of its operands, and its block is
 -- what its plan says.
 -- Assumes nothing.
 use Prim.Native.Nat.{ℕ, _+_, _≤_, _<_}
-use mathlib.Core.Bool.{Bool, true, false, cond}
+use mathlib.Core.Bool.{Bool, true, false, _||_, cond}
 use mathlib.Core.List.{List, [], _∷_, _++_, map, map-append, append-assoc}
+use mathlib.Core.Logic.{_⊎_, inl, inr, ⊎-elim}
 use mathlib.Core.Path.{_≡_, refl, sym, _∙_}
 use native.Mathlib.Omega.{arith}
 use lib.Dec.{eqb, leb}
 use lib.ListN.{length, take, drop, take-append-drop}
 use borrow.Author.Tests.{leb-true, eqb-true}
 use Rattle.periods.specs.Periods.{Party, party1, party2, number, other}
-use Rattle.machine.specs.Rows.{Row}
+use Rattle.layout.specs.Rows.{Row}
 use Rattle.contract.specs.Expressions as E
 use Rattle.contract.specs.Expressions.{Expression, atom, holdsEmpty}
 use Rattle.contract.specs.Meaning as M
@@ -27,7 +28,7 @@ use Rattle.image.specs.Blocks.{endRow, liveRow, expressionRows, blaming, output
 use Rattle.image.proofs.Goodness.{after-expression, after-clause, length-expression, length-clause, inside-expression, inside-clause}
 use Rattle.emitter.specs.declared.Block.{Block}
 use Rattle.emitter.specs.declared.Wires.{Wires}
-use Rattle.emitter.specs.Plans.{RowNumbers, numbersOf, planOf, noBlock, basesOf, rowTable, tableRows, recordBlock, wiresOf, treeRows, afterTree, blockOf}
+use Rattle.emitter.specs.Plans.{RowNumbers, numbersOf, planOf, noBlock, basesOf, leafRows, rowTable, tableRows, recordBlock, wiresOf, treeRows, afterTree, blockOf}
 use Rattle.emitter.proofs.Writing.{length-listed}
 
 -- ---- rows and what follows them
@@ -121,9 +122,9 @@ other-number party2 = refl
 -- its rows
 pub rows-node : (k : Kind) (f : Fields k) (ts : Trees (line k .operands)) (m b S K : ℕ)
     → map numbersOf (treeRows (line k .completes) (node k f ts) b S K)
-    ≡ tableRows (nodeBases k f ts m b S K) (planOf k .from) (planOf k .before)
+    ≡ tableRows (nodeBases k f ts m b S K) rowTable (planOf k .from) (planOf k .before)
     ++ (map numbersOf (operandRows (line k .operands) ts (inside k b) S (wiresOf (planOf k) b S K))
-    ++ tableRows (nodeBases k f ts m b S K) (planOf k .from + planOf k .before) (planOf k .after))
+    ++ tableRows (nodeBases k f ts m b S K) rowTable (planOf k .from + planOf k .before) (planOf k .after))
 unfolding node clauseRows expressionRows outputsOf endRow tableRows wiresOf
 rows-node duty f ts m b S K = rw (other-number (f .party))
 rows-node ban f ts m b S K = rw (other-number (f .party))
@@ -213,11 +214,23 @@ listed k =
     let table = length rowTable in
     leb-true (planOf k .from + planOf k .before + planOf k .after) table (of-all (λ J. leb (planOf J .from + planOf J .before + planOf J .after) table) refl k)
 
+either : (s t : Bool) → s || t ≡ true → (s ≡ true) ⊎ (t ≡ true)
+either true t h = inl refl
+either false t h = inr h
+
+-- all of them in the first table, or all in the second
+pub in-one-table : (k : Kind) → (planOf k .from + planOf k .before + planOf k .after ≤ length leafRows) ⊎ (length leafRows ≤ planOf k .from)
+in-one-table k =
+    let first = length leafRows in
+    let end = planOf k .from + planOf k .before + planOf k .after in
+    ⊎-elim (λ h. inl (leb-true end first h)) (λ h. inr (leb-true first (planOf k .from) h)) (either (leb end first) (leb first (planOf k .from))
+    (of-all (λ J. leb (planOf J .from + planOf J .before + planOf J .after) first || leb first (planOf J .from)) refl k))
+
 pub length-kindRows : (bases : List ℕ) (k : Kind)
-    → (length (tableRows bases (planOf k .from) (planOf k .before)) ≡ planOf k .before) × (length (tableRows bases (planOf k .from + planOf k .before) (planOf k .after)) ≡ planOf k .after)
+    → (length (tableRows bases rowTable (planOf k .from) (planOf k .before)) ≡ planOf k .before) × (length (tableRows bases rowTable (planOf k .from + planOf k .before) (planOf k .after)) ≡ planOf k .after)
 length-kindRows bases k =
     let h = listed k in
-    (length-listed bases (planOf k .from) (planOf k .before) (omega arith), length-listed bases (planOf k .from + planOf k .before) (planOf k .after) h)
+    (length-listed bases rowTable (planOf k .from) (planOf k .before) (omega arith), length-listed bases rowTable (planOf k .from + planOf k .before) (planOf k .after) h)
 
 -- ---- bounds
 

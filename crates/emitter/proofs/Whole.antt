@@ -9,10 +9,10 @@ use lib.ListN.{length}
 use lib.Seq.{sets, take-all, length-sets}
 use Rattle.records.specs.Fields.{bytes}
 use Rattle.records.proofs.Written.{sets-append}
-use Rattle.machine.specs.Limits.{rowBytes}
-use Rattle.machine.specs.Rows.{never, initial, negation, rowRecord}
-use Rattle.machine.specs.Images.{rowsBytes, endRecord, endBytes, imageBytes, rowCount}
-use Rattle.machine.proofs.Images.{length-rowsBytes, rowCount-imageBytes}
+use Rattle.layout.specs.Limits.{rowBytes}
+use Rattle.layout.specs.Rows.{never, initial, negation, rowRecord}
+use Rattle.layout.specs.Images.{rowsBytes, endRecord, endBytes, imageBytes, rowCount}
+use Rattle.layout.proofs.Images.{length-rowsBytes, rowCount-imageBytes}
 use Rattle.contract.specs.Meaning.{Clause}
 use Rattle.reader.specs.Limits.{recordBytes}
 use Rattle.reader.specs.Table.{clause}

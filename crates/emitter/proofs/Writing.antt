@@ -1,21 +1,18 @@
 -- What a run of rows leaves in an image buffer: runs one behind the other are one, in whichever order they were written.
 -- Assumes nothing.
-use Prim.Native.Nat.{ℕ, zero, suc, _+_, _*_, _≤_, _<_}
+use Prim.Native.Nat.{ℕ, suc, _+_, _-_, _*_, _≤_, _<_}
 use native.Mathlib.Omega.{arith}
-use mathlib.Core.Bool.{Bool, true, _&&_, and-eq-true-iff}
 use mathlib.Core.List.{List, [], _∷_, _++_, map, append-assoc, map-append}
 use mathlib.Core.Path.{_≡_, refl, sym, ap, _∙_}
-use borrow.Author.Tests.{eqb-true}
-use lib.Dec.{eqb}
-use lib.ListN.{length, drop, getD, length-append, length-map, length-drop}
-use lib.Seq.{sets, length-sets, length-take-le, take-suc, getD-drop}
+use lib.ListN.{length, take, drop, getD, length-append, length-map, length-drop}
+use lib.Seq.{sets, length-sets, length-take-le, take-suc, getD-drop, take-append-le, drop-append-le, drop-append-add}
 use Rattle.records.specs.Fields.{bytes}
 use Rattle.records.proofs.Written.{sets-append, sets-before}
-use Rattle.machine.specs.Limits.{rowBytes}
-use Rattle.machine.specs.Rows.{Row, rowRecord, encode}
-use Rattle.machine.specs.Images.{rowsBytes}
+use Rattle.layout.specs.Limits.{rowBytes}
+use Rattle.layout.specs.Rows.{Row, rowRecord, encode}
+use Rattle.layout.specs.Images.{rowsBytes}
 use Rattle.emitter.specs.declared.TableRow.{TableRow}
-use Rattle.emitter.specs.Plans.{RowNumbers, numbersOf, numbersBytes, writtenRows, row, rowTable, packed, unpacked, valueAt, tableRow, tableRows}
+use Rattle.emitter.specs.Plans.{RowNumbers, numbersOf, numbersBytes, writtenRows, leafRows, nodeRows, rowTable, valueAt, tableRow, tableRows}
 
 -- rows as numbers have the rows' bytes
 pub numbers-bytes : (rs : List Row) → numbersBytes (map numbersOf rs) ≡ rowsBytes rs
@@ -80,51 +77,42 @@ written-around image b m n hs rs ts e f =
 abbrev pub noRow : TableRow
 noRow = record { kind = 0; x = 0; y = 0 }
 
--- the numbers in the program's table hold these rows: a test that is computed over the whole table
-abbrev same : TableRow → TableRow → Bool
-same r s = eqb (r .kind) (s .kind) && eqb (r .x) (s .x) && eqb (r .y) (s .y)
-
-same-is : (r s : TableRow) → same r s ≡ true → r ≡ s
-same-is r s e =
-    let f = and-eq-true-iff (eqb (r .kind) (s .kind) && eqb (r .x) (s .x)) (eqb (r .y) (s .y)) .0 e in
-    let g = and-eq-true-iff (eqb (r .kind) (s .kind)) (eqb (r .x) (s .x)) .0 (f .0) in
-    let k : r .kind ≡ s .kind = eqb-true (r .kind) (s .kind) (g .0) in
-    let x : r .x ≡ s .x = eqb-true (r .x) (s .x) (g .1) in
-    let y : r .y ≡ s .y = eqb-true (r .y) (s .y) (f .1) in
-    ap (λ (n : ℕ). row n (r .x) (r .y)) k ∙ ap (λ (n : ℕ). row (s .kind) n (r .y)) x ∙ ap (λ (n : ℕ). row (s .kind) (s .x) n) y
-
-abbrev holdRows : List TableRow → Bool
-holdRows [] = true
-holdRows (r ∷ rs) = same (unpacked (packed r)) r && holdRows rs
-
-hold : (rs : List TableRow) → holdRows rs ≡ true → (i : ℕ) → unpacked (getD (map packed rs) i 0) ≡ getD rs i noRow
-hold [] h i = refl
-hold (r ∷ rs) h zero = same-is (unpacked (packed r)) r (and-eq-true-iff (same (unpacked (packed r)) r) (holdRows rs) .0 h .0)
-hold (r ∷ rs) h (suc i) = hold rs (and-eq-true-iff (same (unpacked (packed r)) r) (holdRows rs) .0 h .1) i
-
-pub row-at : (i : ℕ) → unpacked (getD (map packed rowTable) i 0) ≡ getD rowTable i noRow
-row-at i = hold rowTable refl i
-
-module _ (bases : List ℕ) (from : ℕ) where
-  pub length-listed : (count : ℕ) → from + count ≤ length rowTable → length (tableRows bases from count) ≡ count
+module _ (bases : List ℕ) (table : List TableRow) (from : ℕ) where
+  pub length-listed : (count : ℕ) → from + count ≤ length table → length (tableRows bases table from count) ≡ count
   unfolding tableRows
-  length-listed count h = rw length-map (length-take-le count (drop from rowTable) (rw length-drop (omega arith)))
+  length-listed count h = rw length-map (length-take-le count (drop from table) (rw length-drop (omega arith)))
 
-  listed-next : (j : ℕ) → from + j < length rowTable
-      → tableRows bases from (suc j) ≡ tableRows bases from j ++ (tableRow bases (getD rowTable (from + j) noRow) ∷ [])
+  listed-next : (j : ℕ) → from + j < length table
+      → tableRows bases table from (suc j) ≡ tableRows bases table from j ++ (tableRow bases (getD table (from + j) noRow) ∷ [])
   unfolding tableRows
   listed-next j h =
-      rw (take-suc (drop from rowTable) j noRow (rw length-drop (omega arith)), map-append, getD-drop from rowTable j noRow)
+      rw (take-suc (drop from table) j noRow (rw length-drop (omega arith)), map-append, getD-drop from table j noRow)
 
   -- one row of the table more: x and y are what it names
-  pub written-next : (image now later : List ℕ) (b j x y : ℕ) → from + j < length rowTable
-      → now ≡ writtenRows image b (tableRows bases from j)
-      → x ≡ valueAt bases (getD rowTable (from + j) noRow .x)
-      → y ≡ valueAt bases (getD rowTable (from + j) noRow .y)
-      → later ≡ sets now (rowBytes * (b + j)) (rowRecord (getD rowTable (from + j) noRow .kind) x y)
-      → later ≡ writtenRows image b (tableRows bases from (suc j))
+  pub written-next : (image now later : List ℕ) (b j x y : ℕ) → from + j < length table
+      → now ≡ writtenRows image b (tableRows bases table from j)
+      → x ≡ valueAt bases (getD table (from + j) noRow .x)
+      → y ≡ valueAt bases (getD table (from + j) noRow .y)
+      → later ≡ sets now (rowBytes * (b + j)) (rowRecord (getD table (from + j) noRow .kind) x y)
+      → later ≡ writtenRows image b (tableRows bases table from (suc j))
   written-next image now later b j x y h e f g w =
-      let rs = tableRows bases from j in
-      let r = tableRow bases (getD rowTable (from + j) noRow) in
+      let rs = tableRows bases table from j in
+      let r = tableRow bases (getD table (from + j) noRow) in
       let n : b + j ≡ b + length rs = rw (length-listed j (omega arith)) in
       w ∙ rw (e, f, g, listed-next j h) (sets-row (writtenRows image b rs) (b + j) r ∙ written-after image b (b + j) rs (r ∷ []) n)
+
+-- ---- a run of rows lies in one of the two tables
+
+module _ (bases : List ℕ) (from count : ℕ) where
+  pub in-leaves : from + count ≤ length leafRows → tableRows bases rowTable from count ≡ tableRows bases leafRows from count
+  unfolding tableRows
+  in-leaves h =
+      ap (map (tableRow bases)) (ap (take count) (drop-append-le from leafRows nodeRows (omega arith))
+      ∙ take-append-le count (drop from leafRows) nodeRows (rw length-drop (omega arith)))
+
+  pub in-nodes : length leafRows ≤ from → tableRows bases rowTable from count ≡ tableRows bases nodeRows (from - length leafRows) count
+  unfolding tableRows
+  in-nodes h =
+      let e : from ≡ length leafRows + (from - length leafRows) = omega arith in
+      ap (map (tableRow bases)) (ap (λ (n : ℕ). take count (drop n rowTable)) e
+      ∙ ap (take count) (drop-append-add leafRows nodeRows (from - length leafRows)))

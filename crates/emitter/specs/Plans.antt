@@ -1,16 +1,17 @@
--- What the program computes with when it writes rows: rows as three numbers, a table of each kind's own rows, and what a record needs of the
--- blocks of its operands. That these are the rows of Blocks.antt is shown in proofs/Plans.antt.
+-- What the program computes with when it writes rows: rows as three numbers, tables of each kind's own rows, and what a record needs of the
+-- blocks of its operands. That these are the rows of image/specs/Blocks.antt is shown in proofs/Plans.antt.
 use Prim.Native.Nat.{ℕ, _+_, _*_, _/_, _%_, _^_, _≤_, _<_}
 use mathlib.Core.Bool.{cond}
 use mathlib.Core.List.{List, [], _∷_, _++_, map}
+use mathlib.Core.Logic.{_⊎_}
 use mathlib.Core.Path.{_≡_}
 use lib.Dec.{eqb}
 use lib.ListN.{length, take, drop, getD}
 use lib.Seq.{sets}
-use Rattle.machine.specs.Limits.{rowBytes, maxRows}
-use Rattle.machine.specs.Rows.{Row, kind, fieldX, fieldY, rowRecord}
+use Rattle.layout.specs.Limits.{rowBytes, maxRows}
+use Rattle.layout.specs.Rows.{Row, kind, fieldX, fieldY, rowRecord}
 use Rattle.reader.specs.Limits.{recordBytes}
-use Rattle.reader.specs.Table.{Sort, clause, expression, Kind, duty, ban, power, both, then, repair, repeat, when, until, any, tries, idle, succeeds, fails, seq, or, star, kinds}
+use Rattle.reader.specs.Table.{Sort, clause, expression, Kind, duty, ban, power, both, then, repair, repeat, when, until, any, tries, idle, succeeds, fails, seq, or, star}
 use Rattle.reader.specs.Trees.{Tree}
 use Rattle.reader.specs.Spelling.{spellTree, treeRecords}
 use Rattle.reader.specs.Reader.{operand}
@@ -142,13 +143,17 @@ abbrev joined : List Kind → List TableRow
 joined [] = []
 joined (k ∷ ks) = kindRows k ++ joined ks
 
+-- the rows of the kinds without operands, and of those with operands: the program's two tables, which plans count as one
+abbrev pub leafRows : List TableRow
+leafRows = joined (duty ∷ ban ∷ power ∷ any ∷ tries ∷ idle ∷ succeeds ∷ fails ∷ [])
+
+abbrev pub nodeRows : List TableRow
+nodeRows = joined (both ∷ then ∷ repair ∷ repeat ∷ when ∷ until ∷ seq ∷ or ∷ star ∷ [])
+
 abbrev pub rowTable : List TableRow
-rowTable = joined kinds
+rowTable = leafRows ++ nodeRows
 
--- a row as one number, and the row that a number holds
-abbrev pub packed : TableRow → ℕ
-packed r = 65536 * r .kind + 256 * r .x + r .y
-
+-- the row that a number of the program's tables holds: its kind and its fields, a byte each
 abbrev pub unpacked : ℕ → TableRow
 unpacked v = row (v / 65536 % 256) (v / 256 % 256) (v % 256)
 
@@ -161,17 +166,17 @@ abbrev pub planLine : Kind → PlanLine
 planLine duty = plan (width duty) 0 ZERO ZERO ZERO (B ⊹ 3) (B ⊹ 5) (B ⊹ 7)
 planLine ban = plan (width ban) 8 ZERO ZERO ZERO (B ⊹ 5) (B ⊹ 3) ZERO
 planLine power = plan (width power) 14 ZERO ZERO ZERO (B ⊹ 6) ZERO (B ⊹ 4)
-planLine both = plan (width both) 21 S (B ⊹ 2) (B ⊹ 2) (N ⊹ 6) (N ⊹ 7) (N ⊹ 8)
-planLine then = plan (width then) 35 (B ⊹ 1) (B ⊹ 3) K R1 N (N ⊹ 1)
-planLine repair = plan (width repair) 41 (B ⊹ 1) (B ⊹ 3) K (N ⊹ 1) R2 R3
-planLine repeat = plan (width repeat) 47 (B ⊹ 4) (B ⊹ 3) ZERO ZERO R2 R3
-planLine when = plan (width when) 52 (B ⊹ 1) (B ⊹ 3) (B ⊹ 3) (N ⊹ 6) R2 R3
-planLine until = plan (width until) 63 S (B ⊹ 2) (B ⊹ 2) (N ⊹ 3) L2 L3
-planLine any = plan (width any) 71 ZERO ZERO ZERO S ZERO ZERO
-planLine tries = plan (width tries) 71 ZERO ZERO ZERO (B ⊹ 1) ZERO ZERO
-planLine idle = plan (width idle) 73 ZERO ZERO ZERO (B ⊹ 2) ZERO ZERO
-planLine succeeds = plan (width succeeds) 76 ZERO ZERO ZERO (B ⊹ 3) ZERO ZERO
-planLine fails = plan (width fails) 80 ZERO ZERO ZERO (B ⊹ 4) ZERO ZERO
+planLine both = plan (width both) 35 S (B ⊹ 2) (B ⊹ 2) (N ⊹ 6) (N ⊹ 7) (N ⊹ 8)
+planLine then = plan (width then) 49 (B ⊹ 1) (B ⊹ 3) K R1 N (N ⊹ 1)
+planLine repair = plan (width repair) 55 (B ⊹ 1) (B ⊹ 3) K (N ⊹ 1) R2 R3
+planLine repeat = plan (width repeat) 61 (B ⊹ 4) (B ⊹ 3) ZERO ZERO R2 R3
+planLine when = plan (width when) 66 (B ⊹ 1) (B ⊹ 3) (B ⊹ 3) (N ⊹ 6) R2 R3
+planLine until = plan (width until) 77 S (B ⊹ 2) (B ⊹ 2) (N ⊹ 3) L2 L3
+planLine any = plan (width any) 21 ZERO ZERO ZERO S ZERO ZERO
+planLine tries = plan (width tries) 21 ZERO ZERO ZERO (B ⊹ 1) ZERO ZERO
+planLine idle = plan (width idle) 23 ZERO ZERO ZERO (B ⊹ 2) ZERO ZERO
+planLine succeeds = plan (width succeeds) 26 ZERO ZERO ZERO (B ⊹ 3) ZERO ZERO
+planLine fails = plan (width fails) 30 ZERO ZERO ZERO (B ⊹ 4) ZERO ZERO
 planLine seq = plan (width seq) 85 (B ⊹ 2) K K N (N ⊹ 2) ZERO
 planLine or = plan (width or) 91 S K K N (N ⊹ 1) ZERO
 planLine star = plan (width star) 93 (B ⊹ 2) K ZERO R1 N ZERO
@@ -214,12 +219,13 @@ valueAt bases x = getD bases (x / 16) 0 ⊹ (x % 16)
 abbrev pub tableRow : List ℕ → TableRow → RowNumbers
 tableRow bases o = record { kind = o .kind; x = valueAt bases (o .x); y = valueAt bases (o .y) }
 
-unfoldable pub tableRows : List ℕ → (from count : ℕ) → List RowNumbers
-tableRows bases from count = map (tableRow bases) (take count (drop from rowTable))
+unfoldable pub tableRows : (bases : List ℕ) → (table : List TableRow) → (from count : ℕ) → List RowNumbers
+tableRows bases table from count = map (tableRow bases) (take count (drop from table))
 
 -- a record's own rows written, n being the first row after its operands' rows
 unfoldable pub recordWritten : (image bases : List ℕ) → Plan → (b n : ℕ) → List ℕ
-recordWritten image bases p b n = writtenRows (writtenRows image b (tableRows bases (p .from) (p .before))) n (tableRows bases (p .from + p .before) (p .after))
+recordWritten image bases p b n =
+    writtenRows (writtenRows image b (tableRows bases rowTable (p .from) (p .before))) n (tableRows bases rowTable (p .from + p .before) (p .after))
 
 -- what its block gives; a literal's plan has its own party's blame before the other's, the block has party 1's before party 2's
 unfoldable pub recordBlock : (bases : List ℕ) → Plan → (kind party : ℕ) → (left right : Block) → Block
@@ -279,12 +285,18 @@ pub record Emitted (contract : List ℕ) (n : ℕ) (image : List ℕ) (b S K : �
 pub record Small (l : List ℕ) : Type 0 where
   pub small : (i : ℕ) → getD l i 0 < 256 ^ 2
 
--- there is room for so many rows from row b on, and the table has them
-pub record RoomForRows (image : List ℕ) (b : ℕ) (bases : List ℕ) (from count : ℕ) : Type 0 where
+-- there is room for so many rows from row b on, and a table of so many rows has them
+pub record RoomFrom (image : List ℕ) (b : ℕ) (bases : List ℕ) (rows from count : ℕ) : Type 0 where
   pub bases-small : Small bases
-  pub listed : from + count ≤ length rowTable
+  pub short : rows < 256
+  pub listed : from + count ≤ rows
   pub room : rowBytes * (b + count) ≤ length image
   pub few : b + count ≤ maxRows
+
+-- the two tables together have them, and they all stand in one of the two
+pub record RoomForRows (image : List ℕ) (b : ℕ) (bases : List ℕ) (from count : ℕ) : Type 0 where
+  pub has-room : RoomFrom image b bases (length rowTable) from count
+  pub in-one : (from + count ≤ length leafRows) ⊎ (length leafRows ≤ from)
 
 -- there is room for a record's own rows, n being the first row after its operands' rows
 pub record RecordRows (image : List ℕ) (p : Plan) (b n : ℕ) (bases : List ℕ) : Type 0 where

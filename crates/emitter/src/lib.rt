@@ -1,17 +1,18 @@
 // Writes the rows of a contract's image, and its end record. Document 01, "Image and row machine".
 ghost use mathlib.Core.Path.{_≡_};
 ghost use mathlib.Core.Bool.{cond};
+ghost use mathlib.Core.List.{map};
 ghost use mathlib.Core.Option.{some};
 ghost use Prim.Native.Nat.{_+_, _*_, _<_, _≤_};
 ghost use lib.Dec.{eqb};
 ghost use lib.ListN.{length, getD};
 ghost use lib.Seq.{sets};
-ghost use Rattle.machine.specs.Limits.{rowBytes};
-ghost use Rattle.machine.specs.Rows.{rowRecord};
-ghost use Rattle.machine.specs.Images.{rowCount, endRecord};
+ghost use Rattle.layout.specs.Limits.{rowBytes, maxRows};
+ghost use Rattle.layout.specs.Rows.{rowRecord};
+ghost use Rattle.layout.specs.Images.{rowCount, endRecord};
 ghost use Rattle.reader.specs.Table.{Kind, kindOf};
 ghost use Rattle.image.specs.Images.{imageFor};
-ghost use Rattle.emitter.specs.Plans.{rowTable, unpacked, named, planOf, basesOf, valueAt, tableRows, writtenRows, wiresOf, noBlock, Small, RoomForRows, RecordRows, recordBlock, recordWritten, Emits, Emitted, Writes};
+ghost use Rattle.emitter.specs.Plans.{leafRows, nodeRows, rowTable, unpacked, named, planOf, basesOf, valueAt, tableRows, writtenRows, wiresOf, noBlock, Small, RoomFrom, RoomForRows, RecordRows, recordBlock, recordWritten, Emits, Emitted, Writes};
 
 // ---- the rows of each kind
 
@@ -76,8 +77,8 @@ const X: u32 = 256;
 
 const Y: u32 = 1;
 
-// Every kind's own rows, those before its operands' rows and then those after them.
-const ROWS: [u32; 97] = [
+// The rows of the kinds without operands.
+const LEAF_ROWS: [u32; 35] = [
     // duty
     KIND * TRIES as u32 + X * P as u32 + Y * A as u32,
     KIND * TRIES as u32 + X * Q as u32 + Y * A as u32,
@@ -102,6 +103,28 @@ const ROWS: [u32; 97] = [
     KIND * AND as u32 + X * (B + 2) as u32 + Y * (B + 3) as u32,
     KIND * NOT as u32 + X * (B + 4) as u32,
     KIND * AND as u32 + X * S as u32 + Y * (B + 5) as u32,
+    // tries
+    KIND * TRIES as u32 + X * P as u32 + Y * A as u32,
+    KIND * AND as u32 + X * S as u32 + Y * B as u32,
+    // idle
+    KIND * TRIES as u32 + X * P as u32 + Y * A as u32,
+    KIND * NOT as u32 + X * B as u32,
+    KIND * AND as u32 + X * S as u32 + Y * (B + 1) as u32,
+    // succeeds
+    KIND * TRIES as u32 + X * (ZERO + 1) as u32 + Y * A as u32,
+    KIND * TRIES as u32 + X * (ZERO + 2) as u32 + Y * A as u32,
+    KIND * AND as u32 + X * B as u32 + Y * (B + 1) as u32,
+    KIND * AND as u32 + X * S as u32 + Y * (B + 2) as u32,
+    // fails
+    KIND * TRIES as u32 + X * (ZERO + 1) as u32 + Y * A as u32,
+    KIND * TRIES as u32 + X * (ZERO + 2) as u32 + Y * A as u32,
+    KIND * AND as u32 + X * B as u32 + Y * (B + 1) as u32,
+    KIND * NOT as u32 + X * (B + 2) as u32,
+    KIND * AND as u32 + X * S as u32 + Y * (B + 3) as u32,
+];
+
+// The rows of the kinds with operands, those before their operands' rows and then those after them. A plan counts on from the first table.
+const NODE_ROWS: [u32; 62] = [
     // both
     KIND * PREVIOUS as u32 + X * (N + 10) as u32,
     KIND * NOT as u32 + X * B as u32,
@@ -158,24 +181,6 @@ const ROWS: [u32; 97] = [
     KIND * AND as u32 + X * R1 as u32 + Y * (N + 1) as u32,
     KIND * OR as u32 + X * L1 as u32 + Y * (N + 2) as u32,
     KIND * OR as u32 + X * (N + 3) as u32 + Y * N as u32,
-    // tries
-    KIND * TRIES as u32 + X * P as u32 + Y * A as u32,
-    KIND * AND as u32 + X * S as u32 + Y * B as u32,
-    // idle
-    KIND * TRIES as u32 + X * P as u32 + Y * A as u32,
-    KIND * NOT as u32 + X * B as u32,
-    KIND * AND as u32 + X * S as u32 + Y * (B + 1) as u32,
-    // succeeds
-    KIND * TRIES as u32 + X * (ZERO + 1) as u32 + Y * A as u32,
-    KIND * TRIES as u32 + X * (ZERO + 2) as u32 + Y * A as u32,
-    KIND * AND as u32 + X * B as u32 + Y * (B + 1) as u32,
-    KIND * AND as u32 + X * S as u32 + Y * (B + 2) as u32,
-    // fails
-    KIND * TRIES as u32 + X * (ZERO + 1) as u32 + Y * A as u32,
-    KIND * TRIES as u32 + X * (ZERO + 2) as u32 + Y * A as u32,
-    KIND * AND as u32 + X * B as u32 + Y * (B + 1) as u32,
-    KIND * NOT as u32 + X * (B + 2) as u32,
-    KIND * AND as u32 + X * S as u32 + Y * (B + 3) as u32,
     // seq
     KIND * PREVIOUS as u32 + X * L1 as u32,
     KIND * AND as u32 + X * K as u32 + Y * B as u32,
@@ -193,6 +198,9 @@ const ROWS: [u32; 97] = [
     KIND * OR as u32 + X * R2 as u32 + Y * R1 as u32,
 ];
 
+// The rows of the first table.
+const LEAF_COUNT: u8 = 35;
+
 // A row of a record's own: its kind and its fields x and y.
 pub struct TableRow {
     pub kind: u8,
@@ -200,9 +208,9 @@ pub struct TableRow {
     pub y: u8,
 }
 
-// Row j of the table.
-fn table_row(table: &[u32; 97], j: u8) -> TableRow
-    requires { ⌜ j < length rowTable ⌝ }
+// Row j of a table.
+fn table_row(table: &[u32], j: u8) -> TableRow
+    requires { ⌜ j < length (now table) ⌝ }
     ensures { λ r. ⌜ r ≡ unpacked (getD (now (table .entry)) j 0) ⌝ }
 {
     let row = table[j as usize];
@@ -231,23 +239,23 @@ const PLANS: [PlanLine; 17] = [
     PlanLine(0, 8, 0, ZERO, ZERO, ZERO, B + 3, B + 5, B + 7), // 1 duty
     PlanLine(8, 6, 0, ZERO, ZERO, ZERO, B + 5, B + 3, ZERO), // 2 ban
     PlanLine(14, 7, 0, ZERO, ZERO, ZERO, B + 6, ZERO, B + 4), // 3 power
-    PlanLine(21, 3, 11, S, B + 2, B + 2, N + 6, N + 7, N + 8), // 4 both
-    PlanLine(35, 4, 2, B + 1, B + 3, K, R1, N, N + 1), // 5 then
-    PlanLine(41, 4, 2, B + 1, B + 3, K, N + 1, R2, R3), // 6 repair
-    PlanLine(47, 5, 0, B + 4, B + 3, ZERO, ZERO, R2, R3), // 7 repeat
-    PlanLine(52, 4, 7, B + 1, B + 3, B + 3, N + 6, R2, R3), // 8 when
-    PlanLine(63, 3, 5, S, B + 2, B + 2, N + 3, L2, L3), // 9 until
-    PlanLine(71, 0, 0, ZERO, ZERO, ZERO, S, ZERO, ZERO), // 16 any
-    PlanLine(71, 2, 0, ZERO, ZERO, ZERO, B + 1, ZERO, ZERO), // 17 tries
-    PlanLine(73, 3, 0, ZERO, ZERO, ZERO, B + 2, ZERO, ZERO), // 18 idle
-    PlanLine(76, 4, 0, ZERO, ZERO, ZERO, B + 3, ZERO, ZERO), // 19 succeeds
-    PlanLine(80, 5, 0, ZERO, ZERO, ZERO, B + 4, ZERO, ZERO), // 20 fails
+    PlanLine(35, 3, 11, S, B + 2, B + 2, N + 6, N + 7, N + 8), // 4 both
+    PlanLine(49, 4, 2, B + 1, B + 3, K, R1, N, N + 1), // 5 then
+    PlanLine(55, 4, 2, B + 1, B + 3, K, N + 1, R2, R3), // 6 repair
+    PlanLine(61, 5, 0, B + 4, B + 3, ZERO, ZERO, R2, R3), // 7 repeat
+    PlanLine(66, 4, 7, B + 1, B + 3, B + 3, N + 6, R2, R3), // 8 when
+    PlanLine(77, 3, 5, S, B + 2, B + 2, N + 3, L2, L3), // 9 until
+    PlanLine(21, 0, 0, ZERO, ZERO, ZERO, S, ZERO, ZERO), // 16 any
+    PlanLine(21, 2, 0, ZERO, ZERO, ZERO, B + 1, ZERO, ZERO), // 17 tries
+    PlanLine(23, 3, 0, ZERO, ZERO, ZERO, B + 2, ZERO, ZERO), // 18 idle
+    PlanLine(26, 4, 0, ZERO, ZERO, ZERO, B + 3, ZERO, ZERO), // 19 succeeds
+    PlanLine(30, 5, 0, ZERO, ZERO, ZERO, B + 4, ZERO, ZERO), // 20 fails
     PlanLine(85, 3, 3, B + 2, K, K, N, N + 2, ZERO), // 21 seq
     PlanLine(91, 0, 2, S, K, K, N, N + 1, ZERO), // 22 or
     PlanLine(93, 3, 1, B + 2, K, ZERO, R1, N, ZERO), // 23 star
 ];
 
-// How a kind's rows are laid out: the first of its own rows in ROWS, how many stand before its operands' rows and how many after them; the
+// How a kind's rows are laid out: the first of its own rows in the tables, how many stand before its operands' rows and how many after them; the
 // rows that tell the right operand when it begins to read (start) and when it goes on (go), and the left operand when it goes on (keep; it
 // begins with the whole); and the three rows that the block gives out, of a literal with its own party's blame before the other's.
 pub struct Plan {
@@ -372,7 +380,7 @@ fn put_row(image: &mut [u8], at: u32, kind: u8, x: u32, y: u32)
     requires { ⌜ rowBytes * at + rowBytes ≤ length (now image) ⌝ }
     ensures { λ _. ⌜ now (image .exit) ≡ sets (now (image .entry)) (rowBytes * at) (rowRecord kind x y) ⌝ }
 {
-    let i = machine::ROW_BYTES * at as usize;
+    let i = layout::ROW_BYTES * at as usize;
     image[i] = records::ROW_MARK[0];
     image[i + 1] = records::ROW_MARK[1];
     image[i + 2] = kind;
@@ -381,15 +389,14 @@ fn put_row(image: &mut [u8], at: u32, kind: u8, x: u32, y: u32)
     records::put2(image, i + 6, y);
 }
 
-// Writes `count` of a record's own rows, from row `from` of the table on.
-fn put_rows(image: &mut [u8], at: u32, bases: &[u32; 16], from: u8, count: u8)
-    requires { ⌜ RoomForRows (now image) at (now bases) from count ⌝ }
-    ensures { λ _. ⌜ now (image .exit) ≡ writtenRows (now (image .entry)) at (tableRows (now (bases .entry)) from count) ⌝ }
+// Writes `count` rows of a table, from its row `from` on.
+fn put_from(image: &mut [u8], at: u32, bases: &[u32; 16], table: &[u32], from: u8, count: u8)
+    requires { ⌜ RoomFrom (now image) at (now bases) (length (now table)) from count ⌝ }
+    ensures { λ _. ⌜ now (image .exit) ≡ writtenRows (now (image .entry)) at (tableRows (now (bases .entry)) (map unpacked (now (table .entry))) from count) ⌝ }
 {
-    let table = ROWS;
     let mut j = 0;
     while j < count {
-        let row = table_row(&table, from + j);
+        let row = table_row(table, from + j);
         put_row(
             image,
             at + j as u32,
@@ -401,7 +408,66 @@ fn put_rows(image: &mut [u8], at: u32, bases: &[u32; 16], from: u8, count: u8)
     }
 }
 
-// Writes a record's own rows, where its operands' rows are written: those from row `at` on, and those after the operands' rows.
+// The same from the first table, and from the second: a function for each, so that only one of the two is laid on the stack.
+fn put_leaf_rows(image: &mut [u8], at: u32, bases: &[u32; 16], from: u8, count: u8)
+    requires { ⌜ RoomFrom (now image) at (now bases) (length leafRows) from count ⌝ }
+    ensures { λ _. ⌜ now (image .exit) ≡ writtenRows (now (image .entry)) at (tableRows (now (bases .entry)) leafRows from count) ⌝ }
+{
+    let table = LEAF_ROWS;
+    put_from(image, at, bases, &table, from, count);
+}
+
+fn put_node_rows(image: &mut [u8], at: u32, bases: &[u32; 16], from: u8, count: u8)
+    requires { ⌜ RoomFrom (now image) at (now bases) (length nodeRows) from count ⌝ }
+    ensures { λ _. ⌜ now (image .exit) ≡ writtenRows (now (image .entry)) at (tableRows (now (bases .entry)) nodeRows from count) ⌝ }
+{
+    let table = NODE_ROWS;
+    put_from(image, at, bases, &table, from, count);
+}
+
+// Writes `count` of a record's own rows, from row `from` on, counted over both tables.
+fn put_rows(image: &mut [u8], at: u32, bases: &[u32; 16], from: u8, count: u8)
+    requires { ⌜ RoomForRows (now image) at (now bases) from count ⌝ }
+    ensures { λ _. ⌜ now (image .exit) ≡ writtenRows (now (image .entry)) at (tableRows (now (bases .entry)) rowTable from count) ⌝ }
+{
+    if count == 0 {
+        return;
+    }
+    if from < LEAF_COUNT {
+        put_leaf_rows(image, at, bases, from, count);
+        return;
+    }
+    put_node_rows(image, at, bases, from - LEAF_COUNT, count);
+}
+
+// Writes a record's own rows: those from row `at` on, and those from row `next` on, after the operands' rows.
+fn put_own(image: &mut [u8], plan: Plan, at: u32, next: u32, bases: &[u32; 16])
+    requires { ⌜ RecordRows (now image) plan at next (now bases) ⌝ }
+    ensures { λ _. ⌜ now (image .exit) ≡ recordWritten (now (image .entry)) (now (bases .entry)) plan at next ⌝ }
+{
+    put_rows(image, at, bases, plan.from, plan.before);
+    put_rows(image, next, bases, plan.from + plan.before, plan.after);
+}
+
+// The block of a record and its operands.
+fn block_of(bases: &[u32; 16], plan: Plan, kind: u8, party: u32, left: Block, right: Block) -> Block
+    requires { ⌜ Small (now bases) ⌝ }
+    requires { ⌜ left .next + plan .after ≤ maxRows ⌝ }
+    ensures { λ r. ⌜ r ≡ recordBlock (now (bases .entry)) plan kind party left right ⌝ }
+{
+    let own = value_at(bases, plan.second);
+    let others = value_at(bases, plan.third);
+    Block {
+        before: left.before,
+        next: left.next + plan.after as u32,
+        first: value_at(bases, plan.first),
+        second: if party == 2 { others } else { own },
+        third: if party == 2 { own } else { others },
+        code: reader::completed(kind, left.code, right.code),
+    }
+}
+
+// Writes a record's own rows, where its operands' rows are written, and gives its block.
 fn put_record(
     image: &mut [u8],
     plan: Plan,
@@ -419,24 +485,8 @@ fn put_record(
     ensures gives { λ r. ⌜ r ≡ recordBlock (basesOf at s k left right party action) plan kind party left right ⌝ }
 {
     let meant = bases(at, s, k, left, right, party, action);
-    put_rows(image, at, &meant, plan.from, plan.before);
-    put_rows(
-        image,
-        left.next,
-        &meant,
-        plan.from + plan.before,
-        plan.after,
-    );
-    let own = value_at(&meant, plan.second);
-    let others = value_at(&meant, plan.third);
-    Block {
-        before: left.before,
-        next: left.next + plan.after as u32,
-        first: value_at(&meant, plan.first),
-        second: if party == 2 { others } else { own },
-        third: if party == 2 { own } else { others },
-        code: reader::completed(kind, left.code, right.code),
-    }
+    put_own(image, plan, at, left.next, &meant);
+    block_of(&meant, plan, kind, party, left, right)
 }
 
 // ---- the rows of a tree
@@ -504,7 +554,7 @@ fn put_end(image: &mut [u8], rows: u32, sat: u32, one: u32, two: u32)
     requires { ⌜ rowBytes * rows + rowBytes ≤ length (now image) ⌝ }
     ensures { λ _. ⌜ now (image .exit) ≡ sets (now (image .entry)) (rowBytes * rows) (endRecord sat one two) ⌝ }
 {
-    let i = machine::ROW_BYTES * rows as usize;
+    let i = layout::ROW_BYTES * rows as usize;
     image[i] = records::END_MARK[0];
     image[i + 1] = records::END_MARK[1];
     records::put2(image, i + 2, sat);

@@ -5,11 +5,12 @@ use Rattle.records.specs.Marks.{marked}
 use Rattle.records.specs.Refusals.{firstFailing}
 use Rattle.periods.specs.Periods.{tries, bit, periodAt}
 use Rattle.periods.specs.Traces.{recordCount, marksTest, recordTest}
-use Rattle.machine.specs.Rows.{rowOf, encode, decode}
-use Rattle.machine.specs.Images.{imageBytes, rowsBytes, endBytes, rowCount, rowsOf, imageOf, goodLength, goodRowAt, goodEnd}
-use Rattle.machine.specs.States.{stateOf, stateBytes, sound, allAtMost, allZero}
+use Rattle.layout.specs.Rows.{rowOf, encode, decode}
+use Rattle.layout.specs.Images.{imageBytes, rowsBytes, endBytes, rowCount, rowsOf, imageOf, goodLength, goodRowAt, goodEnd}
+use Rattle.layout.specs.Refusals.{imageTest}
+use Rattle.states.specs.States.{stateOf, stateBytes, sound, allAtMost, allZero}
+use Rattle.states.specs.Refusals.{stateTest, countTest}
 use Rattle.machine.specs.Machine.{afterPeriod, computed, counted, valuesAfter, newValues}
-use Rattle.machine.specs.Refusals.{imageTest, stateTest, countTest}
 use Rattle.runner.specs.Refusals.{beginTest, readyTest, stepTest}
 use Rattle.runner.specs.Calls.{stepReply, answer, call, begin, step}
 use Rattle.contract.specs.Expressions.{holdsEmpty}

@@ -2,8 +2,8 @@
 use Prim.Native.Nat.{ℕ}
 use mathlib.Core.List.{List}
 use mathlib.Core.Path.{_≡_}
-use Rattle.machine.proofs.Images.{imageTest-imageBytes, imageOf-imageBytes, rowCount-imageBytes}
-use Rattle.machine.proofs.Fresh.{fresh-read}
+use Rattle.layout.proofs.Images.{imageTest-imageBytes, imageOf-imageBytes, rowCount-imageBytes}
+use Rattle.states.proofs.Fresh.{fresh-read}
 use Rattle.contract.specs.Meaning.{Clause}
 use Rattle.reader.specs.Reader.{taken, read}
 use Rattle.reader.proofs.Reader.{taken-spells, taken-count}

@@ -15,14 +15,14 @@ use Rattle.records.proofs.Numbers.{lt-or-le}
 use Rattle.records.proofs.Refusals.{true-or-false, first-passed, require-passed, count-refused}
 use Rattle.periods.specs.Periods.{Period, periodAt}
 use Rattle.periods.specs.Traces.{recordTest}
-use Rattle.machine.specs.Limits.{headBytes, maxPeriods}
-use Rattle.machine.specs.Images.{rowCount, imageOf}
-use Rattle.machine.specs.States.{State, stateOf, stateBytes}
-use Rattle.machine.specs.Machine as Machine
+use Rattle.layout.specs.Images.{rowCount, imageOf}
+use Rattle.states.specs.Limits.{headBytes, maxPeriods}
+use Rattle.states.specs.States.{State, stateOf, stateBytes}
+use Rattle.states.specs.Refusals.{countTest}
+use Rattle.states.proofs.Fresh.{fresh-read}
+use Rattle.states.specs.Verdicts as Shown
 use Rattle.machine.specs.Machine.{afterPeriod, afterPeriods}
-use Rattle.machine.specs.Refusals.{countTest}
 use Rattle.machine.proofs.Machine.{after-snoc, periods-afterPeriods}
-use Rattle.machine.proofs.Fresh.{fresh-read}
 use Rattle.runner.specs.Refusals.{beginTest, readyTest, stepTest}
 use Rattle.runner.specs.Calls.{beginReplyBytes, stepReplyBytes, answer, refusal, unwritten, written, begin, step}
 use Rattle.runner.specs.StepCalls as StepCalls
@@ -38,7 +38,7 @@ use Rattle.image.proofs.Images.{right-for}
 
 -- ---- a state that shows a decision answers with it
 
-verdict-shown : (d : Decision) (s : State) → Shows d s → Machine.verdict s ≡ verdict d (s .periods)
+verdict-shown : (d : Decision) (s : State) → Shows d s → Shown.verdict s ≡ verdict d (s .periods)
 verdict-shown undecided s h = rw (h .outcome-is)
 verdict-shown (satisfied k) s h = rw (h .outcome-is, h .decision-is)
 verdict-shown (violated k b) s h = rw (h .outcome-is, h .decision-is)

@@ -10,11 +10,11 @@ use mathlib.Core.Path.{_≡_, refl, sym, ap, _∙_}
 use borrow.Author.Tests.{eq-eqb, ne-eqb}
 use lib.ListN.{length, getD}
 use Rattle.periods.specs.Periods.{party1, party2, Period}
-use Rattle.machine.specs.Rows.{Row, never, initial, attempt, negation, conjunction, disjunction, previous}
-use Rattle.machine.specs.States.{State}
+use Rattle.layout.specs.Rows.{Row, never, initial, attempt, negation, conjunction, disjunction, previous}
+use Rattle.states.specs.States.{State}
+use Rattle.states.proofs.Fresh.{freshState}
 use Rattle.machine.specs.Machine.{byteOf, isTrue, value, newValues, valuesAfter, outcomeOf, blameOf, computed, counted, afterPeriod, afterPeriods}
 use Rattle.machine.proofs.Machine.{isTrue-byteOf, after-undecided, after-decided, after-snoc}
-use Rattle.machine.proofs.Fresh.{freshState}
 use Rattle.contract.specs.Meaning.{Clause, Blame, only, bothParties, Decision, undecided, satisfied, violated, meaning, EmptyFree}
 use Rattle.contract.specs.Verdicts.{decisionPeriod, blame, blameNumber}
 use Rattle.contract.proofs.Meaning.{within, within-none}

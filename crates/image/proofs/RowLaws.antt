@@ -10,7 +10,7 @@ use lib.Dec.{ltb}
 use lib.ListN.{length, getD, List·getD-append}
 use lib.Seq.{getD-at}
 use Rattle.periods.specs.Periods.{Period}
-use Rattle.machine.specs.Rows.{Row, never, initial, attempt, negation, conjunction, disjunction, previous, namesRows}
+use Rattle.layout.specs.Rows.{Row, never, initial, attempt, negation, conjunction, disjunction, previous, namesRows}
 use Rattle.machine.specs.Machine.{value, newValues}
 use Rattle.machine.proofs.Machine.{length-newValues}
 use Rattle.image.proofs.Signals.{Signal, isFirst, rowSignal, _≐_, Obeys}

@@ -5,7 +5,7 @@ use mathlib.Core.Bool.{Bool, true, false, not, _&&_, _||_}
 use mathlib.Core.List.{List, [], _∷_}
 use mathlib.Core.Path.{_≡_, refl}
 use Rattle.periods.specs.Periods.{Party, party1, party2, other, Period, tries}
-use Rattle.machine.specs.Rows.{Row, never, initial, attempt, negation, conjunction, disjunction, previous}
+use Rattle.layout.specs.Rows.{Row, never, initial, attempt, negation, conjunction, disjunction, previous}
 use Rattle.contract.specs.Expressions.{Atom, holds, Expression, atom, seq, or, star, holdsEmpty}
 use Rattle.contract.specs.Meaning.{Literal, Clause, literal, both, then, repair, repeat, when, until, Blame, only, bothParties, Decision, undecided, satisfied, violated, literalDecision}
 

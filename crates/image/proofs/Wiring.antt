@@ -5,7 +5,7 @@ use mathlib.Core.List.{List}
 use mathlib.Core.Path.{_≡_, refl, sym, _∙_}
 use Rattle.periods.specs.Periods
 use Rattle.periods.specs.Periods.{Party, party1, party2, other, Period}
-use Rattle.machine.specs.Rows.{Row}
+use Rattle.layout.specs.Rows.{Row}
 use Rattle.contract.specs.Expressions.{Atom, any, tries, idle, succeeds, fails, holds, Expression, atom, seq, or, star, holdsEmpty}
 use Rattle.contract.specs.Meaning.{Literal, duty, ban, power, Clause, literal, both, then, repair, repeat, when, until, only, Decision, satisfied, violated, literalDecision}
 use Rattle.image.specs.Widths.{neverRow, _⊹_, afterExpression, afterClause}

@@ -8,7 +8,7 @@ use Prim.Native.Nat.{ℕ}
 use mathlib.Core.Bool.{cond}
 use mathlib.Core.List.{List, _∷_}
 use Rattle.periods.specs.Periods.{Party, party1, party2, other}
-use Rattle.machine.specs.Rows.{Row, attempt, negation, conjunction, disjunction, previous}
+use Rattle.layout.specs.Rows.{Row, attempt, negation, conjunction, disjunction, previous}
 use Rattle.contract.specs.Expressions.{Atom, any, tries, idle, succeeds, fails, Expression, atom, seq, or, star, holdsEmpty}
 use Rattle.contract.specs.Meaning.{Literal, duty, ban, power, Clause, literal, both, then, repair, repeat, when, until}
 use Rattle.reader.specs.Table

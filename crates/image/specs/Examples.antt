@@ -1,5 +1,4 @@
--- Vectors of the image, a dozen: every kind, every error of document 01's "What students hand in", and the example of "Watch" through the bytes;
--- and vectors of compile.
+-- Vectors of the image, a dozen: every kind, every error of document 01's "What students hand in", and the example of "Watch" through the bytes.
 use Prim.Native.Nat.{ℕ, _+_}
 use mathlib.Core.List.{List, [], _∷_}
 use mathlib.Core.Path.{_≡_}
@@ -7,10 +6,11 @@ use lib.ListN.{length, replicate}
 use Rattle.records.specs.Verdicts.{Verdict, «open», met, broken, broken-after, verdictNumber}
 use Rattle.records.specs.declared.Test.the-variants.{Passed}
 use Rattle.periods.specs.Periods.{party1, party2, Period}
-use Rattle.machine.specs.Limits.{headBytes}
-use Rattle.machine.specs.Images.{Image, rowCount}
-use Rattle.machine.specs.States.{State, stateOf}
-use Rattle.machine.specs.Machine.{afterPeriod, verdict}
+use Rattle.layout.specs.Images.{Image, rowCount}
+use Rattle.states.specs.Limits.{headBytes}
+use Rattle.states.specs.States.{State, stateOf}
+use Rattle.states.specs.Verdicts.{verdict}
+use Rattle.machine.specs.Machine.{afterPeriod}
 use Rattle.runner.specs.Calls.{beginReplyBytes, stepReply, stepReplyBytes, begin, step}
 use Rattle.contract.specs.Expressions.{any, tries, idle, succeeds, fails, atom, seq, or, star}
 use Rattle.contract.specs.Meaning.{Clause, both, then, repair, repeat, when, until}

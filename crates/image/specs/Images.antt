@@ -6,12 +6,12 @@ use mathlib.Core.Path.{_≡_}
 use lib.ListN.{replicate}
 use Rattle.records.specs.declared.Test.the-variants.{Passed}
 use Rattle.periods.specs.Periods.{Period}
-use Rattle.machine.specs.Limits.{headBytes}
-use Rattle.machine.specs.Rows.{Row, never, initial, negation}
-use Rattle.machine.specs.Images.{Image, imageBytes, rowCount, imageOf}
-use Rattle.machine.specs.States.{State, stateOf}
+use Rattle.layout.specs.Rows.{Row, never, initial, negation}
+use Rattle.layout.specs.Images.{Image, imageBytes, rowCount, imageOf}
+use Rattle.layout.specs.Refusals.{imageTest}
+use Rattle.states.specs.Limits.{headBytes}
+use Rattle.states.specs.States.{State, stateOf}
 use Rattle.machine.specs.Machine.{afterPeriods}
-use Rattle.machine.specs.Refusals.{imageTest}
 use Rattle.contract.specs.Meaning.{Clause, Decision, undecided, satisfied, violated, meaning}
 use Rattle.contract.specs.Verdicts.{decisionPeriod, blame}
 use Rattle.reader.specs.Reader.{Result, refused, taken, read, recordCount}

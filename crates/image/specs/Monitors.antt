@@ -14,9 +14,9 @@ use Rattle.records.specs.declared.Test.the-variants.{Passed, FullCount}
 use Rattle.records.specs.Refusals.{numberOf, firstOf, require}
 use Rattle.periods.specs.Periods.{Period, periodAt}
 use Rattle.periods.specs.Traces.{recordTest}
-use Rattle.machine.specs.Limits.{headBytes, maxPeriods}
-use Rattle.machine.specs.Images.{rowCount}
-use Rattle.machine.specs.States.{stateOf}
+use Rattle.layout.specs.Images.{rowCount}
+use Rattle.states.specs.Limits.{headBytes, maxPeriods}
+use Rattle.states.specs.States.{stateOf}
 use Rattle.runner.specs.Calls.{beginReply, beginReplyBytes, stepReply, stepReplyBytes, refusal, unwritten, written, begin, step}
 use Rattle.runner.specs.StepCalls.{StepCall, stateAfterCall}
 use Rattle.contract.specs.Meaning.{Clause, meaning}

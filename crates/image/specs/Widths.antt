@@ -1,7 +1,7 @@
 -- How many rows each record has, and where the rows of a tree start and end. Which rows an image has is free: "they follow from the
 -- contract's bytes alone, form a good image and meet demand 3" (Document 01, "Contracts and examples").
 use Prim.Native.Nat.{ℕ, zero, suc, _+_, _*_}
-use Rattle.machine.specs.Limits.{rowBytes}
+use Rattle.layout.specs.Limits.{rowBytes}
 use Rattle.contract.specs.Expressions as E
 use Rattle.contract.specs.Expressions.{Atom, Expression, atom}
 use Rattle.contract.specs.Meaning as M

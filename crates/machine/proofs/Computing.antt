@@ -12,11 +12,11 @@ use lib.Bits.{bitAnd, bitOr, and-mask}
 use lib.Dec.{ltb, leb, lit<}
 use lib.ListN.{length, getD, set, List·getD-map}
 use Rattle.periods.specs.Periods.{Period}
-use Rattle.machine.specs.Rows.{Row, never, initial, attempt, negation, conjunction, disjunction, previous, namesRows}
-use Rattle.machine.specs.States.{allAtMost}
+use Rattle.layout.specs.Rows.{Row, never, initial, attempt, negation, conjunction, disjunction, previous, namesRows}
+use Rattle.states.specs.States.{allAtMost}
+use Rattle.states.proofs.States.{allAtMost-at}
 use Rattle.machine.specs.Machine.{byteOf, isTrue, value, newValues, outcomeOf, blameOf}
 use Rattle.machine.specs.Computing.{firstBits, valuesIn, packed, oldIn}
-use Rattle.machine.proofs.States.{allAtMost-at}
 use Rattle.machine.proofs.Machine.{byteOf-le, isTrue-byteOf, length-newValues}
 
 -- ---- values as bytes
@@ -54,12 +54,6 @@ pub first-byte : (v : ℕ) → v % 2 ≡ byteOf (isTrue (v % 2))
 first-byte v = let h : v % 2 < 2 = mod-lt v (lit< tt) in byte-of (v % 2) (omega arith)
 
 -- ---- packed values
-
-pub length-packed : (old new : List Bool) → length new ≡ length old → length (packed old new) ≡ length old
-unfolding packed
-length-packed [] new h = refl
-length-packed (o ∷ old) [] h = absurd (omega arith)
-length-packed (o ∷ old) (v ∷ new) h = ap suc (length-packed old new (omega arith))
 
 new-of : (v o : Bool) → (byteOf v + 2 * byteOf o) % 2 ≡ byteOf v
 new-of true true = refl

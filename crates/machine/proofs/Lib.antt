@@ -1,11 +1,6 @@
--- The laws of rows, images, states, the row machine and its tests.
-pub mod Rows
-pub mod Images
-pub mod States
-pub mod Refusals
+-- The laws of the row machine.
 pub mod RowKinds
 pub mod Machine
 pub mod Computing
 pub mod Settling
 pub mod Steps
-pub mod Fresh

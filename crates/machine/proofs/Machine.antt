@@ -11,11 +11,11 @@ use borrow.Author.Tests.{eq-eqb, ne-eqb}
 use lib.Dec.{eqb}
 use lib.ListN.{length, getD, length-append, length-map, List·getD-map}
 use Rattle.periods.specs.Periods.{Period}
-use Rattle.machine.specs.Rows.{Row}
-use Rattle.machine.specs.Images.{Image}
-use Rattle.machine.specs.States.{State}
+use Rattle.layout.specs.Rows.{Row}
+use Rattle.layout.specs.Images.{Image}
+use Rattle.states.specs.States.{State}
+use Rattle.states.proofs.States.{SoundHead, Sound}
 use Rattle.machine.specs.Machine.{byteOf, isTrue, newValues, valuesAfter, outcomeOf, blameOf, computed, counted, afterPeriod, afterPeriods}
-use Rattle.machine.proofs.States.{SoundHead, Sound}
 
 -- ---- row values
 

@@ -18,16 +18,16 @@ use Rattle.records.specs.declared.Test.the-variants.{Passed}
 use Rattle.records.proofs.Numbers.{lt-or-le}
 use Rattle.periods.specs.Limits.{actions}
 use Rattle.periods.specs.Periods.{Period, Party, party1, party2, number, tries}
-use Rattle.machine.specs.Rows.{Row, never, initial, attempt, negation, conjunction, disjunction, previous, attemptOf, rowOf, decode, namesRows, goodRow}
-use Rattle.machine.specs.Limits.{rowBytes}
-use Rattle.machine.specs.Images.{rowCount, imageOf}
-use Rattle.machine.specs.States.{allAtMost}
+use Rattle.layout.specs.Rows.{Row, never, initial, attempt, negation, conjunction, disjunction, previous, attemptOf, rowOf, decode, namesRows, goodRow}
+use Rattle.layout.specs.Limits.{rowBytes}
+use Rattle.layout.specs.Images.{rowCount, imageOf}
+use Rattle.layout.specs.Refusals.{imageTest}
+use Rattle.layout.proofs.Rows.{good-other}
+use Rattle.layout.proofs.Images.{passed-good, good-row}
+use Rattle.states.specs.States.{allAtMost}
+use Rattle.states.proofs.States.{allAtMost-at}
 use Rattle.machine.specs.Machine.{byteOf, isTrue, value}
-use Rattle.machine.specs.Refusals.{imageTest}
 use Rattle.machine.specs.Computing.{firstBits, valuesIn, oldIn, KindRow}
-use Rattle.machine.proofs.Rows.{good-other}
-use Rattle.machine.proofs.Images.{passed-good, good-row}
-use Rattle.machine.proofs.States.{allAtMost-at}
 use Rattle.machine.proofs.Computing.{byteOf-bool, byteOf-not, byte-of, first-bit, first-byte, first-and, first-or, both-below}
 
 -- r is what bytes hold, and names rows below k, or below n in kind 6

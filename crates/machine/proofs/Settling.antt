@@ -12,12 +12,12 @@ use lib.Seq.{take-append-le, take-take, getD-take, drop-at, length-take-le}
 use Rattle.records.specs.Fields.{value, bytes, field}
 use Rattle.records.specs.declared.Test.the-variants.{Passed}
 use Rattle.records.proofs.Written.{drop-take}
-use Rattle.machine.specs.Limits.{headBytes}
-use Rattle.machine.specs.States.{State, stateOf, stateBytes, allAtMost}
-use Rattle.machine.specs.Refusals.{stateTest}
+use Rattle.states.specs.Limits.{headBytes}
+use Rattle.states.specs.States.{State, stateOf, stateBytes, allAtMost}
+use Rattle.states.specs.Refusals.{stateTest}
+use Rattle.states.proofs.Refusals.{state-passed}
+use Rattle.states.proofs.States.{at-allAtMost, Sound, sound-facts, part-rest}
 use Rattle.machine.specs.Computing.{firstBits, settled}
-use Rattle.machine.proofs.Refusals.{state-passed}
-use Rattle.machine.proofs.States.{at-allAtMost, Sound, sound-facts, part-rest}
 
 pub length-firstBits : (l : List ℕ) → length (firstBits l) ≡ length l
 unfolding firstBits

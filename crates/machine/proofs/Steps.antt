@@ -13,15 +13,16 @@ use Rattle.records.specs.Fields.{AllBytes, bytes, field}
 use Rattle.records.proofs.Written.{drop-after, getD-before}
 use Rattle.records.proofs.Fields.{length-bytes}
 use Rattle.periods.specs.Periods.{Period}
-use Rattle.machine.specs.Limits.{headBytes, maxPeriods}
-use Rattle.machine.specs.Images.{Image, rowCount, imageOf}
-use Rattle.machine.specs.States.{State, stateOf, stateBytes, allAtMost, sound}
+use Rattle.layout.specs.Images.{Image, rowCount, imageOf}
+use Rattle.layout.proofs.Images.{length-rowsOf}
+use Rattle.states.specs.Limits.{headBytes, maxPeriods}
+use Rattle.states.specs.States.{State, stateOf, stateBytes, allAtMost, sound}
+use Rattle.states.specs.Premises.{soundHead, Answering}
+use Rattle.states.proofs.Refusals.{state-passed}
+use Rattle.states.proofs.States.{Sound, sound-split, stateBytes-stateOf, read-back, sound-passes, part-rest, length-stateBytes}
 use Rattle.machine.specs.Machine.{byteOf, isTrue, valuesAfter, outcomeOf, blameOf, computed, counted, afterPeriod, afterPeriods}
-use Rattle.machine.specs.Computing.{soundHead, firstBits, valuesIn, settled, packed, newBits, RowValues, withDecision, decidedBytes, Working, Advanced}
-use Rattle.machine.specs.Premises.{Answering, Ready}
-use Rattle.machine.proofs.Refusals.{state-passed}
-use Rattle.machine.proofs.Images.{length-rowsOf}
-use Rattle.machine.proofs.States.{Sound, sound-split, stateBytes-stateOf, read-back, sound-passes, part-rest, length-stateBytes}
+use Rattle.machine.specs.Computing.{firstBits, valuesIn, settled, packed, newBits, RowValues, withDecision, decidedBytes, Working, Advanced}
+use Rattle.machine.specs.Premises.{Ready}
 use Rattle.machine.proofs.Settling.{length-firstBits, length-settled, put-rest, state-sound, plain, settled-bytes, settled-state}
 use Rattle.machine.proofs.Computing.{firstBits-packed, packed-small}
 use Rattle.machine.proofs.Machine.{isTrue-byteOf, length-valuesAfter, after-undecided, after-decided, sound-afterPeriods, periods-afterPeriods}

@@ -2,29 +2,21 @@
 -- first bit of its byte, and while the rows are computed in order, the byte of a row that has its new value holds new + 2 × old. The second bit is
 -- left there for the next period, and cleared at the end.
 use Prim.Native.Nat.{ℕ, _+_, _*_, _/_, _%_, _<_}
-use mathlib.Core.Bool.{Bool, true, false, _&&_, _||_, cond}
+use mathlib.Core.Bool.{Bool, true, false, _||_, cond}
 use mathlib.Core.List.{List, [], _∷_, _++_, map}
 use mathlib.Core.Path.{_≡_}
-use lib.Dec.{eqb, ltb, leb}
 use lib.ListN.{length, getD, set, take, drop}
 use lib.Seq.{sets}
 use Rattle.records.specs.Fields.{bytes}
 use Rattle.records.specs.declared.Test.the-variants.{Passed}
 use Rattle.periods.specs.Periods.{Period}
-use Rattle.machine.specs.Limits.{headBytes}
-use Rattle.machine.specs.Rows.{rowOf, goodRow}
-use Rattle.machine.specs.Images.{Image, rowCount, imageOf}
-use Rattle.machine.specs.States.{stateOf, stateBytes, allAtMost}
+use Rattle.layout.specs.Rows.{rowOf, goodRow}
+use Rattle.layout.specs.Images.{Image, rowCount, imageOf}
+use Rattle.layout.specs.Refusals.{imageTest}
+use Rattle.states.specs.Limits.{headBytes}
+use Rattle.states.specs.States.{stateOf, stateBytes, allAtMost}
 use Rattle.machine.specs.Machine.{byteOf, isTrue, newValues, outcomeOf, blameOf, afterPeriod}
-use Rattle.machine.specs.Refusals.{imageTest}
 use Rattle.machine.specs.Premises.{Ready}
-
--- what soundness asks of outcome, blame, periods taken and decision period alone
-unfoldable pub soundHead : ℕ → ℕ → ℕ → ℕ → Bool
-soundHead outcome blame periods decision =
-    cond (eqb outcome 0) (eqb blame 0 && eqb decision 0)
-    (cond (eqb outcome 1) (eqb blame 0 && ltb 0 decision && leb decision periods)
-    (cond (eqb outcome 2) (ltb 0 blame && leb blame 3 && ltb 0 decision && leb decision periods) false))
 
 -- the first bits of the rows' bytes, as bytes and as values
 unfoldable pub firstBits : List ℕ → List ℕ
@@ -89,7 +81,7 @@ unfoldable pub decidedBytes : Image → ℕ → List ℕ → List ℕ
 decidedBytes m period l =
     withDecision (isTrue (getD l (headBytes + m .S) 0 % 2)) (isTrue (getD l (headBytes + m .V1) 0 % 2)) (isTrue (getD l (headBytes + m .V2) 0 % 2)) period l
 
--- the same of a state whose rows' bytes hold two values
+-- ready (`Ready`) once it is settled, each row's byte holding two values
 pub record Working (image state : List ℕ) (n : ℕ) : Type 0 where
   pub ready : Ready image (settled state) n
   pub small : allAtMost 3 (drop headBytes state) ≡ true

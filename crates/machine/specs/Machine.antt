@@ -5,11 +5,10 @@ use mathlib.Core.Bool.{Bool, true, false, not, _&&_, _||_, cond}
 use mathlib.Core.List.{List, [], _∷_, _++_, map}
 use lib.Dec.{eqb}
 use lib.ListN.{length, getD}
-use Rattle.records.specs.Verdicts.{Verdict, «open», met, broken, met-after, broken-after, since}
 use Rattle.periods.specs.Periods.{Period, tries}
-use Rattle.machine.specs.Rows.{Row, never, initial, attempt, negation, conjunction, disjunction, previous}
-use Rattle.machine.specs.Images.{Image}
-use Rattle.machine.specs.States.{State}
+use Rattle.layout.specs.Rows.{Row, never, initial, attempt, negation, conjunction, disjunction, previous}
+use Rattle.layout.specs.Images.{Image}
+use Rattle.states.specs.States.{State}
 
 -- a row's value as a state's byte, and back
 abbrev pub byteOf : Bool → ℕ
@@ -76,10 +75,3 @@ afterPeriod m p s = cond (eqb (s .outcome) 0) (computed m (valuesAfter m p s) s)
 unfoldable pub afterPeriods : Image → State → List Period → State
 afterPeriods m s [] = s
 afterPeriods m s (p ∷ w) = afterPeriods m (afterPeriod m p s) w
-
--- the verdict that a state shows: open while undecided; met or broken in the decision period; met-after or broken-after later
-abbrev pub verdict : State → Verdict
-verdict s =
-    cond (eqb (s .outcome) 0) «open»
-    (cond (eqb (s .outcome) 1) (since (s .decision) (s .periods) met met-after)
-    (since (s .decision) (s .periods) broken broken-after))

@@ -1,4 +1,5 @@
-// Periods: the period record, both parties' attempts, and traces of such records with refusal 11. Document 01, "Records".
+// Periods: the period record, both parties' attempts, and traces of such records with refusal 11. Document 01, "Records" and
+// "Replies that refuse".
 ghost use mathlib.Core.Path.{_≡_};
 ghost use Prim.Native.Nat.{_+_, _*_, _<_, _≤_};
 ghost use lib.Dec.{ltb};

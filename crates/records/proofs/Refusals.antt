@@ -158,9 +158,6 @@ number-passed BadState h = absurd (omega arith)
 number-passed (BadPeriod k) h = absurd (omega arith)
 number-passed (FullCount k) h = absurd (omega arith)
 
-pub passed-number : (t : Test) → t ≡ Passed → numberOf t ≡ 0
-passed-number t h = rw h
-
 -- a number of 4 bytes
 pub number-small : (t : Test) → numberOf t < 256 ^ 4
 number-small Passed = lit< tt

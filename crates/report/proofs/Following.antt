@@ -16,7 +16,7 @@ use Rattle.periods.specs.Limits.{periodBytes}
 use Rattle.periods.specs.Periods.{Period, party1, party2}
 use Rattle.periods.specs.Traces.{recordCount, markedAt, periodsOf, recordAt}
 use Rattle.periods.proofs.Traces.{length-periodsOf, trace-marks, record-period, record-test}
-use Rattle.machine.specs.Limits.{maxPeriods}
+use Rattle.states.specs.Limits.{maxPeriods}
 use Rattle.runner.specs.Calls.{beginReplyBytes, stepReplyBytes, Gives, begin, step}
 use Rattle.runner.specs.StepCalls.{StepCall, stateAfterCall}
 use Rattle.runner.proofs.Calls.{long-verdict, long-blame, long-decision}

@@ -17,12 +17,14 @@ use Rattle.records.specs.Refusals.{numberOf, placeOf, firstOf}
 use Rattle.records.proofs.Fields.{value-bytes-lt}
 use Rattle.records.proofs.Test.{the-type}
 use Rattle.periods.specs.Traces.{recordCount, traceTest}
-use Rattle.machine.specs.Limits.{rowBytes, maxRows, headBytes, maxPeriods}
-use Rattle.machine.specs.Images.{rowCount, imageBytes}
-use Rattle.machine.specs.States.{stateOf}
-use Rattle.machine.specs.Refusals.{imageTest, countTest}
-use Rattle.machine.proofs.Images.{rowCount-of}
-use Rattle.machine.proofs.Fresh.{freshState, fresh-read}
+use Rattle.layout.specs.Limits.{rowBytes, maxRows}
+use Rattle.layout.specs.Images.{rowCount, imageBytes}
+use Rattle.layout.specs.Refusals.{imageTest}
+use Rattle.layout.proofs.Images.{rowCount-of}
+use Rattle.states.specs.Limits.{headBytes, maxPeriods}
+use Rattle.states.specs.States.{stateOf}
+use Rattle.states.specs.Refusals.{countTest}
+use Rattle.states.proofs.Fresh.{freshState, fresh-read}
 use Rattle.runner.specs.Refusals.{beginTest, runTest}
 use Rattle.runner.specs.Calls.{beginReplyBytes, begin}
 use Rattle.runner.proofs.StepCalls.{begin-written, begin-sound}

@@ -9,8 +9,8 @@ use Rattle.records.specs.declared.Test.the-variants.{Passed}
 use Rattle.periods.specs.Limits.{periodBytes}
 use Rattle.periods.specs.Periods.{Period}
 use Rattle.periods.specs.Traces.{recordCount, markedAt, traceTest, recordAt}
-use Rattle.machine.specs.Limits.{headBytes}
-use Rattle.machine.specs.Images.{rowCount}
+use Rattle.layout.specs.Images.{rowCount}
+use Rattle.states.specs.Limits.{headBytes}
 use Rattle.runner.specs.Calls.{stepReplyBytes, step}
 use Rattle.runner.specs.StepCalls.{StepCall}
 use Rattle.contract.specs.Meaning.{Clause, EmptyFree}

@@ -5,7 +5,8 @@ ghost use lib.ListN.{length};
 ghost use Rattle.records.specs.Verdicts.{Verdict, verdictNumber, verdictName};
 ghost use Rattle.records.specs.Refusals.{firstFailing};
 ghost use Rattle.periods.specs.Limits.{periodBytes};
-ghost use Rattle.machine.specs.Limits.{maxRows, headBytes};
+ghost use Rattle.layout.specs.Limits.{maxRows};
+ghost use Rattle.states.specs.Limits.{headBytes};
 ghost use Rattle.reader.specs.Limits.{maxRecords};
 ghost use Rattle.reader.specs.Reader.{read};
 ghost use Rattle.image.specs.Widths.{bufferBytes};
@@ -23,9 +24,9 @@ pub const INPUT_BYTES: usize = 65520;
 const TOO_LONG: u64 = 13;
 
 // The image buffer for a contract of 64 records, a state for as many rows as an image can have, and room for a line for each period and one more.
-pub const IMAGE_BYTES: usize = machine::ROW_BYTES * (machine::MAX_ROWS + 1);
+pub const IMAGE_BYTES: usize = layout::ROW_BYTES * (layout::MAX_ROWS + 1);
 
-pub const STATE_BYTES: usize = machine::HEAD_BYTES + machine::MAX_ROWS;
+pub const STATE_BYTES: usize = states::HEAD_BYTES + layout::MAX_ROWS;
 
 pub const TEXT_BYTES: usize = LINE_BYTES * (INPUT_BYTES / periods::PERIOD_BYTES + 1);
 
@@ -238,8 +239,8 @@ fn put_parts(input: &[u8], image: &mut [u8], state: &mut [u8], text: &mut [u8]) 
         return put_refused(text, records::number(t) as u64, records::place(t));
     };
     let rows = compiled.rows as usize;
-    let image_length = machine::ROW_BYTES * (rows + 1);
-    let state_length = machine::HEAD_BYTES + rows;
+    let image_length = layout::ROW_BYTES * (rows + 1);
+    let state_length = states::HEAD_BYTES + rows;
     follow(
         &image[..image_length],
         &mut state[..state_length],

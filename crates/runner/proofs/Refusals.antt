@@ -15,12 +15,13 @@ use Rattle.records.proofs.Refusals.{first-passed, require-passed, period-refuse
 use Rattle.periods.specs.Limits.{periodBytes}
 use Rattle.periods.specs.Traces.{recordCount, markedAt, marksTest, recordTest, traceTest}
 use Rattle.periods.proofs.Traces.{trace-marks}
-use Rattle.machine.specs.Limits.{headBytes}
-use Rattle.machine.specs.Images.{rowCount}
-use Rattle.machine.specs.States.{stateOf, sound}
-use Rattle.machine.specs.Refusals.{imageTest, stateTest, countTest}
+use Rattle.layout.specs.Images.{rowCount}
+use Rattle.layout.specs.Refusals.{imageTest}
+use Rattle.states.specs.Limits.{headBytes}
+use Rattle.states.specs.States.{stateOf, sound}
+use Rattle.states.specs.Refusals.{stateTest, countTest}
+use Rattle.states.proofs.Refusals.{state-passed, passed-count}
 use Rattle.machine.specs.Premises.{Ready}
-use Rattle.machine.proofs.Refusals.{state-passed, passed-count}
 use Rattle.runner.specs.Refusals.{readyTest, stepTest, runTest}
 
 pub ready-passed : (image state : List ℕ) → readyTest image state ≡ Passed → (imageTest image ≡ Passed) × (stateTest (rowCount image) state ≡ Passed)

@@ -22,16 +22,16 @@ use Rattle.periods.specs.Limits.{periodBytes}
 use Rattle.periods.specs.Periods.{periodAt}
 use Rattle.periods.specs.Traces.{recordCount, markedAt, marksTest, recordTest, traceTest, periodsOf, recordAt}
 use Rattle.periods.proofs.Traces.{length-periodsOf, record-period, record-test, record-refused}
-use Rattle.machine.specs.Limits.{maxPeriods}
-use Rattle.machine.specs.Images.{imageOf}
-use Rattle.machine.specs.States.{stateOf, stateBytes}
+use Rattle.layout.specs.Images.{imageOf}
+use Rattle.states.specs.Limits.{maxPeriods}
+use Rattle.states.specs.States.{stateOf, stateBytes}
+use Rattle.states.specs.Refusals.{countTest}
+use Rattle.states.proofs.States.{stateBytes-stateOf}
+use Rattle.states.proofs.Refusals.{passes-count}
 use Rattle.machine.specs.Machine.{afterPeriods}
-use Rattle.machine.specs.Refusals.{countTest}
 use Rattle.machine.specs.Premises.{Ready}
-use Rattle.machine.proofs.States.{stateBytes-stateOf}
 use Rattle.machine.proofs.Machine.{after-snoc, periods-afterPeriods}
 use Rattle.machine.proofs.Steps.{ready-long, later-read, later-ready}
-use Rattle.machine.proofs.Refusals.{passes-count}
 use Rattle.runner.specs.Refusals.{readyTest, stepTest, runTest}
 use Rattle.runner.specs.Calls.{stepReplyBytes, answer, After, step, run}
 use Rattle.runner.specs.StepCalls.{StepCall, accepted, stateAfterCall, stateAfter, acceptedCount, callsOf, EndsAsSteps, RefusedAt}

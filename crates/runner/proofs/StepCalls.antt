@@ -16,17 +16,18 @@ use Rattle.records.specs.Refusals.{numberOf}
 use Rattle.records.proofs.Numbers.{lt-or-le}
 use Rattle.records.proofs.Refusals.{true-or-false, first-passed, passed-first, require-passed, state-refused, number-passed}
 use Rattle.periods.specs.Periods.{periodAt}
-use Rattle.machine.specs.Limits.{headBytes}
-use Rattle.machine.specs.Images.{rowCount, imageOf}
-use Rattle.machine.specs.States.{stateOf, stateBytes}
+use Rattle.layout.specs.Images.{rowCount, imageOf}
+use Rattle.layout.specs.Refusals.{imageTest}
+use Rattle.states.specs.Limits.{headBytes}
+use Rattle.states.specs.States.{stateOf, stateBytes}
+use Rattle.states.specs.Refusals.{stateLengthTest, stateTest}
+use Rattle.states.proofs.Refusals.{state-passed}
+use Rattle.states.proofs.States.{sound-passes}
+use Rattle.states.proofs.Fresh.{freshState, fresh-bytes, fresh-sound}
 use Rattle.machine.specs.Machine.{afterPeriod, afterPeriods}
-use Rattle.machine.specs.Refusals.{imageTest, stateLengthTest, stateTest}
 use Rattle.machine.specs.Premises.{Ready}
-use Rattle.machine.proofs.Refusals.{state-passed}
-use Rattle.machine.proofs.States.{sound-passes}
 use Rattle.machine.proofs.Machine.{SameDecision, stays-decided, periods-after}
 use Rattle.machine.proofs.Steps.{later-ready, step-read}
-use Rattle.machine.proofs.Fresh.{freshState, fresh-bytes, fresh-sound}
 use Rattle.runner.specs.Refusals.{beginTest, readyTest, stepTest}
 use Rattle.runner.specs.Calls.{beginReply, beginReplyBytes, stepReplyBytes, answer, After, written, begin, step}
 use Rattle.runner.specs.StepCalls.{StepCall, accepted, stateAfterCall, stateAfter, acceptedCount}

@@ -14,9 +14,10 @@ use Rattle.records.specs.declared.Test.the-variants.{Passed}
 use Rattle.records.specs.Refusals.{numberOf, placeOf}
 use Rattle.periods.specs.Periods.{periodAt}
 use Rattle.periods.specs.Traces.{recordCount, periodsOf}
-use Rattle.machine.specs.Images.{imageOf}
-use Rattle.machine.specs.States.{State, stateOf, stateBytes}
-use Rattle.machine.specs.Machine.{afterPeriod, afterPeriods, verdict}
+use Rattle.layout.specs.Images.{imageOf}
+use Rattle.states.specs.States.{State, stateOf, stateBytes}
+use Rattle.states.specs.Verdicts.{verdict}
+use Rattle.machine.specs.Machine.{afterPeriod, afterPeriods}
 use Rattle.runner.specs.Refusals.{beginTest, stepTest, runTest}
 
 -- ---- replies

@@ -4,9 +4,10 @@ use mathlib.Core.List.{List}
 use Rattle.records.specs.declared.Test.{Test}
 use Rattle.records.specs.Refusals.{firstOf}
 use Rattle.periods.specs.Traces.{recordTest, traceTest, recordCount}
-use Rattle.machine.specs.Images.{rowCount}
-use Rattle.machine.specs.States.{stateOf}
-use Rattle.machine.specs.Refusals.{stateTest, countTest, stateLengthTest, imageTest}
+use Rattle.layout.specs.Images.{rowCount}
+use Rattle.layout.specs.Refusals.{imageTest}
+use Rattle.states.specs.States.{stateOf}
+use Rattle.states.specs.Refusals.{stateTest, countTest, stateLengthTest}
 
 unfoldable pub beginTest : List ℕ → List ℕ → Test
 beginTest image state = firstOf (imageTest image) (stateLengthTest (rowCount image) state)

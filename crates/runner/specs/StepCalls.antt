@@ -10,7 +10,7 @@ use lib.Seq.{sets}
 use Rattle.records.specs.declared.Test.{Test}
 use Rattle.records.specs.Refusals.{numberOf}
 use Rattle.periods.specs.Traces.{recordCount, recordAt}
-use Rattle.machine.specs.States.{stateOf}
+use Rattle.states.specs.States.{stateOf}
 use Rattle.runner.specs.Refusals.{stepTest}
 use Rattle.runner.specs.Calls.{answer, stepReplyBytes, step, run}
 

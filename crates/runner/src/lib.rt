@@ -3,8 +3,8 @@ ghost use mathlib.Core.Path.{_≡_};
 ghost use Prim.Native.Nat.{_≤_};
 ghost use lib.ListN.{length, replicate};
 ghost use lib.Seq.{sets};
-ghost use Rattle.machine.specs.States.{stateOf};
-ghost use Rattle.machine.specs.Premises.{Answering};
+ghost use Rattle.states.specs.States.{stateOf};
+ghost use Rattle.states.specs.Premises.{Answering};
 ghost use Rattle.runner.specs.Refusals.{beginTest, readyTest, stepTest, runTest};
 ghost use Rattle.runner.specs.Calls.{beginReply, stepReply, answer, beginReplyBytes, stepReplyBytes, Gives, begin, step, run};
 use records::Test;
@@ -21,11 +21,11 @@ const STEP_REPLY_BYTES: usize = 24;
 fn begin_test(image: &[u8], state: &[u8]) -> Test
     ensures { λ r. ⌜ r ≡ beginTest (now (image .entry)) (now (state .entry)) ⌝ }
 {
-    let t = machine::image_test(image);
+    let t = layout::image_test(image);
     let Test::Passed = t else {
         return t;
     };
-    if state.len() != machine::HEAD_BYTES + machine::row_count(image) {
+    if state.len() != states::HEAD_BYTES + layout::row_count(image) {
         return Test::BadState;
     }
     Test::Passed
@@ -35,11 +35,11 @@ fn begin_test(image: &[u8], state: &[u8]) -> Test
 fn ready_test(image: &[u8], state: &[u8]) -> Test
     ensures { λ r. ⌜ r ≡ readyTest (now (image .entry)) (now (state .entry)) ⌝ }
 {
-    let t = machine::image_test(image);
+    let t = layout::image_test(image);
     let Test::Passed = t else {
         return t;
     };
-    machine::state_test(machine::row_count(image), state)
+    states::state_test(layout::row_count(image), state)
 }
 
 // Step: then the record, then the count.
@@ -54,7 +54,7 @@ fn step_test(image: &[u8], state: &[u8], period: &[u8]) -> Test
     let Test::Passed = u else {
         return u;
     };
-    machine::count_test(state, 1)
+    states::count_test(state, 1)
 }
 
 // Run: then the trace, then the count.
@@ -69,7 +69,7 @@ fn run_test(image: &[u8], state: &[u8], trace: &[u8]) -> Test
     let Test::Passed = u else {
         return u;
     };
-    machine::count_test(state, periods::record_count(trace))
+    states::count_test(state, periods::record_count(trace))
 }
 
 // ---- replies
@@ -104,7 +104,7 @@ fn put_answer(reply: &mut [u8], state: &[u8])
     put_step_reply(
         reply,
         Test::Passed,
-        machine::verdict(state),
+        states::verdict(state),
         records::wide(state[1]),
         records::get4(state, 6),
     );

@@ -13,9 +13,9 @@ use Rattle.reader.specs.Limits.{recordBytes}
 use Rattle.reader.specs.Table.{kindOf}
 use Rattle.reader.proofs.Codes.{operandCount-most}
 use Rattle.reader.proofs.operands.Reads as operands-reads
+use Rattle.emitter.specs.Plans.{wiresOf, Emitted}
 use Rattle.emitter.proofs.emit.Reads as emit
 use Rattle.emitter.proofs.emit.Kinds as emit-kinds
-use Rattle.emitter.specs.Plans.{wiresOf, Emitted}
 use Rattle.emitter.proofs.Emitting.{Reads, Written, some-record, few-inside, wires-small, right-emits, left-emits, record-rows, written-no, written-one, written-two, emitted}
 use Rattle.emitter.proofs.+emit.Lts-emit as emit-lts
 use Rattle.emitter.proofs.no_block.Reads as no-block-reads

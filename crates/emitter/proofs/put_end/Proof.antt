@@ -11,8 +11,8 @@ use borrow.Author.Needs.{needs}
 use Rattle.records.specs.Fields.{bytes}
 use Rattle.records.proofs.Fields.{length-bytes}
 use Rattle.records.proofs.Written.{sets-append}
-use Rattle.machine.specs.Limits.{rowBytes}
-use Rattle.machine.specs.Images.{endRecord}
+use Rattle.layout.specs.Limits.{rowBytes}
+use Rattle.layout.specs.Images.{endRecord}
 use Rattle.emitter.proofs.put_end.Statement.{statement}
 use Rattle.emitter.proofs.put_end.Tie as tie
 

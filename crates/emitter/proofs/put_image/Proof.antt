@@ -4,8 +4,8 @@ use borrow.Author.Needs.{needs}
 use native.Mathlib.Omega.{arith}
 use mathlib.Core.Path.{_≡_}
 use Rattle.image.specs.Widths.{firstRow, laterRow, fixedRows}
-use Rattle.emitter.proofs.emit.Reads as emit-reads
 use Rattle.emitter.specs.Plans.{Emitted}
+use Rattle.emitter.proofs.emit.Reads as emit-reads
 use Rattle.emitter.proofs.Whole.{begun, begun-rows, emits, end-room, image-is, count-is}
 use Rattle.emitter.proofs.put_image.Statement.{statement}
 use Rattle.emitter.proofs.put_image.Tie as tie

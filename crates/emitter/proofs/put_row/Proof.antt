@@ -10,8 +10,8 @@ use borrow.Author.Needs.{needs}
 use Rattle.records.specs.Fields.{bytes}
 use Rattle.records.proofs.Fields.{length-bytes}
 use Rattle.records.proofs.Written.{sets-append}
-use Rattle.machine.specs.Limits.{rowBytes}
-use Rattle.machine.specs.Rows.{rowRecord}
+use Rattle.layout.specs.Limits.{rowBytes}
+use Rattle.layout.specs.Rows.{rowRecord}
 use Rattle.emitter.proofs.put_row.Statement.{statement}
 use Rattle.emitter.proofs.put_row.Tie as tie
 

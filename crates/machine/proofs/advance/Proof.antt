@@ -7,7 +7,7 @@ use lib.ListN.{length}
 use lib.Seq.{length-sets}
 use Rattle.records.specs.Fields.{AllBytes, field}
 use Rattle.periods.specs.Periods.{periodOf}
-use Rattle.machine.specs.States.{stateOf}
+use Rattle.states.specs.States.{stateOf}
 use Rattle.machine.proofs.Steps.{row-values, raised-outcome, period-counted, period-computed, working-long, working-room}
 use Rattle.machine.proofs.advance.Statement.{statement}
 use Rattle.machine.proofs.advance.Tie as tie

@@ -8,11 +8,11 @@ use borrow.Author.Needs.{needs}
 use lib.Bits.{and-le-r}
 use lib.ListN.{length, getD, length-set}
 use Rattle.periods.specs.Periods.{periodOf}
-use Rattle.machine.specs.Rows.{never}
-use Rattle.machine.specs.Images.{rowCount, imageOf}
+use Rattle.layout.specs.Rows.{never}
+use Rattle.layout.specs.Images.{rowCount, imageOf}
+use Rattle.layout.proofs.Images.{passed-good, good-row}
 use Rattle.machine.specs.Machine.{value}
 use Rattle.machine.specs.Computing.{valuesIn, oldIn, newBits}
-use Rattle.machine.proofs.Images.{passed-good, good-row}
 use Rattle.machine.proofs.Machine.{byteOf-le}
 use Rattle.machine.proofs.Computing.{fresh-of, soFar, soFar-none, soFar-old, soFar-small, soFar-next, soFar-all}
 use Rattle.machine.proofs.compute.Statement.{statement}

@@ -11,12 +11,12 @@ use Rattle.periods.specs.Limits.{periodBytes}
 use Rattle.periods.specs.Periods.{periodAt}
 use Rattle.periods.specs.Traces.{periodsOf}
 use Rattle.periods.proofs.Traces.{length-periodsOf}
-use Rattle.machine.specs.Limits.{headBytes}
-use Rattle.machine.specs.Images.{rowCount, imageOf}
-use Rattle.machine.specs.States.{stateOf, stateBytes, allAtMost}
+use Rattle.layout.specs.Images.{rowCount, imageOf}
+use Rattle.states.specs.Limits.{headBytes}
+use Rattle.states.specs.States.{stateOf, stateBytes, allAtMost}
+use Rattle.states.proofs.States.{stateBytes-stateOf}
 use Rattle.machine.specs.Machine.{afterPeriods}
 use Rattle.machine.specs.Computing.{settled}
-use Rattle.machine.proofs.States.{stateBytes-stateOf}
 use Rattle.machine.proofs.Machine.{after-snoc}
 use Rattle.machine.proofs.Settling.{settled-plain, plain-small}
 use Rattle.machine.proofs.Steps.{ready-long, later-read, later-ready}

@@ -1,7 +1,7 @@
 -- `runner::put_answer` meets its contract: verdict, blame and decision period are those that are read of the state.
 -- Assumes nothing.
 use borrow.Author.Needs.{needs}
-use Rattle.machine.specs.States.{stateOf}
+use Rattle.states.specs.States.{stateOf}
 use Rattle.runner.specs.Calls.{answer}
 use Rattle.runner.proofs.put_answer.Statement.{statement}
 use Rattle.runner.proofs.put_answer.Tie as tie

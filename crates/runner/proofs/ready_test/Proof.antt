@@ -5,11 +5,11 @@ use native.Mathlib.Omega.{arith}
 use mathlib.Core.Path.{_≡_, sym, _∙_}
 use Rattle.records.specs.declared.Test.the-variants.{Passed}
 use Rattle.records.proofs.Refusals.{refused-first}
-use Rattle.machine.specs.Refusals.{imageTest}
-use Rattle.machine.proofs.Images.{passed-good}
-use Rattle.machine.proofs.image_test.Reads as image-test-reads
-use Rattle.machine.proofs.row_count.Reads as row-count-reads
-use Rattle.machine.proofs.state_test.Reads as state-test-reads
+use Rattle.layout.specs.Refusals.{imageTest}
+use Rattle.layout.proofs.Images.{passed-good}
+use Rattle.layout.proofs.image_test.Reads as image-test-reads
+use Rattle.layout.proofs.row_count.Reads as row-count-reads
+use Rattle.states.proofs.state_test.Reads as state-test-reads
 use Rattle.runner.specs.Refusals.{readyTest}
 use Rattle.runner.proofs.ready_test.Statement.{statement}
 use Rattle.runner.proofs.ready_test.Tie as tie

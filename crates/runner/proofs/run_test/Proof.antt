@@ -6,7 +6,7 @@ use Rattle.records.specs.declared.Test.the-variants.{Passed}
 use Rattle.records.proofs.Refusals.{refused-first}
 use Rattle.periods.proofs.trace_test.Reads as trace-test-reads
 use Rattle.periods.proofs.record_count.Reads as record-count-reads
-use Rattle.machine.proofs.count_test.Reads as count-test-reads
+use Rattle.states.proofs.count_test.Reads as count-test-reads
 use Rattle.runner.specs.Refusals.{readyTest, runTest}
 use Rattle.runner.proofs.Refusals.{ready-head}
 use Rattle.runner.proofs.run_test.Statement.{statement}

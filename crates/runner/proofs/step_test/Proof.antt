@@ -5,7 +5,7 @@ use mathlib.Core.Path.{_≡_, sym, _∙_}
 use Rattle.records.specs.declared.Test.the-variants.{Passed}
 use Rattle.records.proofs.Refusals.{refused-first}
 use Rattle.periods.proofs.record_test.Reads as record-test-reads
-use Rattle.machine.proofs.count_test.Reads as count-test-reads
+use Rattle.states.proofs.count_test.Reads as count-test-reads
 use Rattle.runner.specs.Refusals.{readyTest, stepTest}
 use Rattle.runner.proofs.Refusals.{ready-head}
 use Rattle.runner.proofs.step_test.Statement.{statement}

@@ -1,0 +1,3 @@
+-- The laws of rows and images.
+pub mod Rows
+pub mod Images

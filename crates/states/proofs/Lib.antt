@@ -1,0 +1,4 @@
+-- The laws of states.
+pub mod States
+pub mod Refusals
+pub mod Fresh
