@@ -51,12 +51,16 @@ cd hosts
 cargo fmt --check
 echo "ok the Rust hosts are formatted"
 cargo test --release --workspace --quiet
-echo "ok tests of the Rust wrapper, the reference and the comparison"
+echo "ok tests of the Rust wrapper, the reference, the comparisons and the benchmark"
 cargo run --release --quiet -p monitor --example plugin >"$built/plugin.out"
 diff -u rust/examples/plugin.expected "$built/plugin.out"
 echo "ok plugin"
 cargo run --release --quiet -p compare -- --seed 1 --cases 200000 --watch "$watch" --watch-cases 2000 --small 6
 echo "ok comparison with the reference"
+
+# The comparison with an earlier archive, linked beside: here the same one.
+MONITOR_BEFORE=../../target cargo run --release --quiet -p before -- --seed 1 --cases 1000
+echo "ok the archive agrees with itself"
 
 # The benchmark is run for what it compares, not for its times.
 cargo run --release --quiet -p bench -- --check --watch "$watch"
