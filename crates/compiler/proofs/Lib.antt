@@ -1,3 +1,4 @@
--- The laws of compile.
+-- Why the code writes the image of a contract; the laws of compile.
+pub mod Whole
 pub mod Calls
 pub mod Examples

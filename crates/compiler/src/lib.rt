@@ -1,10 +1,43 @@
-// Compile: reads a contract and writes the image that monitors it. Document 01, "Calls".
+// Compile: reads a contract and writes the image that monitors it. Document 01, "Image and row machine" and "Calls".
 ghost use mathlib.Core.Path.{_≡_};
 ghost use Prim.Native.Nat.{_≤_};
 ghost use lib.ListN.{length};
 ghost use lib.Seq.{sets};
+ghost use Rattle.layout.specs.Images.{rowCount};
+ghost use Rattle.image.specs.Images.{imageFor};
+ghost use Rattle.emitter.specs.Plans.{Writes};
 ghost use Rattle.compiler.specs.Calls.{compileReply, compileReplyBytes, Compiles};
+use layout::FIRST;
+use layout::NEVER;
+use layout::NOT;
 use reader::Answer;
+
+// ---- the image
+
+// The rows that every image has first: never true, true in period 1 only, and true in all the others.
+const NEVER_ROW: u32 = 0;
+
+const FIRST_ROW: u32 = 1;
+
+const LATER_ROW: u32 = 2;
+
+const FIXED_ROWS: u32 = 3;
+
+// Writes the image of a contract of n records, and gives its row count.
+fn put_image(contract: &[u8], n: usize, image: &mut [u8]) -> u32
+    requires { ⌜ Writes (now contract) n (now image) ⌝ }
+    ensures written { λ _. ⌜ now (image .exit) ≡ sets (now (image .entry)) 0 (imageFor (now (contract .entry))) ⌝ }
+    ensures count { λ r. ⌜ r ≡ rowCount (imageFor (now (contract .entry))) ⌝ }
+{
+    layout::put_row(image, NEVER_ROW, NEVER, 0, 0);
+    layout::put_row(image, FIRST_ROW, FIRST, 0, 0);
+    layout::put_row(image, LATER_ROW, NOT, FIRST_ROW, 0);
+    let whole = emitter::emit(contract, n, image, FIXED_ROWS, FIRST_ROW, LATER_ROW);
+    layout::put_end(image, whole.next, whole.first, whole.second, whole.third);
+    whole.next
+}
+
+// ---- the call
 
 // Compile's reply: number (4 bytes), rows (4), place (8).
 const COMPILE_REPLY_BYTES: usize = 16;
@@ -44,7 +77,7 @@ pub extern "C" fn monitor_compile(contract: &[u8], image: &mut [u8], reply: &mut
         put_reply(reply, SHORT_BUFFER, 0, 0);
         return 1;
     }
-    let rows = emitter::put_image(contract, n, image);
+    let rows = put_image(contract, n, image);
     put_reply(reply, 0, rows, 0);
     1
 }

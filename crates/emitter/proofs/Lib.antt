@@ -1,5 +1,4 @@
--- Why the code writes the image of a contract.
+-- Why the code writes the rows of a tree.
 pub mod Writing
 pub mod Plans
 pub mod Emitting
-pub mod Whole

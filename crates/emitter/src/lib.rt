@@ -1,4 +1,4 @@
-// Writes the rows of a contract's image, and its end record. Document 01, "Image and row machine".
+// Writes the rows of a contract's clause. Document 01, "Image and row machine".
 ghost use mathlib.Core.Path.{_≡_};
 ghost use mathlib.Core.Bool.{cond};
 ghost use mathlib.Core.List.{map};
@@ -6,30 +6,16 @@ ghost use mathlib.Core.Option.{some};
 ghost use Prim.Native.Nat.{_+_, _*_, _<_, _≤_};
 ghost use lib.Dec.{eqb};
 ghost use lib.ListN.{length, getD};
-ghost use lib.Seq.{sets};
-ghost use Rattle.layout.specs.Limits.{rowBytes, maxRows};
-ghost use Rattle.layout.specs.Rows.{rowRecord};
-ghost use Rattle.layout.specs.Images.{rowCount, endRecord};
+ghost use Rattle.layout.specs.Limits.{maxRows};
 ghost use Rattle.reader.specs.Table.{Kind, kindOf};
-ghost use Rattle.image.specs.Images.{imageFor};
-ghost use Rattle.emitter.specs.Plans.{leafRows, nodeRows, rowTable, unpacked, named, planOf, basesOf, valueAt, tableRows, writtenRows, wiresOf, noBlock, Small, RoomFrom, RoomForRows, RecordRows, recordBlock, recordWritten, Emits, Emitted, Writes};
+ghost use Rattle.emitter.specs.Plans.{leafRows, nodeRows, rowTable, unpacked, named, planOf, basesOf, valueAt, tableRows, writtenRows, wiresOf, noBlock, Small, RoomFrom, RoomForRows, RecordRows, recordBlock, recordWritten, Emits, Emitted};
+use layout::AND;
+use layout::NOT;
+use layout::OR;
+use layout::PREVIOUS;
+use layout::TRIES;
 
 // ---- the rows of each kind
-
-// The kinds of rows.
-const NEVER: u8 = 0;
-
-const FIRST: u8 = 1;
-
-const TRIES: u8 = 2;
-
-const NOT: u8 = 3;
-
-const AND: u8 = 4;
-
-const OR: u8 = 5;
-
-const PREVIOUS: u8 = 6;
 
 // What the fields of a record's own rows name: a base, and so many on from it. Bases are sixteen apart.
 // The row that is never true, or a field that is not used; one and two on from it, the parties' numbers.
@@ -375,20 +361,6 @@ fn value_at(bases: &[u32; 16], x: u8) -> u32
     bases[(x / 16) as usize] + (x % 16) as u32
 }
 
-// Writes a row.
-fn put_row(image: &mut [u8], at: u32, kind: u8, x: u32, y: u32)
-    requires { ⌜ rowBytes * at + rowBytes ≤ length (now image) ⌝ }
-    ensures { λ _. ⌜ now (image .exit) ≡ sets (now (image .entry)) (rowBytes * at) (rowRecord kind x y) ⌝ }
-{
-    let i = layout::ROW_BYTES * at as usize;
-    image[i] = records::ROW_MARK[0];
-    image[i + 1] = records::ROW_MARK[1];
-    image[i + 2] = kind;
-    image[i + 3] = 0;
-    records::put2(image, i + 4, x);
-    records::put2(image, i + 6, y);
-}
-
 // Writes `count` rows of a table, from its row `from` on.
 fn put_from(image: &mut [u8], at: u32, bases: &[u32; 16], table: &[u32], from: u8, count: u8)
     requires { ⌜ RoomFrom (now image) at (now bases) (length (now table)) from count ⌝ }
@@ -397,7 +369,7 @@ fn put_from(image: &mut [u8], at: u32, bases: &[u32; 16], table: &[u32], from: u
     let mut j = 0;
     while j < count {
         let row = table_row(table, from + j);
-        put_row(
+        layout::put_row(
             image,
             at + j as u32,
             row.kind,
@@ -512,7 +484,7 @@ fn wires_of(plan: Plan, at: u32, s: u32, k: u32) -> Wires
 
 // Writes the rows of the tree that the last of the first n records completes, from row `at` on. Backwards its records are the operator, the
 // right operand's and the left operand's, so no operand is searched for; each record's own rows are written when those of its operands are.
-fn emit(contract: &[u8], n: usize, image: &mut [u8], at: u32, s: u32, k: u32) -> Block
+pub fn emit(contract: &[u8], n: usize, image: &mut [u8], at: u32, s: u32, k: u32) -> Block
     requires { ⌜ Emits (now contract) n (now image) at s k ⌝ }
     ensures { λ r. ⌜ Emitted (now (contract .entry)) n (now (image .entry)) at s k (now (image .exit)) r ⌝ }
 {
@@ -536,42 +508,4 @@ fn emit(contract: &[u8], n: usize, image: &mut [u8], at: u32, s: u32, k: u32) ->
     }
     let left = emit(contract, right.before, image, right.next, s, told.keep);
     put_record(image, plan, kind, party, action, at, s, k, left, right)
-}
-
-// ---- the image
-
-// The rows that every image has first: never true, true in period 1 only, and true in all the others.
-const NEVER_ROW: u32 = 0;
-
-const FIRST_ROW: u32 = 1;
-
-const LATER_ROW: u32 = 2;
-
-const FIXED_ROWS: u32 = 3;
-
-// Writes the end record after `rows` rows.
-fn put_end(image: &mut [u8], rows: u32, sat: u32, one: u32, two: u32)
-    requires { ⌜ rowBytes * rows + rowBytes ≤ length (now image) ⌝ }
-    ensures { λ _. ⌜ now (image .exit) ≡ sets (now (image .entry)) (rowBytes * rows) (endRecord sat one two) ⌝ }
-{
-    let i = layout::ROW_BYTES * rows as usize;
-    image[i] = records::END_MARK[0];
-    image[i + 1] = records::END_MARK[1];
-    records::put2(image, i + 2, sat);
-    records::put2(image, i + 4, one);
-    records::put2(image, i + 6, two);
-}
-
-// Writes the image of a contract of n records, and gives its row count.
-pub fn put_image(contract: &[u8], n: usize, image: &mut [u8]) -> u32
-    requires { ⌜ Writes (now contract) n (now image) ⌝ }
-    ensures written { λ _. ⌜ now (image .exit) ≡ sets (now (image .entry)) 0 (imageFor (now (contract .entry))) ⌝ }
-    ensures count { λ r. ⌜ r ≡ rowCount (imageFor (now (contract .entry))) ⌝ }
-{
-    put_row(image, NEVER_ROW, NEVER, 0, 0);
-    put_row(image, FIRST_ROW, FIRST, 0, 0);
-    put_row(image, LATER_ROW, NOT, FIRST_ROW, 0);
-    let whole = emit(contract, n, image, FIXED_ROWS, FIRST_ROW, LATER_ROW);
-    put_end(image, whole.next, whole.first, whole.second, whole.third);
-    whole.next
 }

@@ -2,10 +2,11 @@
 ghost use mathlib.Core.Path.{_≡_};
 ghost use Prim.Native.Nat.{_+_, _*_, _≤_};
 ghost use lib.ListN.{length};
+ghost use lib.Seq.{sets};
 ghost use Rattle.records.specs.Refusals.{firstFailing};
 ghost use Rattle.layout.specs.Limits.{rowBytes};
-ghost use Rattle.layout.specs.Rows.{rowOf, goodRow};
-ghost use Rattle.layout.specs.Images.{rowCount, goodRowAt, goodEnd};
+ghost use Rattle.layout.specs.Rows.{rowOf, goodRow, rowRecord};
+ghost use Rattle.layout.specs.Images.{rowCount, goodRowAt, goodEnd, endRecord};
 ghost use Rattle.layout.specs.Refusals.{imageTest};
 use records::Test;
 
@@ -14,6 +15,23 @@ pub const MAX_ROWS: usize = 2112;
 
 // The bytes of a row, and of an end record.
 pub const ROW_BYTES: usize = 8;
+
+// The kinds of rows.
+pub const NEVER: u8 = 0;
+
+pub const FIRST: u8 = 1;
+
+pub const TRIES: u8 = 2;
+
+pub const NOT: u8 = 3;
+
+pub const AND: u8 = 4;
+
+pub const OR: u8 = 5;
+
+pub const PREVIOUS: u8 = 6;
+
+// ---- refusal 9
 
 // How many rows stand before the end record.
 pub fn row_count(image: &[u8]) -> usize
@@ -104,4 +122,33 @@ pub fn image_test(image: &[u8]) -> Test
         return Test::BadImage(n);
     }
     Test::Passed
+}
+
+// ---- what is written
+
+// Writes a row.
+pub fn put_row(image: &mut [u8], at: u32, kind: u8, x: u32, y: u32)
+    requires { ⌜ rowBytes * at + rowBytes ≤ length (now image) ⌝ }
+    ensures { λ _. ⌜ now (image .exit) ≡ sets (now (image .entry)) (rowBytes * at) (rowRecord kind x y) ⌝ }
+{
+    let i = ROW_BYTES * at as usize;
+    image[i] = records::ROW_MARK[0];
+    image[i + 1] = records::ROW_MARK[1];
+    image[i + 2] = kind;
+    image[i + 3] = 0;
+    records::put2(image, i + 4, x);
+    records::put2(image, i + 6, y);
+}
+
+// Writes the end record after `rows` rows.
+pub fn put_end(image: &mut [u8], rows: u32, sat: u32, one: u32, two: u32)
+    requires { ⌜ rowBytes * rows + rowBytes ≤ length (now image) ⌝ }
+    ensures { λ _. ⌜ now (image .exit) ≡ sets (now (image .entry)) (rowBytes * rows) (endRecord sat one two) ⌝ }
+{
+    let i = ROW_BYTES * rows as usize;
+    image[i] = records::END_MARK[0];
+    image[i + 1] = records::END_MARK[1];
+    records::put2(image, i + 2, sat);
+    records::put2(image, i + 4, one);
+    records::put2(image, i + 6, two);
 }

@@ -8,7 +8,7 @@ use Rattle.reader.specs.Reader.{answer}
 use Rattle.reader.proofs.number.Reads as number-reads
 use Rattle.reader.proofs.place.Reads as place-reads
 use Rattle.reader.proofs.read.Reads as read-reads
-use Rattle.emitter.proofs.put_image.Reads as put-image-reads
+use Rattle.compiler.proofs.put_image.Reads as put-image-reads
 use Rattle.compiler.proofs.Calls.{no-room, turned-away, short, served, few-records, may-write}
 use Rattle.compiler.proofs.monitor_compile.Statement.{statement}
 use Rattle.compiler.proofs.monitor_compile.Tie as tie

@@ -1,4 +1,4 @@
--- `emitter::put_end` meets its contract: the end record's mark and fields are written one after the other.
+-- `layout::put_end` meets its contract: the end record's mark and fields are written one after the other.
 -- Assumes nothing.
 use Prim.Native.Nat.{ℕ, suc, _+_, _*_}
 use native.Mathlib.Nat.{add-assoc}
@@ -11,10 +11,10 @@ use borrow.Author.Needs.{needs}
 use Rattle.records.specs.Fields.{bytes}
 use Rattle.records.proofs.Fields.{length-bytes}
 use Rattle.records.proofs.Written.{sets-append}
 use Rattle.layout.specs.Limits.{rowBytes}
 use Rattle.layout.specs.Images.{endRecord}
-use Rattle.emitter.proofs.put_end.Statement.{statement}
-use Rattle.emitter.proofs.put_end.Tie as tie
+use Rattle.layout.proofs.put_end.Statement.{statement}
+use Rattle.layout.proofs.put_end.Tie as tie
 
 end-written : (l : List ℕ) (i sat one two : ℕ)
     → sets l i (endRecord sat one two)

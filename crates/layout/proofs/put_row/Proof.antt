@@ -1,4 +1,4 @@
--- `emitter::put_row` meets its contract: the row's mark, kind and fields are written one after the other.
+-- `layout::put_row` meets its contract: the row's mark, kind and fields are written one after the other.
 -- Assumes nothing.
 use Prim.Native.Nat.{ℕ, suc, _+_, _*_}
 use native.Mathlib.Omega.{arith}
@@ -10,10 +10,10 @@ use borrow.Author.Needs.{needs}
 use Rattle.records.specs.Fields.{bytes}
 use Rattle.records.proofs.Fields.{length-bytes}
 use Rattle.records.proofs.Written.{sets-append}
 use Rattle.layout.specs.Limits.{rowBytes}
 use Rattle.layout.specs.Rows.{rowRecord}
-use Rattle.emitter.proofs.put_row.Statement.{statement}
-use Rattle.emitter.proofs.put_row.Tie as tie
+use Rattle.layout.proofs.put_row.Statement.{statement}
+use Rattle.layout.proofs.put_row.Tie as tie
 
 row-written : (l : List ℕ) (i kind x y : ℕ)
     → sets l i (rowRecord kind x y)

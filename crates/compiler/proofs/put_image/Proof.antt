@@ -1,18 +1,18 @@
--- `emitter::put_image` meets its contract: the fixed rows, the contract's rows and the end record, one behind the other.
+-- `compiler::put_image` meets its contract: the fixed rows, the contract's rows and the end record, one behind the other.
 -- Assumes nothing.
 use borrow.Author.Needs.{needs}
 use native.Mathlib.Omega.{arith}
 use mathlib.Core.Path.{_≡_}
 use Rattle.image.specs.Widths.{firstRow, laterRow, fixedRows}
 use Rattle.emitter.specs.Plans.{Emitted}
 use Rattle.emitter.proofs.emit.Reads as emit-reads
-use Rattle.emitter.proofs.Whole.{begun, begun-rows, emits, end-room, image-is, count-is}
-use Rattle.emitter.proofs.put_image.Statement.{statement}
-use Rattle.emitter.proofs.put_image.Tie as tie
-use Rattle.emitter.proofs.put_image.Reads as reads
-use Rattle.emitter.proofs.put_image.Lts as lts
-use Rattle.emitter.proofs.put_end.Reads as put-end-reads
-use Rattle.emitter.proofs.put_row.Reads as put-row-reads
+use Rattle.compiler.proofs.Whole.{begun, begun-rows, emits, end-room, image-is, count-is}
+use Rattle.compiler.proofs.put_image.Statement.{statement}
+use Rattle.compiler.proofs.put_image.Tie as tie
+use Rattle.compiler.proofs.put_image.Reads as reads
+use Rattle.compiler.proofs.put_image.Lts as lts
+use Rattle.layout.proofs.put_end.Reads as put-end-reads
+use Rattle.layout.proofs.put_row.Reads as put-row-reads
 
 put-row-requires : tie.Need-put-row-requires
 put-row-requires c κs = search needs
