@@ -1,5 +1,4 @@
 -- The image of a contract in the image buffer: the fixed rows, the clause's rows behind them and the end record are the image's bytes.
--- Assumes nothing.
 use Prim.Native.Nat.{ℕ, _+_, _*_, _≤_}
 use native.Mathlib.Nat.{zero-add}
 use native.Mathlib.Omega.{arith}

@@ -1,16 +1,15 @@
 // Compile: reads a contract and writes the image that monitors it. Document 01, "Image and row machine" and "Calls".
 ghost use mathlib.Core.Path.{_≡_};
-ghost use Prim.Native.Nat.{_≤_};
-ghost use lib.ListN.{length};
 ghost use lib.Seq.{sets};
 ghost use Rattle.layout.specs.Images.{rowCount};
 ghost use Rattle.image.specs.Images.{imageFor};
 ghost use Rattle.emitter.specs.Plans.{Writes};
-ghost use Rattle.compiler.specs.Calls.{compileReply, compileReplyBytes, Compiles};
+ghost use Rattle.compiler.specs.Calls.{compileTest, Compiles};
 use layout::FIRST;
 use layout::NEVER;
 use layout::NOT;
-use reader::Answer;
+use records::Fault;
+use records::Test;
 
 // ---- the image
 
@@ -40,23 +39,26 @@ fn put_image(contract: &[u8], n: usize, image: &mut [u8]) -> u32
 // ---- the call
 
 // Compile's reply: number (4 bytes), rows (4), place (8).
-const COMPILE_REPLY_BYTES: usize = 16;
+pub const COMPILE_REPLY_BYTES: usize = records::REPLY_HEAD;
 
-// The refusal of an image buffer that is too short: it must have room for so many rows for each record, and so many more with the end record.
-const SHORT_BUFFER: u32 = 8;
-
+// An image buffer must have room for so many rows for each record, and so many more with the end record.
 const RECORD_ROWS: usize = 32;
 
 const MORE_ROWS: usize = 65;
 
-// Writes compile's reply.
-fn put_reply(reply: &mut [u8], number: u32, rows: u32, place: u64)
-    requires { ⌜ compileReplyBytes ≤ length (now reply) ⌝ }
-    ensures { λ _. ⌜ now (reply .exit) ≡ sets (now (reply .entry)) 0 (compileReply number rows place) ⌝ }
+// 1 to 7 as the contract is read, then 8.
+fn compile_test(contract: &[u8], image: &[u8]) -> Test
+    ensures { λ r. ⌜ r ≡ compileTest (now (contract .entry)) (now (image .entry)) ⌝ }
 {
-    records::put4(reply, 0, number);
-    records::put4(reply, 4, rows);
-    records::put8(reply, 8, place);
+    let t = reader::read(contract);
+    let Test::Passed = t else {
+        return t;
+    };
+    let n = reader::contract_records(contract);
+    if image.len() < layout::ROW_BYTES * (RECORD_ROWS * n + MORE_ROWS) {
+        return Test::Refused(Fault::ShortBuffer, 0);
+    }
+    Test::Passed
 }
 
 // Reads a contract and writes its image into the buffer's first bytes. The result is 1, or 0 where the reply area is too short.
@@ -68,16 +70,12 @@ pub extern "C" fn monitor_compile(contract: &[u8], image: &mut [u8], reply: &mut
     if reply.len() < COMPILE_REPLY_BYTES {
         return 0;
     }
-    let answer = reader::read(contract);
-    let Answer::Taken(n) = answer else {
-        put_reply(reply, reader::number(answer), 0, reader::place(answer));
+    let t = compile_test(contract, image);
+    let Test::Passed = t else {
+        records::put_head(reply, t, 0);
         return 1;
     };
-    if image.len() < layout::ROW_BYTES * (RECORD_ROWS * n + MORE_ROWS) {
-        put_reply(reply, SHORT_BUFFER, 0, 0);
-        return 1;
-    }
-    let rows = put_image(contract, n, image);
-    put_reply(reply, 0, rows, 0);
+    let rows = put_image(contract, reader::contract_records(contract), image);
+    records::put_head(reply, t, rows);
     1
 }

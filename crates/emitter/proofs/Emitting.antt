@@ -1,6 +1,5 @@
 -- What the recursive writer needs and leaves, record by record: the last record's bytes are those of the tree's own, the records before it
 -- end with its operands, and its own rows round theirs are the tree's rows.
--- Assumes nothing.
 use Prim.Native.Nat.{ℕ, zero, suc, _+_, _*_, _-_, _^_, _≤_, _<_}
 use native.Mathlib.Omega.{arith}
 use mathlib.Core.Bool.{Bool, true, false, cond}

@@ -1,6 +1,5 @@
 -- The program's tables and plans give the rows of image/specs/Blocks.antt: a node's rows are its own rows round those of its operands, and its block is
 -- what its plan says.
--- Assumes nothing.
 use Prim.Native.Nat.{ℕ, _+_, _≤_, _<_}
 use mathlib.Core.Bool.{Bool, true, false, _||_, cond}
 use mathlib.Core.List.{List, [], _∷_, _++_, map, map-append, append-assoc}

@@ -1,5 +1,4 @@
 -- What a run of rows leaves in an image buffer: runs one behind the other are one, in whichever order they were written.
--- Assumes nothing.
 use Prim.Native.Nat.{ℕ, suc, _+_, _-_, _*_, _≤_, _<_}
 use native.Mathlib.Omega.{arith}
 use mathlib.Core.List.{List, [], _∷_, _++_, map, append-assoc, map-append}

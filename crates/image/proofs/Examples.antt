@@ -3,8 +3,9 @@ use mathlib.Core.Path.{refl}
 use Rattle.records.specs.Fields.{bytes, field, value}
 use Rattle.records.specs.Marks.{marked}
 use Rattle.records.specs.Refusals.{firstFailing}
-use Rattle.periods.specs.Periods.{tries, bit, periodAt}
-use Rattle.periods.specs.Traces.{recordCount, marksTest, recordTest}
+use Rattle.periods.specs.Forms.{formOf}
+use Rattle.periods.specs.Periods.{tries, bit, periodFrom}
+use Rattle.periods.specs.Traces.{wholeRecords, markedAs, periodAt, marksTest, recordTest}
 use Rattle.layout.specs.Rows.{rowOf, encode, decode}
 use Rattle.layout.specs.Images.{imageBytes, rowsBytes, endBytes, rowCount, rowsOf, imageOf, goodLength, goodRowAt, goodEnd}
 use Rattle.layout.specs.Refusals.{imageTest}
@@ -12,7 +13,8 @@ use Rattle.states.specs.States.{stateOf, stateBytes, sound, allAtMost, allZero}
 use Rattle.states.specs.Refusals.{stateTest, countTest}
 use Rattle.machine.specs.Machine.{afterPeriod, computed, counted, valuesAfter, newValues}
 use Rattle.runner.specs.Refusals.{beginTest, readyTest, stepTest}
-use Rattle.runner.specs.Calls.{stepReply, answer, call, begin, step}
+use Rattle.records.specs.Replies.{fieldsBytes, call}
+use Rattle.runner.specs.Calls.{begin, step}
 use Rattle.contract.specs.Expressions.{holdsEmpty}
 use Rattle.reader.specs.Table.{numbered, kindOf}
 use Rattle.reader.specs.Trees.{node}
@@ -46,8 +48,8 @@ kind-vectors =
 
 pub watch-vector : WatchVector
 unfolding
-    replies repliesFrom read Reader.goodLength Reader.recordCount readRecords readRecord numbered kindOf fieldsOf operandsOf node imageFor image
-    rowsFor clauseRows outputsOf afterClause imageBytes rowsBytes endBytes encode begin step call beginTest stepTest readyTest stepReply answer
+    replies repliesFrom read Reader.goodLength Reader.contractRecords readRecords readRecord numbered kindOf fieldsOf operandsOf node imageFor image
+    rowsFor clauseRows outputsOf afterClause imageBytes rowsBytes endBytes encode begin step call beginTest stepTest readyTest fieldsBytes
     imageTest goodLength rowCount firstFailing goodRowAt goodEnd decode rowOf imageOf rowsOf stateTest stateOf stateBytes sound allAtMost allZero
-    recordTest marksTest recordCount countTest afterPeriod valuesAfter newValues computed counted periodAt tries bit marked bytes field value
+    recordTest marksTest formOf wholeRecords markedAs countTest afterPeriod valuesAfter newValues computed counted periodAt periodFrom tries bit marked bytes field value
 watch-vector = record { replied = refl }

@@ -2,19 +2,22 @@
 use Prim.Native.Nat.{ℕ, _+_, _-_, _≤_, _<_}
 use native.Mathlib.Nat.{zero-add}
 use native.Mathlib.Omega.{arith}
-use mathlib.Core.Bool.{true, false, cond}
+use mathlib.Core.Bool.{true, false}
 use mathlib.Core.List.{List, [], _∷_, _++_}
-use mathlib.Core.Logic.{_⊎_, inl, inr}
-use mathlib.Core.Path.{_≡_, refl, sym, _∙_}
-use borrow.Author.Tests.{eq-eqb, le-leb, lt-ltb, le-ltb, ltb-true, eqb-false}
+use mathlib.Core.Logic.{_⊎_, inl, inr, ⊎-elim}
+use mathlib.Core.Path.{_≡_, refl, sym, ap, _∙_}
+use borrow.Author.Tests.{eq-eqb, le-leb, lt-leb, lt-ltb, le-ltb, ltb-true, eqb-false}
 use lib.Dec.{ltb}
 use lib.ListN.{length, replicate, length-append}
-use Rattle.records.specs.declared.Test.the-variants.{Passed, FullCount}
+use Rattle.records.specs.declared.Fault.the-variants.{FullCount}
+use Rattle.records.specs.declared.Test.the-variants.{Passed}
 use Rattle.records.specs.Refusals.{numberOf, require}
 use Rattle.records.proofs.Numbers.{lt-or-le}
-use Rattle.records.proofs.Refusals.{true-or-false, first-passed, require-passed, count-refused}
-use Rattle.periods.specs.Periods.{Period, periodAt}
-use Rattle.periods.specs.Traces.{recordTest}
+use Rattle.records.proofs.Refusals.{true-or-false, first-passed, require-passed}
+use Rattle.records.specs.Replies.{unwritten, written}
+use Rattle.records.proofs.Replies.{call-no-room, call-refused}
+use Rattle.periods.specs.Periods.{Period}
+use Rattle.periods.specs.Traces.{periodAt, recordTest}
 use Rattle.layout.specs.Images.{rowCount, imageOf}
 use Rattle.states.specs.Limits.{headBytes, maxPeriods}
 use Rattle.states.specs.States.{State, stateOf, stateBytes}
@@ -24,10 +27,9 @@ use Rattle.states.specs.Verdicts as Shown
 use Rattle.machine.specs.Machine.{afterPeriod, afterPeriods}
 use Rattle.machine.proofs.Machine.{after-snoc, periods-afterPeriods}
 use Rattle.runner.specs.Refusals.{beginTest, readyTest, stepTest}
-use Rattle.runner.specs.Calls.{beginReplyBytes, stepReplyBytes, answer, refusal, unwritten, written, begin, step}
+use Rattle.runner.specs.Calls.{beginReplyBytes, stepReplyBytes, answer, refusal, begin, step}
 use Rattle.runner.specs.StepCalls as StepCalls
 use Rattle.runner.specs.StepCalls.{StepCall, stateAfterCall, stateAfter}
-use Rattle.runner.proofs.Calls.{call-no-room, call-refused}
 use Rattle.runner.proofs.StepCalls.{accepted-passed, accepted-step, refused-step, taken-read, stays-sound, begin-written, begin-sound}
 use Rattle.contract.specs.Meaning.{Clause, Decision, undecided, satisfied, violated, meaning}
 use Rattle.contract.specs.Verdicts.{verdict}
@@ -44,18 +46,18 @@ verdict-shown (satisfied k) s h = rw (h .outcome-is, h .decision-is)
 verdict-shown (violated k b) s h = rw (h .outcome-is, h .decision-is)
 
 answer-meant : (c : Clause) (w : List Period) (s : State) → Shows (meaning c w) s → s .periods ≡ length w → answer s ≡ meantReply c w
-unfolding answer meantReply
+unfolding meantReply
 answer-meant c w s h e = rw (verdict-shown (meaning c w) s h, h .blame-is, h .decision-is, e)
 
 -- ---- the tests of a step on a state of n periods
 
-count-test : (s : State) (n : ℕ) → s .periods ≡ n → n ≤ maxPeriods → countTest s 1 ≡ require (ltb n maxPeriods) (FullCount 0)
+count-test : (s : State) (n : ℕ) → s .periods ≡ n → n ≤ maxPeriods → countTest s 1 ≡ require (ltb n maxPeriods) FullCount 0
 unfolding countTest
-count-test s n e h = go (lt-or-le n maxPeriods)
-  where
-    go : (n < maxPeriods) ⊎ (maxPeriods ≤ n) → cond (ltb maxPeriods (s .periods + 1)) (FullCount (maxPeriods - s .periods)) Passed ≡ require (ltb n maxPeriods) (FullCount 0)
-    go (inl l) = rw (e, lt-ltb n maxPeriods l, le-ltb maxPeriods (n + 1) (omega arith))
-    go (inr l) = let i : maxPeriods - n ≡ 0 = omega arith in rw (e, le-ltb n maxPeriods l, lt-ltb maxPeriods (n + 1) (omega arith), i)
+count-test s n e h =
+    ⊎-elim
+    (λ (l : n < maxPeriods). rw (e, lt-ltb n maxPeriods l, le-leb (n + 1) maxPeriods (omega arith)))
+    (λ (l : maxPeriods ≤ n). let i : maxPeriods - n ≡ 0 = omega arith in rw (e, le-ltb n maxPeriods l, lt-leb (n + 1) maxPeriods (omega arith), i))
+    (lt-or-le n maxPeriods)
 
 -- ---- step calls on the states that the machine reaches
 
@@ -99,12 +101,12 @@ module _ (c : Clause) (image : List ℕ) (right : RightFor c image) where
     unfolding callTest
     room-to-count e =
         let t = sym test-at ∙ accepted-passed image state k (accepts-at ∙ e) in
-        let b = first-passed (recordTest (k .period)) (require (ltb (length w) maxPeriods) (FullCount 0)) t in
-        ltb-true (length w) maxPeriods (require-passed (ltb (length w) maxPeriods) (FullCount 0) (count-refused 0) (b .1))
+        let b = first-passed (recordTest (k .period)) (require (ltb (length w) maxPeriods) FullCount 0) t in
+        ltb-true (length w) maxPeriods (require-passed (ltb (length w) maxPeriods) FullCount 0 (b .1))
 
     no-room-at : length (k .reply) < stepReplyBytes → step image state (k .period) (k .reply) ≡ unwritten state (k .reply)
     unfolding step
-    no-room-at l = call-no-room stepReplyBytes (stepTest image state (k .period)) _ _ _ state (k .reply) l
+    no-room-at l = call-no-room (stepTest image state (k .period)) _ _ state _ (k .reply) l
 
     refused-at : stepReplyBytes ≤ length (k .reply) → accepts (length w) k ≡ false
         → step image state (k .period) (k .reply) ≡ written state (k .reply) (refusal (callTest (length w) (k .period)))
@@ -112,7 +114,7 @@ module _ (c : Clause) (image : List ℕ) (right : RightFor c image) where
     refused-at l e =
         let t = callTest (length w) (k .period) in
         let some-number = eqb-false (numberOf t) 0 (rw (le-leb stepReplyBytes (length (k .reply)) l) at e) in
-        call-refused stepReplyBytes (stepTest image state (k .period)) _ _ _ state (k .reply) l (rw test-at some-number) ∙ rw test-at
+        call-refused (stepTest image state (k .period)) _ _ state _ (k .reply) l (λ p. some-number (ap numberOf (sym test-at ∙ p))) ∙ rw test-at
 
     accepted-at : accepts (length w) k ≡ true
         → step image state (k .period) (k .reply) ≡ written (stateBytes (reached next)) (k .reply) (meantReply c next)
@@ -150,7 +152,7 @@ module _ (c : Clause) (image : List ℕ) (right : RightFor c image) where
   begins state l = rw (right .good, eq-eqb (length state) (headBytes + rowCount image) l)
 
   begun-at : (state reply : List ℕ) → length state ≡ headBytes + rowCount image → beginReplyBytes ≤ length reply
-      → At [] (begin image state reply .state)
+      → At [] (begin image state reply .lent)
   unfolding afterPeriods
   begun-at state reply l r =
       let b = begin-written image state reply r (begins state l) in
@@ -162,7 +164,7 @@ module _ (c : Clause) (image : List ℕ) (right : RightFor c image) where
         clause = c;
         means = e;
         answers = λ state reply l r.
-            (begin-written image state reply r (begins state l), λ ks. answers-calls ks [] (begin image state reply .state) (begun-at state reply l r));
+            (begin-written image state reply r (begins state l), λ ks. answers-calls ks [] (begin image state reply .lent) (begun-at state reply l r));
       }
 
 -- ---- the theorem

@@ -14,7 +14,7 @@ use Rattle.states.specs.States.{State, stateOf}
 use Rattle.machine.specs.Machine.{afterPeriods}
 use Rattle.contract.specs.Meaning.{Clause, Decision, undecided, satisfied, violated, meaning}
 use Rattle.contract.specs.Verdicts.{decisionPeriod, blame}
-use Rattle.reader.specs.Reader.{Result, refused, taken, read, recordCount}
+use Rattle.reader.specs.Reader.{Result, refused, taken, read, contractRecords}
 use Rattle.image.specs.Widths.{clauseSize, firstRow, laterRow, fixedRows, mostRows, allowedRows}
 use Rattle.image.specs.Blocks.{outputsOf, clauseRows}
 
@@ -59,5 +59,5 @@ pub record RightFor (clause : Clause) (image : List ℕ) : Type 0 where
 -- most 14 × records + 3, and so within the 32 × records + 64 that refusal 8 makes room for
 pub record SizedFor (contract : List ℕ) (clause : Clause) (image : List ℕ) : Type 0 where
   pub rows-are : rowCount image ≡ clauseSize clause + fixedRows
-  pub rows-most : rowCount image ≤ mostRows (recordCount contract)
-  pub rows-allowed : rowCount image ≤ allowedRows (recordCount contract)
+  pub rows-most : rowCount image ≤ mostRows (contractRecords contract)
+  pub rows-allowed : rowCount image ≤ allowedRows (contractRecords contract)

@@ -10,14 +10,16 @@ use lib.ListN.{length, replicate}
 use lib.Seq.{sets}
 use Rattle.records.specs.Verdicts.{verdictNumber}
 use Rattle.records.specs.declared.Test.{Test}
-use Rattle.records.specs.declared.Test.the-variants.{Passed, FullCount}
+use Rattle.records.specs.declared.Fault.the-variants.{FullCount}
+use Rattle.records.specs.declared.Test.the-variants.{Passed}
 use Rattle.records.specs.Refusals.{numberOf, firstOf, require}
-use Rattle.periods.specs.Periods.{Period, periodAt}
-use Rattle.periods.specs.Traces.{recordTest}
+use Rattle.records.specs.Replies.{Field, fieldsBytes, unwritten, written}
+use Rattle.periods.specs.Periods.{Period}
+use Rattle.periods.specs.Traces.{periodAt, recordTest}
 use Rattle.layout.specs.Images.{rowCount}
 use Rattle.states.specs.Limits.{headBytes, maxPeriods}
 use Rattle.states.specs.States.{stateOf}
-use Rattle.runner.specs.Calls.{beginReply, beginReplyBytes, stepReply, stepReplyBytes, refusal, unwritten, written, begin, step}
+use Rattle.runner.specs.Calls.{beginReply, beginReplyBytes, stepReply, stepReplyBytes, refusal, begin, step}
 use Rattle.runner.specs.StepCalls.{StepCall, stateAfterCall}
 use Rattle.contract.specs.Meaning.{Clause, meaning}
 use Rattle.contract.specs.Verdicts.{decisionPeriod, blame, verdict}
@@ -26,7 +28,7 @@ use Rattle.reader.specs.Reader.{taken, read}
 -- "refused exactly when its own record meets 11 or, that record being good, 4,294,967,295 steps before it were accepted (12)", n being the
 -- number of those accepted before it
 unfoldable pub callTest : (n : ℕ) (period : List ℕ) → Test
-callTest n period = firstOf (recordTest period) (require (ltb n maxPeriods) (FullCount 0))
+callTest n period = firstOf (recordTest period) (require (ltb n maxPeriods) FullCount 0)
 
 -- a call is accepted where it has room for its reply and is not refused; "one without room counts as refused"
 unfoldable pub accepts : (n : ℕ) → StepCall → Bool
@@ -37,7 +39,7 @@ unfoldable pub periodsAfter : List Period → StepCall → List Period
 periodsAfter w c = cond (accepts (length w) c) (w ++ (periodAt (c .period) 0 ∷ [])) w
 
 -- number 0, place 0 and exactly the verdict, blame and decision period of the clause's meaning on these periods
-unfoldable pub meantReply : Clause → List Period → List ℕ
+unfoldable pub meantReply : Clause → List Period → List Field
 meantReply clause w =
     let d = meaning clause w in
     stepReply Passed (verdictNumber (verdict d (length w))) (blame d) (decisionPeriod d)
@@ -52,7 +54,7 @@ pub record AnswersCall (clause : Clause) (image state : List ℕ) (w : List Peri
   -- accepted, it replies what the clause means on the periods so far, its own included
   pub accepted : accepts (length w) c ≡ true
       → (step image state (c .period) (c .reply) .result ≡ 1)
-      × (step image state (c .period) (c .reply) .reply ≡ sets (c .reply) 0 (meantReply clause (periodsAfter w c)))
+      × (step image state (c .period) (c .reply) .reply ≡ sets (c .reply) 0 (fieldsBytes (meantReply clause (periodsAfter w c))))
 
 -- Every call of a list is answered so, where the first finds this state after the periods w, and each later one what the last one left; and
 -- all along periods taken is the number of the periods so far.
@@ -70,4 +72,4 @@ pub record Monitors (contract image : List ℕ) : Type 0 where
   pub means : read contract ≡ taken clause
   pub answers : (state reply : List ℕ) → length state ≡ headBytes + rowCount image → beginReplyBytes ≤ length reply
       → (begin image state reply ≡ written (replicate (length state) 0) reply (beginReply Passed))
-      × ((calls : List StepCall) → AnswersCalls clause image (begin image state reply .state) [] calls)
+      × ((calls : List StepCall) → AnswersCalls clause image (begin image state reply .lent) [] calls)

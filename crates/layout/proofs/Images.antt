@@ -1,5 +1,4 @@
 -- Images and their bytes. Document 01, "Image and row machine", and refusal 9.
--- Assumes nothing.
 use Prim.Native.Nat.{ℕ, zero, suc, _+_, _*_, _%_, _≤_, _<_}
 use native.Mathlib.Nat.{add-zero}
 use native.Mathlib.Numerals.{add-one}
@@ -15,15 +14,16 @@ use lib.Seq.{getD-at, length-take-le, drop-at, drop-drop, getD-drop, ext-getD}
 use borrow.Author.Tests.{eq-eqb, ne-eqb, le-leb, lt-leb, lt-ltb, eqb-true, leb-true, ltb-true}
 use Rattle.records.specs.Fields.{AllBytes, bytes, field}
 use Rattle.records.specs.Marks.{endMark, marked}
-use Rattle.records.specs.declared.Test.the-variants.{Passed, BadImage}
-use Rattle.records.specs.Refusals.{require, firstFailing}
+use Rattle.records.specs.declared.Fault.the-variants.{BadImage}
+use Rattle.records.specs.declared.Test.the-variants.{Passed}
+use Rattle.records.specs.Refusals.{require, firstOf, firstFailing, onlyFor}
 use Rattle.records.proofs.Numbers.{lt-or-le}
 use Rattle.records.proofs.Fields.{allBytes-nil, allBytes-cons, allBytes-append, allBytes-bytes, value-bytes-lt}
-use Rattle.records.proofs.Refusals.{all-pass, all-passed, first-passed, require-passed, image-refused}
+use Rattle.records.proofs.Refusals.{all-pass, all-passed, first-passed, require-passed, only-require, only-first}
 use Rattle.layout.specs.Limits.{rowBytes, maxRows}
 use Rattle.layout.specs.Rows.{Row, never, Fits, encode, decode, namesRows, goodRow}
 use Rattle.layout.specs.Images.{Image, rowsBytes, endBytes, imageBytes, rowCount, rowsOf, imageOf, goodLength, goodRowAt, goodEnd}
-use Rattle.layout.specs.Refusals.{imageTest}
+use Rattle.layout.specs.Refusals.{imageTest, imageFaults}
 use Rattle.layout.proofs.Rows.{length-encode, allBytes-encode, decode-encode}
 
 -- ---- the length
@@ -84,16 +84,16 @@ unfolding imageTest
 passed-good l e =
     let n = rowCount l in
     let bad = firstFailing (goodRowAt l n) 0 n in
-    let u = first-passed (require (goodLength l) (BadImage 0)) _ e in
-    let v = first-passed (require (eqb bad n) (BadImage bad)) _ (u .1) in
-    let f = rowCount-facts l (require-passed (goodLength l) (BadImage 0) (image-refused 0) (u .0)) in
-    let b = eqb-true bad n (require-passed (eqb bad n) (BadImage bad) (image-refused bad) (v .0)) in
+    let u = first-passed (require (goodLength l) BadImage 0) _ e in
+    let v = first-passed (require (eqb bad n) BadImage bad) _ (u .1) in
+    let f = rowCount-facts l (require-passed (goodLength l) BadImage 0 (u .0)) in
+    let b = eqb-true bad n (require-passed (eqb bad n) BadImage bad (v .0)) in
     record {
       count = f .0;
       least = f .1;
       most = f .2;
       each = all-passed (goodRowAt l n) n b;
-      ends = require-passed (goodEnd l n) (BadImage n) (image-refused n) (v .1);
+      ends = require-passed (goodEnd l n) BadImage n (v .1);
     }
 
 pub good-passed : (l : List ℕ) → GoodImage l → imageTest l ≡ Passed
@@ -287,3 +287,16 @@ module _ (m : Image) (w : Writable m) where
   pub imageOf-imageBytes : imageOf (imageBytes m) ≡ m
   unfolding imageOf
   imageOf-imageBytes = rw (rowCount-imageBytes, rowsOf-imageBytes, end-S, end-V1, end-V2)
+
+-- ---- refusal 9
+
+-- no other fault is given
+pub image-only : (l : List ℕ) → onlyFor imageFaults (imageTest l) ≡ true
+unfolding imageTest
+image-only l =
+    let n = rowCount l in
+    let bad = firstFailing (goodRowAt l n) 0 n in
+    let rows = require (eqb bad n) BadImage bad in
+    let end = require (goodEnd l n) BadImage n in
+    only-first imageFaults (require (goodLength l) BadImage 0) (firstOf rows end) (only-require imageFaults BadImage refl (goodLength l) 0)
+    (only-first imageFaults rows end (only-require imageFaults BadImage refl (eqb bad n) bad) (only-require imageFaults BadImage refl (goodEnd l n) n))

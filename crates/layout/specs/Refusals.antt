@@ -1,9 +1,10 @@
 -- Refusal 9 and its place. Document 01, "Replies that refuse".
 use Prim.Native.Nat.{ℕ}
-use mathlib.Core.List.{List}
+use mathlib.Core.List.{List, [], _∷_}
 use lib.Dec.{eqb}
+use Rattle.records.specs.declared.Fault.{Fault}
+use Rattle.records.specs.declared.Fault.the-variants.{BadImage}
 use Rattle.records.specs.declared.Test.{Test}
-use Rattle.records.specs.declared.Test.the-variants.{BadImage}
 use Rattle.records.specs.Refusals.{require, firstOf, firstFailing}
 use Rattle.layout.specs.Images.{rowCount, goodLength, goodRowAt, goodEnd}
 
@@ -12,6 +13,10 @@ unfoldable pub imageTest : List ℕ → Test
 imageTest image =
     let n = rowCount image in
     let bad = firstFailing (goodRowAt image n) 0 n in
-    firstOf (require (goodLength image) (BadImage 0))
-    (firstOf (require (eqb bad n) (BadImage bad))
-    (require (goodEnd image n) (BadImage n)))
+    firstOf (require (goodLength image) BadImage 0)
+    (firstOf (require (eqb bad n) BadImage bad)
+    (require (goodEnd image n) BadImage n))
+
+-- the faults that this test can give
+abbrev pub imageFaults : List Fault
+imageFaults = BadImage ∷ []

@@ -8,6 +8,7 @@ ghost use Rattle.layout.specs.Limits.{rowBytes};
 ghost use Rattle.layout.specs.Rows.{rowOf, goodRow, rowRecord};
 ghost use Rattle.layout.specs.Images.{rowCount, goodRowAt, goodEnd, endRecord};
 ghost use Rattle.layout.specs.Refusals.{imageTest};
+use records::Fault;
 use records::Test;
 
 // The most rows of an image.
@@ -61,7 +62,7 @@ fn good_row_at(image: &[u8], n: usize, k: usize) -> bool
     ensures { λ r. ⌜ r ≡ goodRowAt (now (image .entry)) n k ⌝ }
 {
     let at = ROW_BYTES * k;
-    if !records::row_marked(image, at) {
+    if !records::marked(image, at, records::ROW_MARK) {
         return false;
     }
     if image[at + 3] != 0 {
@@ -97,7 +98,7 @@ fn good_end(image: &[u8], n: usize) -> bool
     ensures { λ r. ⌜ r ≡ goodEnd (now (image .entry)) n ⌝ }
 {
     let at = ROW_BYTES * n;
-    if !records::end_marked(image, at) {
+    if !records::marked(image, at, records::END_MARK) {
         return false;
     }
     (records::get2(image, at + 2) as usize) < n
@@ -111,15 +112,15 @@ pub fn image_test(image: &[u8]) -> Test
 {
     let bytes = image.len();
     if bytes % ROW_BYTES != 0 || bytes < 2 * ROW_BYTES || ROW_BYTES * (MAX_ROWS + 1) < bytes {
-        return Test::BadImage(0);
+        return Test::Refused(Fault::BadImage, 0);
     }
     let n = row_count(image);
     let bad = first_bad_row(image, n);
     if bad != n {
-        return Test::BadImage(bad);
+        return Test::Refused(Fault::BadImage, bad);
     }
     if !good_end(image, n) {
-        return Test::BadImage(n);
+        return Test::Refused(Fault::BadImage, n);
     }
     Test::Passed
 }
@@ -132,8 +133,7 @@ pub fn put_row(image: &mut [u8], at: u32, kind: u8, x: u32, y: u32)
     ensures { λ _. ⌜ now (image .exit) ≡ sets (now (image .entry)) (rowBytes * at) (rowRecord kind x y) ⌝ }
 {
     let i = ROW_BYTES * at as usize;
-    image[i] = records::ROW_MARK[0];
-    image[i + 1] = records::ROW_MARK[1];
+    records::put_mark(image, i, records::ROW_MARK);
     image[i + 2] = kind;
     image[i + 3] = 0;
     records::put2(image, i + 4, x);
@@ -146,8 +146,7 @@ pub fn put_end(image: &mut [u8], rows: u32, sat: u32, one: u32, two: u32)
     ensures { λ _. ⌜ now (image .exit) ≡ sets (now (image .entry)) (rowBytes * rows) (endRecord sat one two) ⌝ }
 {
     let i = ROW_BYTES * rows as usize;
-    image[i] = records::END_MARK[0];
-    image[i + 1] = records::END_MARK[1];
+    records::put_mark(image, i, records::END_MARK);
     records::put2(image, i + 2, sat);
     records::put2(image, i + 4, one);
     records::put2(image, i + 6, two);

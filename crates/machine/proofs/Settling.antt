@@ -1,5 +1,4 @@
 -- A state whose rows' bytes hold two values each, and the state that it stands for.
--- Assumes nothing.
 use Prim.Native.Nat.{ℕ, suc, _+_, _-_, _%_, _≤_, _<_}
 use native.Mathlib.Nat.{mod-eq-of-lt, le-refl}
 use native.Mathlib.Omega.{arith}

@@ -1,5 +1,4 @@
 -- What the code of a period leaves in a sound state's bytes is what the row machine says.
--- Assumes nothing.
 use Prim.Native.Nat.{ℕ, _+_, _-_, _%_, _≤_}
 use native.Mathlib.Omega.{arith}
 use mathlib.Core.Bool.{Bool, true, false, _||_, cond, and-eq-true-iff}

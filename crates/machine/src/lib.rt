@@ -4,9 +4,8 @@ ghost use mathlib.Core.Bool.{true, false};
 ghost use mathlib.Core.Option.{Option·getD};
 ghost use Prim.Native.Nat.{_*_, _<_, _≤_};
 ghost use lib.ListN.{length, getD};
-ghost use Rattle.periods.specs.Limits.{periodBytes};
 ghost use Rattle.periods.specs.Periods.{periodOf};
-ghost use Rattle.periods.specs.Traces.{periodsOf};
+ghost use Rattle.periods.specs.Traces.{periodRecords, periodsOf};
 ghost use Rattle.layout.specs.Rows.{never, rowOf};
 ghost use Rattle.layout.specs.Images.{imageOf};
 ghost use Rattle.states.specs.Limits.{headBytes};
@@ -149,18 +148,14 @@ fn advance(image: &[u8], state: &mut [u8], a: Attempts)
     }
 }
 
-// The periods of a trace of n records.
+// The periods of a trace's first n records.
 pub fn take_periods(image: &[u8], state: &mut [u8], trace: &[u8], n: usize)
-    requires { ⌜ Ready (now image) (now state) n × (periodBytes * n ≤ length (now trace)) ⌝ }
+    requires { ⌜ Ready (now image) (now state) n × (n ≤ periodRecords (now trace)) ⌝ }
     ensures { λ _. ⌜ now (state .exit) ≡ stateBytes (afterPeriods (imageOf (now (image .entry))) (stateOf (now (state .entry))) (periodsOf (now (trace .entry)) n)) ⌝ }
 {
     let mut k = 0;
     while k < n {
-        advance(
-            image,
-            state,
-            periods::read_period(trace, periods::PERIOD_BYTES * k),
-        );
+        advance(image, state, periods::read_period(trace, k));
         k += 1;
     }
     settle(state);

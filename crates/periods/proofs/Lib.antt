@@ -1,3 +1,4 @@
--- The laws of masks and of traces.
+-- The laws of masks, forms and traces.
+pub mod Forms
 pub mod Periods
 pub mod Traces

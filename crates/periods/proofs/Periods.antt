@@ -1,5 +1,4 @@
 -- The bits of a mask. Document 01, "Records", the period record.
--- Assumes nothing.
 use Prim.Native.Nat.{ℕ, _/_, _^_}
 use native.Mathlib.Nat.{zero-div, div-self}
 use mathlib.Core.Path.{_≡_}

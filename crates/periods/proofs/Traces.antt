@@ -1,69 +1,122 @@
 -- The records of a trace and the periods that they hold. Document 01, "Records" and "Replies that refuse".
--- Assumes nothing.
-use Prim.Native.Nat.{ℕ, zero, suc, _+_, _-_, _%_, _≤_, _<_, _*_}
+use Prim.Native.Nat.{ℕ, zero, suc, _+_, _-_, _*_, _%_, _≤_, _<_}
+use native.Mathlib.Nat.{add-zero, add-assoc, mul-zero}
 use native.Mathlib.Numerals.{add-one}
 use native.Mathlib.Omega.{arith}
-use mathlib.Core.Bool.{true, false}
+use mathlib.Core.Bool.{Bool, true, false, Bool·beq}
 use mathlib.Core.List.{List}
 use mathlib.Core.Path.{_≡_, refl, ap, _∙_}
-use borrow.Author.Tests.{eqb-true}
+use borrow.Author.Tests.{eqb-true, eq-eqb}
 use lib.Dec.{eqb}
 use lib.ListN.{length, getD, drop, length-append, length-drop}
 use lib.Seq.{getD-drop, length-take-le, getD-take, drop-drop, take-take}
 use Rattle.records.specs.Fields.{field, value}
-use Rattle.records.specs.declared.Test.the-variants.{Passed, BadPeriod}
-use Rattle.records.specs.Refusals.{require, firstFailing}
 use Rattle.records.specs.Marks.{marked}
+use Rattle.records.specs.declared.Fault.the-variants.{BadPeriod}
+use Rattle.records.specs.declared.Test.the-variants.{Passed, Refused}
+use Rattle.records.specs.Refusals.{require, firstFailing, onlyFor}
 use Rattle.records.proofs.Written.{drop-take}
-use Rattle.records.proofs.Refusals.{all-passed, first-passed, require-passed, period-refused}
-use Rattle.periods.specs.Limits.{periodBytes}
-use Rattle.periods.specs.Periods.{periodAt}
-use Rattle.periods.specs.Traces.{recordCount, markedAt, marksTest, recordTest, traceTest, periodsOf, recordAt}
-use native.Mathlib.Nat.{add-zero}
+use Rattle.records.proofs.Refusals.{all-passed, first-passed, require-passed, only-require, only-first}
+use Rattle.periods.specs.declared.Form.{Form}
+use Rattle.periods.specs.Forms.{formMark, maskBytes, periodBytes, formOf}
+use Rattle.periods.specs.Periods.{periodFrom}
+use Rattle.periods.specs.Traces.{wholeRecords, markedAs, periodRecords, recordAt, periodAt, periodsOf, markedAt, marksAre, marksTest, recordTest, traceTest, periodFaults}
+use Rattle.periods.proofs.Forms.{record-inside, one-record}
 
 pub length-periodsOf : (trace : List ℕ) (n : ℕ) → length (periodsOf trace n) ≡ n
 unfolding periodsOf
 length-periodsOf trace zero = refl
 length-periodsOf trace (suc n) = rw (length-append, length-periodsOf trace n) (add-one n)
 
-pub trace-marks : (trace : List ℕ) → traceTest trace ≡ Passed → (i : ℕ) → i < recordCount trace → markedAt trace i ≡ true
+-- record k's mark compared with what is asked for
+pub marks-are : (m : Bool) (f : Form) (l : List ℕ) (k : ℕ) (t : Bool) → t ≡ markedAs f l k → Bool·beq t m ≡ marksAre m f l k
+marks-are true f l k true e = e
+marks-are true f l k false e = e
+marks-are false f l k true e = rw (← e)
+marks-are false f l k false e = rw (← e)
+
+-- ---- what the tests show
+
+pub marks-only : (trace : List ℕ) → onlyFor periodFaults (marksTest trace) ≡ true
+unfolding marksTest
+marks-only trace = only-require periodFaults BadPeriod refl (eqb (firstFailing (markedAt trace) 0 (periodRecords trace)) (periodRecords trace)) _
+
+-- no other fault is given
+pub record-only : (period : List ℕ) → onlyFor periodFaults (recordTest period) ≡ true
+unfolding recordTest
+record-only period = only-first periodFaults (require (eqb (length period) (periodBytes (formOf period))) BadPeriod 0) (marksTest period) (only-require periodFaults BadPeriod refl (eqb (length period) (periodBytes (formOf period))) 0) (marks-only period)
+
+pub trace-only : (trace : List ℕ) → onlyFor periodFaults (traceTest trace) ≡ true
+unfolding traceTest
+trace-only trace = only-first periodFaults (require (eqb (length trace % periodBytes (formOf trace)) 0) BadPeriod 0) (marksTest trace) (only-require periodFaults BadPeriod refl (eqb (length trace % periodBytes (formOf trace)) 0) 0) (marks-only trace)
+
+pub trace-marks : (trace : List ℕ) → traceTest trace ≡ Passed → (i : ℕ) → i < periodRecords trace → markedAt trace i ≡ true
 unfolding traceTest marksTest
 trace-marks trace e =
-    let n = recordCount trace in
+    let n = periodRecords trace in
     let bad = firstFailing (markedAt trace) 0 n in
-    let t = first-passed (require (eqb (length trace % periodBytes) 0) (BadPeriod 0)) (marksTest trace) e in
-    all-passed (markedAt trace) n (eqb-true bad n (require-passed (eqb bad n) (BadPeriod bad) (period-refused bad) (t .1)))
+    let t = first-passed (require (eqb (length trace % periodBytes (formOf trace)) 0) BadPeriod 0) (marksTest trace) e in
+    all-passed (markedAt trace) n (eqb-true bad n (require-passed (eqb bad n) BadPeriod bad (t .1)))
+
+-- a good record of a step is one record
+pub record-one : (period : List ℕ) → recordTest period ≡ Passed → periodRecords period ≡ 1
+unfolding recordTest
+record-one period e =
+    let n = periodBytes (formOf period) in
+    let t = first-passed (require (eqb (length period) n) BadPeriod 0) (marksTest period) e in
+    one-record (formOf period) period (eqb-true (length period) n (require-passed (eqb (length period) n) BadPeriod 0 (t .0)))
 
 -- ---- the records of a trace
 
-module _ (trace : List ℕ) (k : ℕ) (h : periodBytes * k + periodBytes ≤ length trace) where
-  pub length-recordAt : length (recordAt trace k) ≡ periodBytes
-  unfolding recordAt
-  length-recordAt = length-take-le periodBytes (drop (periodBytes * k) trace) (simp length-drop (omega arith))
+module _ (trace : List ℕ) (k : ℕ) (h : k < periodRecords trace) where
+  abbrev form : Form
+  form = formOf trace
 
-  byte-at : (j : ℕ) → j < periodBytes → getD (recordAt trace k) j 0 ≡ getD trace (periodBytes * k + j) 0
-  unfolding recordAt
-  byte-at j i = getD-take periodBytes (drop (periodBytes * k) trace) j 0 i ∙ getD-drop (periodBytes * k) trace j 0
+  abbrev start : ℕ
+  start = periodBytes form * k
 
-  field-at : (j w : ℕ) → j + w ≤ periodBytes → field (recordAt trace k) j w ≡ field trace (periodBytes * k + j) w
+  inside : start + periodBytes form ≤ length trace
+  inside = record-inside form trace k h
+
+  -- its form is the trace's
+  record-form : formOf (recordAt trace k) ≡ form
+  unfolding formOf
+  record-form = refl
+
+  pub length-recordAt : length (recordAt trace k) ≡ periodBytes form
+  unfolding recordAt
+  length-recordAt = let i = inside in length-take-le (periodBytes form) (drop start trace) (simp length-drop (omega arith))
+
+  byte-at : (j : ℕ) → j < periodBytes form → getD (recordAt trace k) j 0 ≡ getD trace (start + j) 0
+  unfolding recordAt
+  byte-at j i = getD-take (periodBytes form) (drop start trace) j 0 i ∙ getD-drop start trace j 0
+
+  field-at : (j w : ℕ) → j + w ≤ periodBytes form → field (recordAt trace k) j w ≡ field trace (start + j) w
   unfolding recordAt field
   field-at j w i =
-      ap value (rw (drop-take j periodBytes (drop (periodBytes * k) trace), drop-drop j (periodBytes * k) trace) (take-take w (periodBytes - j) (drop (periodBytes * k + j) trace) (omega arith)))
+      ap value (rw (drop-take j (periodBytes form) (drop start trace), drop-drop j start trace) (take-take w (periodBytes form - j) (drop (start + j) trace) (omega arith)))
 
-  pub record-period : periodAt (recordAt trace k) 0 ≡ periodAt trace (periodBytes * k)
+  record-from : periodFrom form (recordAt trace k) 0 ≡ periodFrom form trace start
+  unfolding periodFrom
+  record-from = rw (field-at 2 (maskBytes form) (omega arith), field-at (2 + maskBytes form) (maskBytes form) (omega arith), ← add-assoc start 2 (maskBytes form))
+
+  pub record-period : periodAt (recordAt trace k) 0 ≡ periodAt trace k
   unfolding periodAt
-  record-period = rw (field-at 2 2 (omega arith), field-at 4 2 (omega arith))
+  record-period = rw (record-form, mul-zero) record-from
 
   record-marked : markedAt (recordAt trace k) 0 ≡ markedAt trace k
-  unfolding marked
+  unfolding markedAs marked
   record-marked =
-      let first : getD (recordAt trace k) 0 0 ≡ getD trace (periodBytes * k) 0 = byte-at 0 (omega arith) ∙ rw add-zero in
-      rw (first, byte-at 1 (omega arith))
+      let first : getD (recordAt trace k) 0 0 ≡ getD trace start 0 = byte-at 0 (omega arith) ∙ rw add-zero in
+      rw (record-form, mul-zero, first, byte-at 1 (omega arith))
+
+  one : periodRecords (recordAt trace k) ≡ 1
+  one = one-record (formOf (recordAt trace k)) (recordAt trace k) (rw record-form length-recordAt)
 
   pub record-test : markedAt trace k ≡ true → recordTest (recordAt trace k) ≡ Passed
-  unfolding recordTest marksTest recordCount firstFailing
-  record-test m = rw (length-recordAt, record-marked ∙ m)
+  unfolding recordTest marksTest firstFailing
+  record-test m = rw (one, record-marked ∙ m, record-form, eq-eqb (length (recordAt trace k)) (periodBytes form) length-recordAt)
 
-  pub record-refused : markedAt trace k ≡ false → recordTest (recordAt trace k) ≡ BadPeriod 0
-  unfolding recordTest marksTest recordCount firstFailing
-  record-refused m = rw (length-recordAt, record-marked ∙ m)
+  pub record-refused : markedAt trace k ≡ false → recordTest (recordAt trace k) ≡ Refused BadPeriod 0
+  unfolding recordTest marksTest firstFailing
+  record-refused m = rw (one, record-marked ∙ m, record-form, eq-eqb (length (recordAt trace k)) (periodBytes form) length-recordAt)

@@ -1,46 +1,71 @@
 -- Traces of period records: how many there are, the periods that they hold, and refusal 11. Document 01, "Records", "Calls" and "Replies that
 -- refuse".
-use Prim.Native.Nat.{ℕ, zero, suc, _+_, _*_, _/_, _%_}
-use mathlib.Core.Bool.{Bool}
+use Prim.Native.Nat.{ℕ, zero, suc, _*_, _/_, _%_}
+use mathlib.Core.Bool.{Bool, true, false, not}
 use mathlib.Core.List.{List, [], _∷_, _++_}
 use lib.Dec.{eqb}
 use lib.ListN.{length, take, drop}
-use Rattle.records.specs.Marks.{periodMark, marked}
+use Rattle.records.specs.Marks.{marked}
+use Rattle.records.specs.declared.Fault.{Fault}
+use Rattle.records.specs.declared.Fault.the-variants.{BadPeriod}
 use Rattle.records.specs.declared.Test.{Test}
-use Rattle.records.specs.declared.Test.the-variants.{BadPeriod}
 use Rattle.records.specs.Refusals.{require, firstOf, firstFailing}
-use Rattle.periods.specs.Limits.{periodBytes}
-use Rattle.periods.specs.Periods.{Period, periodAt}
+use Rattle.periods.specs.declared.Form.{Form}
+use Rattle.periods.specs.Forms.{formMark, periodBytes, formOf}
+use Rattle.periods.specs.Periods.{Period, periodFrom}
 
--- how many period records a trace has
-unfoldable pub recordCount : List ℕ → ℕ
-recordCount trace = length trace / periodBytes
+-- how many whole records of a form the bytes have
+unfoldable pub wholeRecords : Form → List ℕ → ℕ
+wholeRecords f l = length l / periodBytes f
 
--- the bytes of a trace's record k
+-- record k of a form has that form's mark
+unfoldable pub markedAs : Form → List ℕ → ℕ → Bool
+markedAs f l k = marked l (periodBytes f * k) (formMark f)
+
+-- ---- a trace, whose records have the trace's form
+
+-- how many period records it has
+abbrev pub periodRecords : List ℕ → ℕ
+periodRecords trace = wholeRecords (formOf trace) trace
+
+-- the bytes of its record k
 unfoldable pub recordAt : List ℕ → ℕ → List ℕ
-recordAt trace k = take periodBytes (drop (periodBytes * k) trace)
+recordAt trace k = take (periodBytes (formOf trace)) (drop (periodBytes (formOf trace) * k) trace)
 
--- the periods of a trace's first n records
+-- the period that its record k holds
+unfoldable pub periodAt : List ℕ → ℕ → Period
+periodAt trace k = periodFrom (formOf trace) trace (periodBytes (formOf trace) * k)
+
+-- the periods of its first n records
 unfoldable pub periodsOf : List ℕ → ℕ → List Period
 periodsOf trace zero = []
-periodsOf trace (suc n) = periodsOf trace n ++ (periodAt trace (periodBytes * n) ∷ [])
+periodsOf trace (suc n) = periodsOf trace n ++ (periodAt trace n ∷ [])
+
+-- its record k has the mark
+abbrev pub markedAt : List ℕ → ℕ → Bool
+markedAt trace k = markedAs (formOf trace) trace k
 
 -- ---- refusal 11
 
--- record k of a trace has a period record's mark
-abbrev pub markedAt : List ℕ → ℕ → Bool
-markedAt trace k = marked trace (periodBytes * k) periodMark
+-- record k has the form's mark, or has it not
+abbrev pub marksAre : Bool → Form → List ℕ → ℕ → Bool
+marksAre true f l k = markedAs f l k
+marksAre false f l k = not (markedAs f l k)
 
 -- 11, marks: the first record with another mark
 unfoldable pub marksTest : List ℕ → Test
 marksTest trace =
-    let bad = firstFailing (markedAt trace) 0 (recordCount trace) in
-    require (eqb bad (recordCount trace)) (BadPeriod bad)
+    let bad = firstFailing (markedAt trace) 0 (periodRecords trace) in
+    require (eqb bad (periodRecords trace)) BadPeriod bad
 
 -- 11 in step: the length of one record, then the mark
 unfoldable pub recordTest : List ℕ → Test
-recordTest period = firstOf (require (eqb (length period) periodBytes) (BadPeriod 0)) (marksTest period)
+recordTest period = firstOf (require (eqb (length period) (periodBytes (formOf period))) BadPeriod 0) (marksTest period)
 
 -- 11 in run: a multiple of that length, then the marks
 unfoldable pub traceTest : List ℕ → Test
-traceTest trace = firstOf (require (eqb (length trace % periodBytes) 0) (BadPeriod 0)) (marksTest trace)
+traceTest trace = firstOf (require (eqb (length trace % periodBytes (formOf trace)) 0) BadPeriod 0) (marksTest trace)
+
+-- the faults that these tests can give
+abbrev pub periodFaults : List Fault
+periodFaults = BadPeriod ∷ []

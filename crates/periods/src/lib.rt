@@ -4,17 +4,17 @@ ghost use mathlib.Core.Path.{_≡_};
 ghost use Prim.Native.Nat.{_+_, _*_, _<_, _≤_};
 ghost use lib.Dec.{ltb};
 ghost use lib.ListN.{length};
+ghost use Rattle.records.specs.Marks.{marked};
 ghost use Rattle.records.specs.Refusals.{firstFailing};
-ghost use Rattle.periods.specs.Limits.{actions, periodBytes};
-ghost use Rattle.periods.specs.Periods.{Party, number, bit, tries, periodOf, HoldsPeriod};
-ghost use Rattle.periods.specs.Traces.{recordCount, markedAt, marksTest, recordTest, traceTest};
+ghost use Rattle.periods.specs.Limits.{actions};
+ghost use Rattle.periods.specs.Forms.{formMark, periodBytes, formOf};
+ghost use Rattle.periods.specs.Periods.{Party, number, bit, tries, periodOf, periodFrom, HoldsPeriod};
+ghost use Rattle.periods.specs.Traces.{wholeRecords, periodRecords, periodAt, markedAs, marksAre, marksTest, recordTest, traceTest};
+use records::Fault;
 use records::Test;
 
 // How many actions there are, numbered from 0.
 pub const ACTIONS: u32 = 16;
-
-// The bytes of a period record.
-pub const PERIOD_BYTES: usize = 6;
 
 // Both parties' attempts in a period: a mask each, whose bit a is set when the party tries action a.
 pub struct Attempts {
@@ -37,17 +37,6 @@ pub fn bit(mask: u32, action: u32) -> bool
     (mask >> action) & 1 == 1
 }
 
-// Both parties' attempts in the period record from byte `at` on.
-pub fn read_period(s: &[u8], at: usize) -> Attempts
-    requires { ⌜ at + periodBytes ≤ length (now s) ⌝ }
-    ensures { λ r. ⌜ HoldsPeriod (now (s .entry)) at r ⌝ }
-{
-    Attempts {
-        one: records::get2(s, at + 2),
-        two: records::get2(s, at + 4),
-    }
-}
-
 // Whether party `party` tries the action.
 pub fn tried(a: Attempts, party: u32, action: u32) -> bool
     requires { ⌜ action < actions ⌝ }
@@ -60,23 +49,88 @@ pub fn tried(a: Attempts, party: u32, action: u32) -> bool
     }
 }
 
-// ---- traces
+// ---- the form of a period record
 
-// How many period records a trace has.
-pub fn record_count(trace: &[u8]) -> usize
-    ensures { λ r. ⌜ r ≡ recordCount (now (trace .entry)) ⌝ }
-{
-    trace.len() / PERIOD_BYTES
+pub enum Form {
+    Short,
 }
 
-// The first of n records without a period record's mark, or n.
-fn first_unmarked(trace: &[u8], n: usize) -> usize
-    requires { ⌜ periodBytes * n ≤ length (now trace) ⌝ }
-    ensures { λ r. ⌜ r ≡ firstFailing (markedAt (now (trace .entry))) 0 n ⌝ }
+// The bytes of a record of the short form.
+pub const SHORT_BYTES: usize = 6;
+
+// The bytes of a record.
+pub fn period_bytes(form: Form) -> usize
+    ensures { λ r. ⌜ r ≡ periodBytes form ⌝ }
 {
+    match form {
+        Form::Short => SHORT_BYTES,
+    }
+}
+
+// Both parties' attempts in the record from byte `at` on.
+fn read_from(form: Form, s: &[u8], at: usize) -> Attempts
+    requires { ⌜ at + periodBytes form ≤ length (now s) ⌝ }
+    ensures { λ r. ⌜ HoldsPeriod (periodFrom form (now (s .entry)) at) r ⌝ }
+{
+    match form {
+        Form::Short => Attempts {
+            one: records::get2(s, at + 2),
+            two: records::get2(s, at + 4),
+        },
+    }
+}
+
+// Whether the record from byte `at` on has the mark.
+fn marked_from(form: Form, s: &[u8], at: usize) -> bool
+    requires { ⌜ at + periodBytes form ≤ length (now s) ⌝ }
+    ensures { λ r. ⌜ r ≡ marked (now (s .entry)) at (formMark form) ⌝ }
+{
+    match form {
+        Form::Short => records::marked(s, at, records::PERIOD_MARK),
+    }
+}
+
+// The form of a trace's records, or of a step's one record.
+pub fn form_of(trace: &[u8]) -> Form
+    ensures { λ r. ⌜ r ≡ formOf (now (trace .entry)) ⌝ }
+{
+    Form::Short
+}
+
+// ---- traces
+
+// How many whole records of a form the bytes have.
+pub fn whole_records(form: Form, s: &[u8]) -> usize
+    ensures { λ r. ⌜ r ≡ wholeRecords form (now (s .entry)) ⌝ }
+{
+    s.len() / period_bytes(form)
+}
+
+// How many period records a trace has.
+pub fn period_records(trace: &[u8]) -> usize
+    ensures { λ r. ⌜ r ≡ periodRecords (now (trace .entry)) ⌝ }
+{
+    whole_records(form_of(trace), trace)
+}
+
+// Both parties' attempts in record k of a trace.
+pub fn read_period(trace: &[u8], k: usize) -> Attempts
+    requires { ⌜ k < periodRecords (now trace) ⌝ }
+    ensures { λ r. ⌜ HoldsPeriod (periodAt (now (trace .entry)) k) r ⌝ }
+{
+    let form = form_of(trace);
+    read_from(form, trace, period_bytes(form) * k)
+}
+
+// The first of the first n records of a form that has not its mark, or, where `marked` is false, that has it; n where there is none.
+pub fn first_other(form: Form, s: &[u8], n: usize, marked: bool) -> usize
+    requires { ⌜ n ≤ wholeRecords form (now s) ⌝ }
+    ensures { λ r. ⌜ r ≡ firstFailing (marksAre marked form (now (s .entry))) 0 n ⌝ }
+{
+    let bytes = period_bytes(form);
     let mut k = 0;
     while k < n {
-        if !records::period_marked(trace, PERIOD_BYTES * k) {
+        if marked_from(form, s, bytes * k) != marked {
             return k;
         }
         k += 1;
@@ -88,10 +142,10 @@ fn first_unmarked(trace: &[u8], n: usize) -> usize
 fn marks_test(trace: &[u8]) -> Test
     ensures { λ r. ⌜ r ≡ marksTest (now (trace .entry)) ⌝ }
 {
-    let n = record_count(trace);
-    let bad = first_unmarked(trace, n);
+    let n = period_records(trace);
+    let bad = first_other(form_of(trace), trace, n, true);
     if bad != n {
-        return Test::BadPeriod(bad);
+        return Test::Refused(Fault::BadPeriod, bad);
     }
     Test::Passed
 }
@@ -100,8 +154,8 @@ fn marks_test(trace: &[u8]) -> Test
 pub fn record_test(period: &[u8]) -> Test
     ensures { λ r. ⌜ r ≡ recordTest (now (period .entry)) ⌝ }
 {
-    if period.len() != PERIOD_BYTES {
-        return Test::BadPeriod(0);
+    if period.len() != period_bytes(form_of(period)) {
+        return Test::Refused(Fault::BadPeriod, 0);
     }
     marks_test(period)
 }
@@ -110,8 +164,8 @@ pub fn record_test(period: &[u8]) -> Test
 pub fn trace_test(trace: &[u8]) -> Test
     ensures { λ r. ⌜ r ≡ traceTest (now (trace .entry)) ⌝ }
 {
-    if trace.len() % PERIOD_BYTES != 0 {
-        return Test::BadPeriod(0);
+    if trace.len() % period_bytes(form_of(trace)) != 0 {
+        return Test::Refused(Fault::BadPeriod, 0);
     }
     marks_test(trace)
 }

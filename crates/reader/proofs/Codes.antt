@@ -1,5 +1,4 @@
 -- What the reader's program computes on codes is the reading on trees: a record's step, and the test at the end.
--- Assumes nothing.
 use Prim.Native.Nat.{ℕ, _+_, _≤_}
 use native.Mathlib.Nat.{zero-add}
 use native.Mathlib.Numerals.{add-one}
@@ -16,15 +15,16 @@ use Rattle.records.specs.Marks.{contractMark, marked}
 use Rattle.periods.specs.Limits.{actions}
 use Rattle.periods.specs.Periods.{Party, party1, party2}
 use Rattle.contract.specs.Expressions.{holdsEmpty}
-use Rattle.reader.specs.declared.Fault.{Fault}
-use Rattle.reader.specs.declared.Fault.the-variants.{BadMark, UnknownKind, BadField, BadOperands, NotOneClause, EmptyList}
+use Rattle.records.specs.declared.Fault.{Fault}
+use Rattle.records.specs.Refusals.{require}
+use Rattle.records.specs.declared.Fault.the-variants.{ContractMark, UnknownKind, BadField, BadOperands, NotOneClause, EmptyList}
 use Rattle.reader.specs.declared.Lookup.the-variants.{Found}
 use Rattle.reader.specs.declared.Step.{Step}
 use Rattle.reader.specs.declared.Step.the-variants.{Bad, Completed}
-use Rattle.reader.specs.declared.Answer.the-variants.{Refused, Taken}
+use Rattle.records.specs.declared.Test.the-variants.{Passed, Refused}
 use Rattle.reader.specs.Table.{Sort, clause, expression, Kind, kindOf, line, duty, ban, power, both, then, repair, repeat, when, until, any, tries, idle, succeeds, fails, seq, or, star}
 use Rattle.reader.specs.Trees.{Trees, Used, Fields, node}
-use Rattle.reader.specs.Reader.{Result, refused, taken, require, demand, partyField, actionField, fieldsFrom, fieldsOf, Operand, operand, oneMore, below, operandsOf, holdsEmptyUnder, push, readRecord, justOne, answerOf}
+use Rattle.reader.specs.Reader.{Result, refused, taken, provided, demand, partyField, actionField, fieldsFrom, fieldsOf, Operand, operand, oneMore, below, operandsOf, holdsEmptyUnder, push, readRecord, justOne, testOf}
 use Rattle.reader.specs.Codes.{sortNumber, entryOf, lookupOf, operandCount, goodParty, goodAction, goodFields, expressionCode, codeOf, codeAt, sortOf, goodOperands, emptyUnder, completed, stepFound, stepOf}
 use Rattle.reader.proofs.Table.{number-kind, of-all}
 use Rattle.reader.proofs.Nodes.{onto, onto-operands}
@@ -171,12 +171,12 @@ Agrees k st r (Completed m c) = Replaced st r m c
 
 module _ (k : ℕ) (st : List Operand) where
   agrees-require : (ok : Bool) (f : Fault) (r : Result (List Operand)) (s : Step) → Agrees k st r s
-      → Agrees k st (require ok f k r) (cond ok s (Bad f))
+      → Agrees k st (provided (require ok f k) r) (cond ok s (Bad f))
   agrees-require true f r s h = h
   agrees-require false f r s h = refl
 
   agrees-unless : (t : Bool) (f : Fault) (r : Result (List Operand)) (s : Step) → Agrees k st r s
-      → Agrees k st (require (not t) f k r) (cond t (Bad f) s)
+      → Agrees k st (provided (require (not t) f k) r) (cond t (Bad f) s)
   agrees-unless true f r s h = refl
   agrees-unless false f r s h = h
 
@@ -217,7 +217,7 @@ agrees k st l =
     let p = getD l 3 0 in
     let a = getD l 4 0 in
     let z = getD l 5 0 in
-    agrees-require k st (marked l 0 contractMark) BadMark _ _
+    agrees-require k st (marked l 0 contractMark) ContractMark _ _
     (agrees-kind k st (kindOf n) _ l (codeAt st 1) (codeAt st 0)
     (λ K e. rw (fields-present K p a z)
     (agrees-demand k st (fieldsOf K p a z) BadField _ _
@@ -237,18 +237,18 @@ not-clause-code : (empty : Bool) → ¬ (expressionCode empty ≡ 1)
 not-clause-code true e = omega arith
 not-clause-code false e = omega arith
 
-pub just-one : (n : ℕ) (st : List Operand) → length st ≡ 1 → codeAt st 0 ≡ 1 → answerOf n (justOne n st) ≡ Taken n
+pub just-one : (n : ℕ) (st : List Operand) → length st ≡ 1 → codeAt st 0 ≡ 1 → testOf (justOne n st) ≡ Passed
 just-one n [] h i = absurd (omega arith)
 just-one n (operand clause c ∷ []) h i = refl
 just-one n (operand expression e ∷ []) h i = absurd (not-clause-code (holdsEmpty e) i)
 just-one n (o ∷ p ∷ st) h i = absurd (omega arith)
 
-pub not-one : (n : ℕ) (st : List Operand) → ¬ (length st ≡ 1) → answerOf n (justOne n st) ≡ Refused NotOneClause n
+pub not-one : (n : ℕ) (st : List Operand) → ¬ (length st ≡ 1) → testOf (justOne n st) ≡ Refused NotOneClause n
 not-one n [] h = refl
 not-one n (o ∷ []) h = absurd (h refl)
 not-one n (o ∷ p ∷ st) h = refl
 
-pub not-clause : (n : ℕ) (st : List Operand) → length st ≡ 1 → ¬ (codeAt st 0 ≡ 1) → answerOf n (justOne n st) ≡ Refused NotOneClause n
+pub not-clause : (n : ℕ) (st : List Operand) → length st ≡ 1 → ¬ (codeAt st 0 ≡ 1) → testOf (justOne n st) ≡ Refused NotOneClause n
 not-clause n [] h i = absurd (omega arith)
 not-clause n (operand clause c ∷ []) h i = absurd (i refl)
 not-clause n (operand expression e ∷ []) h i = refl

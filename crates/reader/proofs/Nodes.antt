@@ -1,6 +1,5 @@
 -- What one record does to the stack: it takes the operands of its kind off it and puts the node of its kind, fields and operands on it,
 -- where the action is in range and no expression under it holds the empty list.
--- Assumes nothing.
 use Prim.Native.Nat.{ℕ, suc, _≤_, _<_}
 use native.Mathlib.Omega.{arith}
 use mathlib.Core.Bool.{Bool, true, false, not, cond, false≢true}
@@ -19,13 +18,14 @@ use Rattle.periods.specs.Periods.{Party, party1, party2, number}
 use Rattle.contract.specs.Expressions.{Expression, Holds, holdsEmpty}
 use Rattle.contract.specs.Meaning.{Clause, EmptyFree}
 use Rattle.contract.proofs.Expressions.{empty-iff}
-use Rattle.reader.specs.declared.Fault.{Fault}
-use Rattle.reader.specs.declared.Fault.the-variants.{BadMark, UnknownKind, BadField, BadOperands, EmptyList}
+use Rattle.records.specs.declared.Fault.{Fault}
+use Rattle.records.specs.Refusals.{require}
+use Rattle.records.specs.declared.Fault.the-variants.{ContractMark, UnknownKind, BadField, BadOperands, EmptyList}
 use Rattle.reader.specs.Limits.{recordBytes}
 use Rattle.reader.specs.Table.{Sort, clause, expression, Kind, duty, ban, power, both, then, repair, repeat, when, until, any, tries, idle, succeeds, fails, seq, or, star, kindOf, line}
 use Rattle.reader.specs.Trees.{Tree, Trees, Used, Fields, node}
 use Rattle.reader.specs.Spelling.{recordOf, ExpressionInRange, InRange}
-use Rattle.reader.specs.Reader.{Result, refused, taken, next, require, demand, partyField, actionField, fieldsFrom, fieldsOf, Operand, operand, Operands, oneMore, operandsOf, holdsEmptyUnder, push, readRecord}
+use Rattle.reader.specs.Reader.{Result, refused, taken, next, provided, demand, partyField, actionField, fieldsFrom, fieldsOf, Operand, operand, Operands, oneMore, operandsOf, holdsEmptyUnder, push, readRecord}
 use Rattle.reader.proofs.Table.{kind-number, number-kind}
 use Rattle.reader.proofs.Spelling.{All, partyByte, actionByte, recordWith}
 
@@ -207,7 +207,7 @@ pub refused-taken : {A : Type 0} {f : Fault} {k : ℕ} {x : A} → refused f k �
 refused-taken h = let z : _≡_ {A = ℕ} 0 1 = cc in omega arith
 
 -- what is taken has met each requirement and each demand
-pub required : {A C : Type 0} (t : Bool) (f : Fault) (k : ℕ) {r : Result A} {x : A} → require t f k r ≡ taken x
+pub required : {A C : Type 0} (t : Bool) (f : Fault) (k : ℕ) {r : Result A} {x : A} → provided (require t f k) r ≡ taken x
     → (t ≡ true → r ≡ taken x → C) → C
 required true f k h go = go refl h
 required false f k h go = absurd (refused-taken h)
@@ -226,7 +226,7 @@ pub completed : (k : ℕ) (st : List Operand) (l : List ℕ) (st′ : List Opera
     → Completed st l st′
 unfolding readRecord recordOf
 completed k st l st′ n h =
-    required (marked l 0 contractMark) BadMark k h λ m h₂.
+    required (marked l 0 contractMark) ContractMark k h λ m h₂.
     demanded (kindOf (getD l 2 0)) UnknownKind k h₂ λ kind j h₃.
     demanded (fieldsOf kind (getD l 3 0) (getD l 4 0) (getD l 5 0)) BadField k h₃ λ f b h₄.
     demanded (operandsOf (line kind .operands) st) BadOperands k h₄ λ os o h₅.

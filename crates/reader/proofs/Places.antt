@@ -1,37 +1,38 @@
 -- The place of a refusal: the first record at fault, the record count where the end is at fault, and 0 where the length is.
--- Assumes nothing.
 use Prim.Native.Nat.{ℕ, zero, suc, _+_, _*_, _-_, _≤_, _<_}
 use native.Mathlib.Nat.{le-of-suc-le-suc, not-suc-le-zero, le-refl}
 use native.Mathlib.Omega.{arith}
-use mathlib.Core.Bool.{Bool, true, false, not, false≢true}
+use mathlib.Core.Bool.{Bool, true, false, not, or-true, false≢true}
 use mathlib.Core.List.{List, [], _∷_}
 use mathlib.Core.Option.{Option, none, some}
 use mathlib.Core.Path.{_≡_, refl, sym, _∙_}
-use lib.Dec.{lit<}
+use lib.Dec.{eqb, lit<}
 use lib.ListN.{length, take, drop, getD}
 use lib.Seq.{getD-take, length-take-le}
 use Rattle.records.specs.Marks.{contractMark, marked}
 use Rattle.records.proofs.Written.{drop-take}
-use Rattle.reader.specs.declared.Fault.{Fault}
-use Rattle.reader.specs.declared.Fault.the-variants.{BadLength, BadMark, UnknownKind, BadField, BadOperands, NotOneClause, EmptyList}
+use Rattle.records.specs.declared.Fault.{Fault}
+use Rattle.records.specs.Refusals.{faultNumber, require, among, onlyFor}
+use Rattle.records.specs.declared.Fault.the-variants.{ContractLength, ContractMark, UnknownKind, BadField, BadOperands, NotOneClause, EmptyList}
+use Rattle.contract.specs.Meaning.{Clause}
 use Rattle.reader.specs.Limits.{maxRecords, recordBytes}
 use Rattle.reader.specs.Table.{clause, expression, kindOf, line}
 use Rattle.reader.specs.Trees.{node}
-use Rattle.reader.specs.Reader.{Result, refused, taken, next, require, demand, fieldsOf, Operand, operand, operandsOf, holdsEmptyUnder, readRecord, readRecords, justOne, recordCount, goodLength, read, ofRecord, Faultless, FirstFault}
+use Rattle.reader.specs.Reader.{Result, refused, taken, next, provided, demand, fieldsOf, Operand, operand, operandsOf, holdsEmptyUnder, readRecord, readRecords, justOne, contractRecords, goodLength, read, recordFaults, readFaults, testOf, readTest, Faultless, FirstFault}
 use Rattle.reader.proofs.Nodes.{refused-taken, followed}
 use Rattle.reader.proofs.Reader.{WholeRecords, good-length}
 
 -- ---- one record is refused at its own place, for a fault of a record
 
 AtRecord : {A : Type 0} → ℕ → Result A → Type 0
-AtRecord k r = (f : Fault) (j : ℕ) → r ≡ refused f j → (j ≡ k) × (ofRecord f ≡ true)
+AtRecord k r = (f : Fault) (j : ℕ) → r ≡ refused f j → (j ≡ k) × (among recordFaults f ≡ true)
 
-require-at : {A : Type 0} (t : Bool) (f : Fault) (k : ℕ) (r : Result A) → ofRecord f ≡ true → AtRecord k r → AtRecord k (require t f k r)
+require-at : {A : Type 0} (t : Bool) (f : Fault) (k : ℕ) (r : Result A) → among recordFaults f ≡ true → AtRecord k r → AtRecord k (provided (require t f k) r)
 unfolding AtRecord
 require-at true f k r h a = a
 require-at false f k r h a = λ g j e. let i : f ≡ g = cc in (cc, rw (← i) h)
 
-demand-at : {A B : Type 0} (o : Option A) (f : Fault) (k : ℕ) (g : A → Result B) → ofRecord f ≡ true → ((x : A) → AtRecord k (g x))
+demand-at : {A B : Type 0} (o : Option A) (f : Fault) (k : ℕ) (g : A → Result B) → among recordFaults f ≡ true → ((x : A) → AtRecord k (g x))
     → AtRecord k (demand o f k g)
 unfolding AtRecord
 demand-at none f k g h a = λ d j e. let i : f ≡ d = cc in (cc, rw (← i) h)
@@ -44,7 +45,7 @@ taken-at k x f j e = (cc, cc)
 record-at : (k : ℕ) (st : List Operand) (l : List ℕ) → AtRecord k (readRecord k st l)
 unfolding readRecord
 record-at k st l =
-    require-at (marked l 0 contractMark) BadMark k _ refl
+    require-at (marked l 0 contractMark) ContractMark k _ refl
     (demand-at (kindOf (getD l 2 0)) UnknownKind k _ refl
     (λ kind. demand-at (fieldsOf kind (getD l 3 0) (getD l 4 0) (getD l 5 0)) BadField k _ refl
     (λ f. demand-at (operandsOf (line kind .operands) st) BadOperands k _ refl
@@ -57,7 +58,7 @@ record Stopped (k n : ℕ) (st : List Operand) (l : List ℕ) (f : Fault) (j : �
   passed : ℕ
   place : j ≡ k + passed
   within : passed < n
-  of-record : ofRecord f ≡ true
+  of-record : among recordFaults f ≡ true
   stack : List Operand
   before : readRecords k passed st l ≡ taken stack
   here : readRecords k (suc passed) st l ≡ refused f j
@@ -133,13 +134,13 @@ records-take k (suc n) (suc m) st l h =
     rw (record-take k st (recordBytes * suc m) l (omega arith), drop-take, e)
     (next-same (readRecord k st l) _ _ (λ st′. records-take (suc k) n m st′ (drop recordBytes l) (le-of-suc-le-suc h)))
 
-module _ (l : List ℕ) (n : ℕ) (h : n ≤ recordCount l) where
+module _ (l : List ℕ) (n : ℕ) (h : n ≤ contractRecords l) where
   length-front : length (take (recordBytes * n) l) ≡ recordBytes * n
-  unfolding recordCount
+  unfolding contractRecords
   length-front = length-take-le (recordBytes * n) l (omega arith)
 
-  count-front : recordCount (take (recordBytes * n) l) ≡ n
-  unfolding recordCount
+  count-front : contractRecords (take (recordBytes * n) l) ≡ n
+  unfolding contractRecords
   count-front = rw length-front (omega arith)
 
   whole-front : WholeRecords l → 1 ≤ n → WholeRecords (take (recordBytes * n) l)
@@ -162,33 +163,33 @@ end-refused n (operand expression e ∷ p ∷ st) f k h = (cc, cc)
 
 -- how a contract is refused
 data Refusal (l : List ℕ) (f : Fault) (k : ℕ) : Type 0 where
-  at-length : goodLength l ≡ false → BadLength ≡ f → 0 ≡ k → Refusal l f k
-  at-record : WholeRecords l → readRecords 0 (recordCount l) [] l ≡ refused f k → Refusal l f k
-  at-end : WholeRecords l → (st : List Operand) → readRecords 0 (recordCount l) [] l ≡ taken st → NotOneClause ≡ f → recordCount l ≡ k → Refusal l f k
+  at-length : goodLength l ≡ false → ContractLength ≡ f → 0 ≡ k → Refusal l f k
+  at-record : WholeRecords l → readRecords 0 (contractRecords l) [] l ≡ refused f k → Refusal l f k
+  at-end : WholeRecords l → (st : List Operand) → readRecords 0 (contractRecords l) [] l ≡ taken st → NotOneClause ≡ f → contractRecords l ≡ k → Refusal l f k
 
 refusal : (l : List ℕ) (f : Fault) (k : ℕ) → read l ≡ refused f k → Refusal l f k
 unfolding read
-refusal l f k h = go (goodLength l) refl (readRecords 0 (recordCount l) [] l) refl
+refusal l f k h = go (goodLength l) refl (readRecords 0 (contractRecords l) [] l) refl
   where
-    go : (t : Bool) → goodLength l ≡ t → (r : Result (List Operand)) → readRecords 0 (recordCount l) [] l ≡ r → Refusal l f k
+    go : (t : Bool) → goodLength l ≡ t → (r : Result (List Operand)) → readRecords 0 (contractRecords l) [] l ≡ r → Refusal l f k
     go false e r i = let h′ = rw e at h in at-length e (cc) (cc)
     go true e (refused g j) i =
         let h′ = rw (e, i) at h in
         let m : g ≡ f = cc in
         let p : j ≡ k = cc in
         at-record (good-length l .0 e) (rw (m, p) at i)
-    go true e (taken st) i = let d = end-refused (recordCount l) st f k (rw (e, i) at h) in at-end (good-length l .0 e) st i (d .0) (d .1)
+    go true e (taken st) i = let d = end-refused (contractRecords l) st f k (rw (e, i) at h) in at-end (good-length l .0 e) st i (d .0) (d .1)
 
-faultless : (l : List ℕ) (st : List Operand) → readRecords 0 (recordCount l) [] l ≡ taken st → Faultless l
+faultless : (l : List ℕ) (st : List Operand) → readRecords 0 (contractRecords l) [] l ≡ taken st → Faultless l
 faultless l st h = record { none-met = λ f k e. go f k (refusal l f k e) }
   where
-    go : (f : Fault) (k : ℕ) → Refusal l f k → ofRecord f ≡ false
+    go : (f : Fault) (k : ℕ) → Refusal l f k → among recordFaults f ≡ false
     go f k (at-length g e i) = rw (← e)
     go f k (at-record w s) = absurd (refused-taken (sym s ∙ h))
     go f k (at-end w st′ g e i) = rw (← e)
 
 -- where the first m records are passed, no beginning of them meets a fault of a record
-faultless-fronts : (l : List ℕ) (m : ℕ) (st : List Operand) → m ≤ recordCount l → readRecords 0 m [] l ≡ taken st
+faultless-fronts : (l : List ℕ) (m : ℕ) (st : List Operand) → m ≤ contractRecords l → readRecords 0 m [] l ≡ taken st
     → (n : ℕ) → n ≤ m → Faultless (take (recordBytes * n) l)
 faultless-fronts l m st c h n b =
     let t = fewer-passed 0 n m [] l st b h in
@@ -196,16 +197,16 @@ faultless-fronts l m st c h n b =
 
 -- ---- the places
 
-pub first-fault : (l : List ℕ) (f : Fault) (k : ℕ) → read l ≡ refused f k → ofRecord f ≡ true → FirstFault l f k
+pub first-fault : (l : List ℕ) (f : Fault) (k : ℕ) → read l ≡ refused f k → among recordFaults f ≡ true → FirstFault l f k
 first-fault l f k h o = go (refusal l f k h)
   where
     go : Refusal l f k → FirstFault l f k
     go (at-length g e i) = absurd (false≢true (rw (← e) at o))
     go (at-end w st g e i) = absurd (false≢true (rw (← e) at o))
     go (at-record w r) =
-        let s = stopped 0 (recordCount l) [] l f k r in
+        let s = stopped 0 (contractRecords l) [] l f k r in
         let p : s .passed ≡ k = omega (arith, s .place) in
-        let c : suc k ≤ recordCount l = omega (arith, s .within) in
+        let c : suc k ≤ contractRecords l = omega (arith, s .within) in
         let here : readRecords 0 (suc k) [] l ≡ refused f k = rw p at (s .here) in
         record {
           here = rw (read-front l (suc k) c w (omega arith), here);
@@ -213,7 +214,7 @@ first-fault l f k h o = go (refusal l f k h)
         }
 
 -- and a fault that is met where the bytes end with record k is met whatever whole records come after it, as far as there are not too many
-pub fault-stays : (l : List ℕ) (f : Fault) (k : ℕ) → goodLength l ≡ true → k < recordCount l → ofRecord f ≡ true
+pub fault-stays : (l : List ℕ) (f : Fault) (k : ℕ) → goodLength l ≡ true → k < contractRecords l → among recordFaults f ≡ true
     → read (take (recordBytes * suc k) l) ≡ refused f k → read l ≡ refused f k
 unfolding read
 fault-stays l f k g c o h = go (refusal (take (recordBytes * suc k) l) f k h)
@@ -224,24 +225,24 @@ fault-stays l f k g c o h = go (refusal (take (recordBytes * suc k) l) f k h)
     go (at-record w r) =
         let here : readRecords 0 (suc k) [] l ≡ refused f k =
         rw (count-front l (suc k) c, records-take 0 (suc k) (suc k) [] l (le-refl (suc k))) at r in
-        rw (g, still-refused 0 (suc k) (recordCount l) [] l f k c here)
+        rw (g, still-refused 0 (suc k) (contractRecords l) [] l f k c here)
 
-pub refused-length : (l : List ℕ) (k : ℕ) → read l ≡ refused BadLength k → (goodLength l ≡ false) × (k ≡ 0)
-refused-length l k h = go (refusal l BadLength k h)
+pub refused-length : (l : List ℕ) (k : ℕ) → read l ≡ refused ContractLength k → (goodLength l ≡ false) × (k ≡ 0)
+refused-length l k h = go (refusal l ContractLength k h)
   where
-    go : Refusal l BadLength k → (goodLength l ≡ false) × (k ≡ 0)
+    go : Refusal l ContractLength k → (goodLength l ≡ false) × (k ≡ 0)
     go (at-length g e i) = (g, sym i)
-    go (at-record w r) = absurd (false≢true (stopped 0 (recordCount l) [] l BadLength k r .of-record))
+    go (at-record w r) = absurd (false≢true (stopped 0 (contractRecords l) [] l ContractLength k r .of-record))
     go (at-end w st g e i) = (cc, cc)
 
 pub refused-end : (l : List ℕ) (k : ℕ) → read l ≡ refused NotOneClause k
-    → (k ≡ recordCount l) × ((n : ℕ) → n ≤ recordCount l → Faultless (take (recordBytes * n) l))
+    → (k ≡ contractRecords l) × ((n : ℕ) → n ≤ contractRecords l → Faultless (take (recordBytes * n) l))
 refused-end l k h = go (refusal l NotOneClause k h)
   where
-    go : Refusal l NotOneClause k → (k ≡ recordCount l) × ((n : ℕ) → n ≤ recordCount l → Faultless (take (recordBytes * n) l))
+    go : Refusal l NotOneClause k → (k ≡ contractRecords l) × ((n : ℕ) → n ≤ contractRecords l → Faultless (take (recordBytes * n) l))
     go (at-length g e i) = let z : _≡_ {A = ℕ} 0 1 = cc in absurd (omega arith)
-    go (at-record w r) = absurd (false≢true (stopped 0 (recordCount l) [] l NotOneClause k r .of-record))
-    go (at-end w st g e i) = (sym i, faultless-fronts l (recordCount l) st (le-refl (recordCount l)) g)
+    go (at-record w r) = absurd (false≢true (stopped 0 (contractRecords l) [] l NotOneClause k r .of-record))
+    go (at-end w st g e i) = (sym i, faultless-fronts l (contractRecords l) st (le-refl (contractRecords l)) g)
 
 -- a place is never above the most records
 pub place-most : (l : List ℕ) (f : Fault) (k : ℕ) → read l ≡ refused f k → k ≤ maxRecords
@@ -249,5 +250,23 @@ place-most l f k h = go (refusal l f k h)
   where
     go : Refusal l f k → k ≤ maxRecords
     go (at-length g e i) = omega arith
-    go (at-record w r) = let s = stopped 0 (recordCount l) [] l f k r in omega (arith, s .place, s .within, w .few-records)
+    go (at-record w r) = let s = stopped 0 (contractRecords l) [] l f k r in omega (arith, s .place, s .within, w .few-records)
     go (at-end w st g e i) = omega (arith, w .few-records)
+
+-- ---- no fault but those of reading
+
+among-more : (f : Fault) → among recordFaults f ≡ true → among readFaults f ≡ true
+among-more f h = rw (h, or-true (eqb (faultNumber f) 6), or-true (eqb (faultNumber f) 1))
+
+pub read-only : (l : List ℕ) → onlyFor readFaults (readTest l) ≡ true
+unfolding readTest
+read-only l = go (read l) refl
+  where
+    go : (r : Result Clause) → read l ≡ r → onlyFor readFaults (testOf r) ≡ true
+    go (taken c) e = refl
+    go (refused f k) e = found (refusal l f k e)
+      where
+        found : Refusal l f k → among readFaults f ≡ true
+        found (at-length g b i) = rw (← b)
+        found (at-record w r) = among-more f (stopped 0 (contractRecords l) [] l f k r .of-record)
+        found (at-end w st g b i) = rw (← b)

@@ -1,5 +1,4 @@
 -- The reader takes exactly the bytes that spell a clause, as that clause.
--- Assumes nothing.
 use Prim.Native.Nat.{ℕ, zero, suc, _+_, _*_, _/_, _%_, _≤_}
 use native.Mathlib.Nat.{add-zero, add-assoc, zero-add}
 use native.Mathlib.Omega.{arith}
@@ -12,12 +11,12 @@ use lib.ListN.{length, take, drop, length-drop}
 use lib.Seq.{take-add, take-all}
 use borrow.Author.Tests.{eqb-true, eq-eqb, ltb-true, lt-ltb, leb-true, le-leb}
 use Rattle.contract.specs.Meaning.{Clause, EmptyFree}
-use Rattle.reader.specs.declared.Fault.the-variants.{BadLength}
+use Rattle.records.specs.declared.Fault.the-variants.{ContractLength}
 use Rattle.reader.specs.Limits.{maxRecords, recordBytes}
 use Rattle.reader.specs.Table.{Sort, clause, expression, Kind, line}
 use Rattle.reader.specs.Trees.{Tree, Trees, Fields, node}
 use Rattle.reader.specs.Spelling.{recordOf, spell, records, InRange, Spells, spellTree, treeRecords}
-use Rattle.reader.specs.Reader.{taken, Operand, operand, readRecord, readRecords, justOne, recordCount, goodLength, read}
+use Rattle.reader.specs.Reader.{taken, Operand, operand, readRecord, readRecords, justOne, contractRecords, goodLength, read}
 use Rattle.reader.proofs.Spelling.{spellTrees, treesRecords, All, recordWith, on-tree, spell-node, records-node, length-spell, some-records}
 use Rattle.reader.proofs.Nodes.{Good, GoodNode, good-node, onto, read-node, Completed, required, followed, completed}
 
@@ -67,12 +66,12 @@ records-spell k (suc n) st l st′ w h g = followed (readRecord k st l) h λ st�
 -- ---- the length
 
 pub record WholeRecords (l : List ℕ) : Type 0 where
-  pub some-records : 1 ≤ recordCount l
-  pub few-records : recordCount l ≤ maxRecords
-  pub whole : length l ≡ recordBytes * recordCount l
+  pub some-records : 1 ≤ contractRecords l
+  pub few-records : contractRecords l ≤ maxRecords
+  pub whole : length l ≡ recordBytes * contractRecords l
 
 pub good-length : (l : List ℕ) → goodLength l ≡ true ↔ WholeRecords l
-unfolding goodLength recordCount
+unfolding goodLength contractRecords
 good-length l = (there, back)
   where
     there : goodLength l ≡ true → WholeRecords l
@@ -107,12 +106,12 @@ just-one n (operand clause d ∷ p ∷ st) c h = cc
 just-one n (operand expression d ∷ p ∷ st) c h = cc
 
 module _ (l : List ℕ) (c : Clause) (h : read l ≡ taken c) where
-  read-taken : WholeRecords l × (readRecords 0 (recordCount l) [] l ≡ taken (operand clause c ∷ []))
+  read-taken : WholeRecords l × (readRecords 0 (contractRecords l) [] l ≡ taken (operand clause c ∷ []))
   unfolding read
   read-taken =
-      required (goodLength l) BadLength 0 h λ g h₂.
-      followed (readRecords 0 (recordCount l) [] l) h₂ λ st h₃ h₄.
-      (good-length l .0 g, rw (just-one (recordCount l) st c h₄) at h₃)
+      required (goodLength l) ContractLength 0 h λ g h₂.
+      followed (readRecords 0 (contractRecords l) [] l) h₂ λ st h₃ h₄.
+      (good-length l .0 g, rw (just-one (contractRecords l) st c h₄) at h₃)
 
   pub taken-length : goodLength l ≡ true
   taken-length = good-length l .1 (read-taken .0)
@@ -120,10 +119,10 @@ module _ (l : List ℕ) (c : Clause) (h : read l ≡ taken c) where
   taken-stack : (l ≡ spell c) × Good clause c
   taken-stack =
       let w = read-taken .0 .whole in
-      let s = records-spell 0 (recordCount l) [] l (operand clause c ∷ []) (omega arith) (read-taken .1) tt in
-      (sym (s .0 ∙ take-all (recordBytes * recordCount l) l (omega arith)), s .1 .0)
+      let s = records-spell 0 (contractRecords l) [] l (operand clause c ∷ []) (omega arith) (read-taken .1) tt in
+      (sym (s .0 ∙ take-all (recordBytes * contractRecords l) l (omega arith)), s .1 .0)
 
-  pub taken-count : recordCount l ≡ records c
+  pub taken-count : contractRecords l ≡ records c
   taken-count = omega (arith, read-taken .0 .whole, ap length (taken-stack .0), length-spell c)
 
   pub taken-spells : Spells l c
@@ -173,7 +172,7 @@ reads = on-tree Reads reads-node
 pub spelled-taken : (c : Clause) → records c ≤ maxRecords → InRange c → EmptyFree c → read (spell c) ≡ taken c
 unfolding read readRecords Reads
 spelled-taken c n r e =
-    let count : recordCount (spell c) ≡ records c = unfold recordCount in rw length-spell (omega arith) in
+    let count : contractRecords (spell c) ≡ records c = unfold contractRecords in rw length-spell (omega arith) in
     let w : WholeRecords (spell c) =
     record { some-records = rw count (some-records c); few-records = rw count n; whole = rw count (length-spell c) } in
     let s : readRecords 0 (records c) [] (spell c) ≡ taken (operand clause c ∷ []) =

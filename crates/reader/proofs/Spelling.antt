@@ -1,6 +1,5 @@
 -- Trees kind by kind: each is the node of its last record's kind, fields and operands, so one law over the kind does for clauses and
 -- expressions. With it: the bytes of a node are its operands' and then its record, and a tree has six bytes for each of its records.
--- Assumes nothing.
 use Prim.Native.Nat.{ℕ, _+_, _*_, _≤_}
 use native.Mathlib.Omega.{arith}
 use mathlib.Core.Bool.{Bool, true, false}

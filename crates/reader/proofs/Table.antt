@@ -1,5 +1,4 @@
 -- The table by its numbers: each kind is the kind of its own number, which numbers are a kind's, and what the program's table has at each.
--- Assumes nothing.
 use Prim.Native.Nat.{ℕ, zero, suc, _+_, _-_, _≤_, _<_}
 use native.Mathlib.Omega.{arith}
 use mathlib.Core.Path.{_≡_, refl, subst}

@@ -1,5 +1,4 @@
 -- What the tests of the reader's program come to: of a party, and of a record by the way it is left.
--- Assumes nothing.
 use Prim.Native.Nat.{ℕ, _+_, _≤_, _<_}
 use native.Mathlib.Nat.{add-zero}
 use native.Mathlib.Omega.{arith}
@@ -11,7 +10,7 @@ use lib.Dec.{eqb}
 use lib.ListN.{drop, getD}
 use lib.Seq.{getD-drop}
 use Rattle.records.specs.Marks.{contractMark, marked}
-use Rattle.reader.specs.declared.Fault.the-variants.{BadMark, UnknownKind, BadField, BadOperands, EmptyList}
+use Rattle.records.specs.declared.Fault.the-variants.{ContractMark, UnknownKind, BadField, BadOperands, EmptyList}
 use Rattle.reader.specs.declared.Entry.{Entry}
 use Rattle.reader.specs.declared.Lookup.the-variants.{Found, Unknown}
 use Rattle.reader.specs.declared.Step.the-variants.{Bad, Completed}
@@ -48,7 +47,7 @@ module _ (l : List ℕ) (at b t : ℕ) where
   unfolding marked
   marked-drop = rw (getD-drop at l 0 0, getD-drop at l (0 + 1) 0, add-zero)
 
-  pub step-mark : marked l at contractMark ≡ false → stepOf (drop at l) b t ≡ Bad BadMark
+  pub step-mark : marked l at contractMark ≡ false → stepOf (drop at l) b t ≡ Bad ContractMark
   unfolding stepOf
   step-mark h = rw (marked-drop, h)
 

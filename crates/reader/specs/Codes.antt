@@ -11,7 +11,7 @@ use Rattle.records.specs.Marks.{contractMark, marked}
 use Rattle.periods.specs.Limits.{actions}
 use Rattle.contract.specs.Expressions.{holdsEmpty}
 use Rattle.contract.specs.Meaning.{Clause}
-use Rattle.reader.specs.declared.Fault.the-variants.{BadMark, UnknownKind, BadField, BadOperands, EmptyList}
+use Rattle.records.specs.declared.Fault.the-variants.{ContractMark, UnknownKind, BadField, BadOperands, EmptyList}
 use Rattle.reader.specs.declared.Entry.{Entry}
 use Rattle.reader.specs.declared.Lookup.{Lookup}
 use Rattle.reader.specs.declared.Lookup.the-variants.{Found, Unknown}
@@ -108,7 +108,7 @@ stepFound (Found e) l b t =
 -- what the record that stands first in the bytes does to a stack with these two codes on top: a fault, or so many operands replaced by one of
 -- this code
 unfoldable pub stepOf : List ℕ → (below top : ℕ) → Step
-stepOf l b t = cond (marked l 0 contractMark) (stepFound (lookupOf (kindOf (getD l 2 0))) l b t) (Bad BadMark)
+stepOf l b t = cond (marked l 0 contractMark) (stepFound (lookupOf (kindOf (getD l 2 0))) l b t) (Bad ContractMark)
 
 -- ---- the premises of the inner functions
 

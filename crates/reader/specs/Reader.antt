@@ -8,27 +8,18 @@ use mathlib.Core.Path.{_≡_}
 use lib.Dec.{eqb, ltb, leb}
 use lib.ListN.{length, take, drop, getD}
 use Rattle.records.specs.Marks.{contractMark, marked}
+use Rattle.records.specs.declared.Fault.{Fault}
+use Rattle.records.specs.declared.Fault.the-variants.{ContractLength, ContractMark, UnknownKind, BadField, BadOperands, NotOneClause, EmptyList}
+use Rattle.records.specs.declared.Test.{Test}
+use Rattle.records.specs.declared.Test.the-variants.{Passed, Refused}
+use Rattle.records.specs.Refusals.{require, among}
 use Rattle.periods.specs.Limits.{actions}
 use Rattle.periods.specs.Periods.{Party, partyOf}
 use Rattle.contract.specs.Expressions.{holdsEmpty}
 use Rattle.contract.specs.Meaning.{Clause, literal, both, then, repair, repeat, when, until}
-use Rattle.reader.specs.declared.Fault.{Fault}
-use Rattle.reader.specs.declared.Fault.the-variants.{BadLength, BadMark, UnknownKind, BadField, BadOperands, NotOneClause, EmptyList}
-use Rattle.reader.specs.declared.Answer.{Answer}
-use Rattle.reader.specs.declared.Answer.the-variants.{Refused, Taken}
 use Rattle.reader.specs.Limits.{maxRecords, recordBytes}
 use Rattle.reader.specs.Table.{Sort, clause, expression, Kind, kindOf, line}
 use Rattle.reader.specs.Trees.{Tree, Trees, Used, Fields, node}
-
--- a fault's number among the refusals
-abbrev pub faultNumber : Fault → ℕ
-faultNumber BadLength = 1
-faultNumber BadMark = 2
-faultNumber UnknownKind = 3
-faultNumber BadField = 4
-faultNumber BadOperands = 5
-faultNumber NotOneClause = 6
-faultNumber EmptyList = 7
 
 -- refused for a fault at a place, or taken
 pub data Result (A : Type 0) : Type 0 where
@@ -40,9 +31,10 @@ abbrev pub next : {A B : Type 0} → Result A → (A → Result B) → Result B
 next (refused f k) g = refused f k
 next (taken x) g = g x
 
--- refused unless the condition holds
-abbrev pub require : {A : Type 0} → Bool → Fault → (place : ℕ) → Result A → Result A
-require ok f k r = cond ok r (refused f k)
+-- what is read where a test is passed
+abbrev pub provided : {A : Type 0} → Test → Result A → Result A
+provided Passed r = r
+provided (Refused f k) r = refused f k
 
 -- refused where there is none
 abbrev pub demand : {A B : Type 0} → Option A → Fault → (place : ℕ) → (A → Result B) → Result B
@@ -118,12 +110,12 @@ holdsEmptyUnder expression e = false
 
 -- the tree of record k with its operands, pushed where it passes 7
 abbrev pub push : (k : ℕ) (s : Sort) → Tree s → List Operand → Result (List Operand)
-push k s t st = require (not (holdsEmptyUnder s t)) EmptyList k (taken (operand s t ∷ st))
+push k s t st = provided (require (not (holdsEmptyUnder s t)) EmptyList k) (taken (operand s t ∷ st))
 
 -- the stack after record k, which stands first in the bytes
 unfoldable pub readRecord : (k : ℕ) → List Operand → List ℕ → Result (List Operand)
 readRecord k st l =
-    require (marked l 0 contractMark) BadMark k
+    provided (require (marked l 0 contractMark) ContractMark k)
     (demand (kindOf (getD l 2 0)) UnknownKind k
     (λ kind. demand (fieldsOf kind (getD l 3 0) (getD l 4 0) (getD l 5 0)) BadField k
     (λ fields. demand (operandsOf (line kind .operands) st) BadOperands k
@@ -142,8 +134,8 @@ justOne n (operand expression e ∷ []) = refused NotOneClause n
 justOne n (o ∷ p ∷ st) = refused NotOneClause n
 
 -- how many records a contract has
-unfoldable pub recordCount : List ℕ → ℕ
-recordCount l = length l / recordBytes
+unfoldable pub contractRecords : List ℕ → ℕ
+contractRecords l = length l / recordBytes
 
 -- 1: "contract empty, not a multiple of 6 bytes, or over 64 records; 0"
 unfoldable pub goodLength : List ℕ → Bool
@@ -151,43 +143,31 @@ goodLength l = ltb 0 (length l) && eqb (length l % recordBytes) 0 && leb (length
 
 -- the clause that a contract's records spell, or the first refusal: "A contract means what the clause that its last record completes means."
 unfoldable pub read : List ℕ → Result Clause
-read l = require (goodLength l) BadLength 0 (next (readRecords 0 (recordCount l) [] l) (justOne (recordCount l)))
+read l = provided (require (goodLength l) ContractLength 0) (next (readRecords 0 (contractRecords l) [] l) (justOne (contractRecords l)))
 
--- ---- the answer
+-- ---- refusals 1 to 7
 
--- what the program answers: a refusal with its place, or the number of records taken
-abbrev pub answerOf : ℕ → Result Clause → Answer
-answerOf n (refused f k) = Refused f k
-answerOf n (taken c) = Taken n
+-- what a reading's tests find
+abbrev pub testOf : {A : Type 0} → Result A → Test
+testOf (refused f k) = Refused f k
+testOf (taken x) = Passed
 
-unfoldable pub answer : List ℕ → Answer
-answer l = answerOf (recordCount l) (read l)
+unfoldable pub readTest : List ℕ → Test
+readTest l = testOf (read l)
 
--- its number in replies: a contract that is taken has number 0 and place 0
-abbrev pub numberOf : Answer → ℕ
-numberOf (Refused f k) = faultNumber f
-numberOf (Taken n) = 0
+-- the faults of one record
+abbrev pub recordFaults : List Fault
+recordFaults = ContractMark ∷ UnknownKind ∷ BadField ∷ BadOperands ∷ EmptyList ∷ []
 
--- its place
-abbrev pub placeOf : Answer → ℕ
-placeOf (Refused f k) = k
-placeOf (Taken n) = 0
+-- the faults that reading can give
+abbrev pub readFaults : List Fault
+readFaults = ContractLength ∷ NotOneClause ∷ recordFaults
 
 -- ---- the place of a refusal
 
--- the faults of one record: 2 to 5 and 7
-abbrev pub ofRecord : Fault → Bool
-ofRecord BadLength = false
-ofRecord BadMark = true
-ofRecord UnknownKind = true
-ofRecord BadField = true
-ofRecord BadOperands = true
-ofRecord NotOneClause = false
-ofRecord EmptyList = true
-
 -- reading the bytes meets no fault of a record
 pub record Faultless (l : List ℕ) : Type 0 where
-  pub none-met : (f : Fault) (k : ℕ) → read l ≡ refused f k → ofRecord f ≡ false
+  pub none-met : (f : Fault) (k : ℕ) → read l ≡ refused f k → among recordFaults f ≡ false
 
 -- "the first record at fault": the fault is met where the bytes end with record k, and no fault of a record where they end before it
 pub record FirstFault (l : List ℕ) (f : Fault) (k : ℕ) : Type 0 where

@@ -5,66 +5,16 @@ ghost use Prim.Native.Nat.{_+_, _≤_};
 ghost use lib.ListN.{length, drop, getD};
 ghost use Rattle.reader.specs.Limits.{recordBytes};
 ghost use Rattle.reader.specs.Table.{kindOf};
-ghost use Rattle.reader.specs.Reader.{faultNumber, numberOf, placeOf, next, readRecords, justOne, answerOf, answer};
+ghost use Rattle.reader.specs.Reader.{next, readRecords, justOne, contractRecords, testOf, readTest};
 ghost use Rattle.reader.specs.Codes.{lookupOf, operandCount, goodParty, goodAction, goodFields, expressionCode, sortOf, goodOperands, emptyUnder, completed, stepOf, HasRecords};
+use records::Fault;
+use records::Test;
 
 // The most records of a contract.
 pub const MAX_RECORDS: usize = 64;
 
 // The bytes of a contract record.
 pub const RECORD_BYTES: usize = 6;
-
-// What is wrong with a contract.
-pub enum Fault {
-    BadLength,
-    BadMark,
-    UnknownKind,
-    BadField,
-    BadOperands,
-    NotOneClause,
-    EmptyList,
-}
-
-// A contract is refused for a fault at a place, or taken with so many records.
-pub enum Answer {
-    Refused(Fault, usize),
-    Taken(usize),
-}
-
-// A fault's number among the refusals.
-fn fault_number(f: Fault) -> u32
-    ensures { λ r. ⌜ r ≡ faultNumber f ⌝ }
-{
-    match f {
-        Fault::BadLength => 1,
-        Fault::BadMark => 2,
-        Fault::UnknownKind => 3,
-        Fault::BadField => 4,
-        Fault::BadOperands => 5,
-        Fault::NotOneClause => 6,
-        Fault::EmptyList => 7,
-    }
-}
-
-// An answer's number in replies, 0 for a contract that is taken.
-pub fn number(a: Answer) -> u32
-    ensures { λ r. ⌜ r ≡ numberOf a ⌝ }
-{
-    match a {
-        Answer::Refused(f, _) => fault_number(f),
-        Answer::Taken(_) => 0,
-    }
-}
-
-// Its place, 0 for a contract that is taken.
-pub fn place(a: Answer) -> u64
-    ensures { λ r. ⌜ r ≡ placeOf a ⌝ }
-{
-    match a {
-        Answer::Refused(_, k) => k as u64,
-        Answer::Taken(_) => 0,
-    }
-}
 
 // ---- the table
 
@@ -226,8 +176,8 @@ fn read_record(contract: &[u8], at: usize, below: u8, top: u8) -> Step
     requires { ⌜ at + recordBytes ≤ length (now contract) ⌝ }
     ensures { λ r. ⌜ r ≡ stepOf (drop at (now (contract .entry))) below top ⌝ }
 {
-    if !records::contract_marked(contract, at) {
-        return Step::Bad(Fault::BadMark);
+    if !records::marked(contract, at, records::CONTRACT_MARK) {
+        return Step::Bad(Fault::ContractMark);
     }
     let kind = contract[at + 2];
     let found = entry_of(kind);
@@ -256,9 +206,9 @@ fn peek(stack: &[u8], at: usize) -> u8
 }
 
 // The records one after the other. The stack grows from the end of its array down: its top is at `top`.
-fn read_records(contract: &[u8], n: usize) -> Answer
+fn read_records(contract: &[u8], n: usize) -> Test
     requires { ⌜ HasRecords (now contract) n ⌝ }
-    ensures { λ r. ⌜ r ≡ answerOf n (next (readRecords 0 n [] (now (contract .entry))) (justOne n)) ⌝ }
+    ensures { λ r. ⌜ r ≡ testOf (next (readRecords 0 n [] (now (contract .entry))) (justOne n)) ⌝ }
 {
     let mut stack = [NONE; MAX_RECORDS];
     let mut top = MAX_RECORDS;
@@ -272,7 +222,7 @@ fn read_records(contract: &[u8], n: usize) -> Answer
         );
         match step {
             Step::Bad(fault) => {
-                return Answer::Refused(fault, k);
+                return Test::Refused(fault, k);
             }
             Step::Completed(operands, code) => {
                 top = top + operands as usize - 1;
@@ -282,18 +232,25 @@ fn read_records(contract: &[u8], n: usize) -> Answer
         k += 1;
     }
     if top != MAX_RECORDS - 1 || stack[top] != CLAUSE {
-        return Answer::Refused(Fault::NotOneClause, n);
+        return Test::Refused(Fault::NotOneClause, n);
     }
-    Answer::Taken(n)
+    Test::Passed
 }
 
-// Reads a contract: the first refusal of 1 to 7, or the number of its records.
-pub fn read(contract: &[u8]) -> Answer
-    ensures { λ r. ⌜ r ≡ answer (now (contract .entry)) ⌝ }
+// How many records a contract has.
+pub fn contract_records(contract: &[u8]) -> usize
+    ensures { λ r. ⌜ r ≡ contractRecords (now (contract .entry)) ⌝ }
+{
+    contract.len() / RECORD_BYTES
+}
+
+// Reads a contract: the first refusal of 1 to 7, if there is one.
+pub fn read(contract: &[u8]) -> Test
+    ensures { λ r. ⌜ r ≡ readTest (now (contract .entry)) ⌝ }
 {
     let bytes = contract.len();
     if bytes == 0 || bytes % RECORD_BYTES != 0 || RECORD_BYTES * MAX_RECORDS < bytes {
-        return Answer::Refused(Fault::BadLength, 0);
+        return Test::Refused(Fault::ContractLength, 0);
     }
-    read_records(contract, bytes / RECORD_BYTES)
+    read_records(contract, contract_records(contract))
 }

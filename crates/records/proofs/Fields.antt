@@ -1,5 +1,4 @@
 -- Numbers and the bytes that spell them, low byte first, at any width. Document 01, "Records".
--- Assumes nothing.
 use Prim.Native.Nat.{ℕ, zero, suc, _+_, _*_, _/_, _%_, _^_, _≤_, _<_}
 use native.Mathlib.Nat.{add-zero, zero-add, add-suc, suc-add, add-comm, add-assoc, mul-comm, mul-add, mul-assoc, one-mul, pow-zero, pow-suc, pow-succ', one-le-pow, mod-one, div-one, mod-lt, mod-eq-of-lt, add-mul-mod-self-left, add-mul-div-left, div-eq-of-lt, div-div-eq-div-mul, lt-of-lt-of-le, pow-le-pow-right, min-le-left}
 use native.Mathlib.Omega.{arith}

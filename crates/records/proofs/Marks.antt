@@ -1,5 +1,4 @@
 -- The marks of the records. Document 01, "Records" and "Image and row machine".
--- Assumes nothing.
 use Prim.Native.Nat.{ℕ, suc, _+_, _≤_}
 use native.Mathlib.Nat.{add-zero}
 use native.Mathlib.Numerals.{add-one}

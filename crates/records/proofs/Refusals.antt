@@ -1,20 +1,19 @@
 -- The first failing number of a search, tests in their order, and the numbers of refusals. Document 01, "Replies that refuse".
--- Assumes nothing.
 use Prim.Native.Nat.{ℕ, zero, suc, _+_, _-_, _≤_, _<_, _^_}
 use native.Mathlib.Nat.{zero-add, add-zero, add-suc, suc-add, le-refl}
 use native.Mathlib.Omega.{arith}
 use mathlib.Core.Path.{_≡_, refl, sym, _∙_}
-use mathlib.Core.Bool.{Bool, true, false, false≢true}
+use mathlib.Core.Bool.{Bool, true, false, _&&_, _||_, and-eq-true-iff, or-assoc, or-true, false≢true}
 use mathlib.Core.Logic.{_⊎_, inl, inr, ⊎-elim}
-use mathlib.Core.List.{[], _∷_}
-use types.Run.{OneOf, miss}
-use denote.Enum.Declared.{tagOf}
+use mathlib.Core.List.{List, [], _∷_, _++_}
 use Rattle.records.specs.declared.Test.{Test}
-use Rattle.records.specs.declared.Test.the-variants.{Passed, BadImage, BadState, BadPeriod, FullCount}
-use Rattle.records.specs.Refusals.{firstOf, require, firstFailing, numberOf}
+use Rattle.records.specs.declared.Test.the-variants.{Passed, Refused}
+use Rattle.records.specs.declared.Fault.{Fault}
+use Rattle.records.specs.declared.Fault.the-variants.{ContractLength, ContractMark, UnknownKind, BadField, BadOperands, NotOneClause, EmptyList, ShortBuffer, BadImage, BadState, BadPeriod, FullCount, LongInput}
+use Rattle.records.specs.Refusals.{faultNumber, numberOf, require, firstOf, firstFailing, among, onlyFor}
 use Rattle.records.proofs.Numbers.{lt-or-le}
-use Rattle.records.proofs.Test.{the-type}
-use lib.Dec.{lit<}
+use lib.Dec.{eqb, leb, ltb, lit<}
+use borrow.Author.Tests.{leb-true, ltb-true}
 
 pub true-or-false : (t : Bool) → (t ≡ true) ⊎ (t ≡ false)
 true-or-false true = inl refl
@@ -112,10 +111,7 @@ failing-is ok n k h below here =
 -- of two tests that are passed, each is
 pub first-passed : (s u : Test) → firstOf s u ≡ Passed → (s ≡ Passed) × (u ≡ Passed)
 first-passed Passed u e = (refl, e)
-first-passed (BadImage p) u e = (e, cc)
-first-passed BadState u e = (e, cc)
-first-passed (BadPeriod p) u e = (e, cc)
-first-passed (FullCount p) u e = (e, cc)
+first-passed (Refused f p) u e = (e, cc)
 
 pub passed-first : (t u : Test) → t ≡ Passed → u ≡ Passed → firstOf t u ≡ Passed
 passed-first t u h k = rw (h, k)
@@ -123,45 +119,72 @@ passed-first t u h k = rw (h, k)
 -- where the first test is refused, the second is not made
 pub first-refused : (t u : Test) → ¬ (t ≡ Passed) → firstOf t u ≡ t
 first-refused Passed u h = absurd (h refl)
-first-refused (BadImage k) u h = refl
-first-refused BadState u h = refl
-first-refused (BadPeriod k) u h = refl
-first-refused (FullCount k) u h = refl
+first-refused (Refused f k) u h = refl
 
--- the same where a match has found a refusal's tag
-pub refused-first : (s t u : Test) → s ≡ t → OneOf (1 ∷ 2 ∷ 3 ∷ 4 ∷ []) (tagOf the-type s) → s ≡ firstOf t u
-refused-first s t u e h = rw (← e) (sym (first-refused s u (λ p. miss (1 ∷ 2 ∷ 3 ∷ 4 ∷ []) 0 tt (rw p at h))))
+-- a refusal is no passed test
+pub refused-passed : {f : Fault} {p : ℕ} → Refused f p ≡ Passed → ⊥
+refused-passed e = let z : _≡_ {A = ℕ} 0 1 = cc in omega arith
 
--- a test of its own that is passed shows its condition; no refusal is a passed test
-pub require-passed : (t : Bool) (refusal : Test) → (refusal ≡ Passed → ⊥) → require t refusal ≡ Passed → t ≡ true
-require-passed true refusal n e = refl
-require-passed false refusal n e = absurd (n e)
+pub is-refused : {s : Test} {f : Fault} {p : ℕ} → s ≡ Refused f p → ¬ (s ≡ Passed)
+is-refused e h = refused-passed (sym e ∙ h)
 
-pub image-refused : (p : ℕ) → BadImage p ≡ Passed → ⊥
-image-refused p e = let z : _≡_ {A = ℕ} 0 1 = cc in omega arith
+-- a refusal of the first test is what both find
+pub refused-first : (s t u : Test) {f : Fault} {p : ℕ} → s ≡ t → s ≡ Refused f p → s ≡ firstOf t u
+refused-first s t u e h = rw (← e) (sym (first-refused s u (is-refused h)))
 
-pub state-refused : BadState ≡ Passed → ⊥
-state-refused e = let z : _≡_ {A = ℕ} 0 1 = cc in omega arith
-
-pub period-refused : (p : ℕ) → BadPeriod p ≡ Passed → ⊥
-period-refused p e = let z : _≡_ {A = ℕ} 0 1 = cc in omega arith
-
-pub count-refused : (p : ℕ) → FullCount p ≡ Passed → ⊥
-count-refused p e = let z : _≡_ {A = ℕ} 0 1 = cc in omega arith
+-- a test that is passed shows its condition
+pub require-passed : (t : Bool) (f : Fault) (p : ℕ) → require t f p ≡ Passed → t ≡ true
+require-passed true f p e = refl
+require-passed false f p e = absurd (refused-passed e)
 
 -- ---- the numbers of tests
 
+-- a fault's number is 1 or above, and of one byte
+numbered : (f : Fault) → (leb 1 (faultNumber f) && ltb (faultNumber f) 256) ≡ true
+numbered ContractLength = refl
+numbered ContractMark = refl
+numbered UnknownKind = refl
+numbered BadField = refl
+numbered BadOperands = refl
+numbered NotOneClause = refl
+numbered EmptyList = refl
+numbered ShortBuffer = refl
+numbered BadImage = refl
+numbered BadState = refl
+numbered BadPeriod = refl
+numbered FullCount = refl
+numbered LongInput = refl
+
+pub fault-bounds : (f : Fault) → (1 ≤ faultNumber f) × (faultNumber f < 256)
+fault-bounds f =
+    let t = and-eq-true-iff (leb 1 (faultNumber f)) _ .0 (numbered f) in
+    (leb-true 1 (faultNumber f) (t .0), ltb-true (faultNumber f) 256 (t .1))
+
 pub number-passed : (t : Test) → numberOf t ≡ 0 → t ≡ Passed
 number-passed Passed h = refl
-number-passed (BadImage k) h = absurd (omega arith)
-number-passed BadState h = absurd (omega arith)
-number-passed (BadPeriod k) h = absurd (omega arith)
-number-passed (FullCount k) h = absurd (omega arith)
+number-passed (Refused f k) h = absurd (omega (arith, fault-bounds f .0))
 
 -- a number of 4 bytes
 pub number-small : (t : Test) → numberOf t < 256 ^ 4
 number-small Passed = lit< tt
-number-small (BadImage k) = lit< tt
-number-small BadState = lit< tt
-number-small (BadPeriod k) = lit< tt
-number-small (FullCount k) = lit< tt
+number-small (Refused f k) = omega (arith, fault-bounds f .1)
+
+-- ---- which faults a test can give
+
+pub only-require : (fs : List Fault) (f : Fault) → among fs f ≡ true → (ok : Bool) (k : ℕ) → onlyFor fs (require ok f k) ≡ true
+only-require fs f h true k = refl
+only-require fs f h false k = h
+
+pub only-first : (fs : List Fault) (s t : Test) → onlyFor fs s ≡ true → onlyFor fs t ≡ true → onlyFor fs (firstOf s t) ≡ true
+only-first fs Passed t h k = k
+only-first fs (Refused f p) t h k = h
+
+-- of two tests, each with faults of its own
+among-append : (fs gs : List Fault) (f : Fault) → among (fs ++ gs) f ≡ (among fs f || among gs f)
+among-append [] gs f = refl
+among-append (g ∷ fs) gs f = rw (among-append fs gs f) (sym (or-assoc (eqb (faultNumber f) (faultNumber g)) (among fs f) (among gs f)))
+
+pub only-append : (fs gs : List Fault) (s t : Test) → onlyFor fs s ≡ true → onlyFor gs t ≡ true → onlyFor (fs ++ gs) (firstOf s t) ≡ true
+only-append fs gs Passed Passed h k = refl
+only-append fs gs Passed (Refused f p) h k = rw (among-append fs gs f, k) (or-true (among fs f))
+only-append fs gs (Refused f p) t h k = rw (among-append fs gs f, h)

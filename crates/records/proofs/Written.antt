@@ -1,6 +1,5 @@
 -- What a run of stores leaves: a list with the elements from a place on replaced, and the fields in it.
 -- Its length is that of the list (`length-sets` of `lib.Seq`). Document 01, "Records".
--- Assumes nothing.
 use Prim.Native.Nat.{ℕ, zero, suc, _+_, _-_, _/_, _%_, _^_, _≤_, _<_}
 use native.Mathlib.Nat.{add-zero, add-suc, suc-add, le-refl, mod-eq-of-lt, sub-zero, zero-sub, suc-sub-suc}
 use native.Mathlib.Omega.{arith}

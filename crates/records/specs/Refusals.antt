@@ -1,38 +1,61 @@
--- Refusals 9 to 12 as what a call's tests find, their numbers and places, and the order of tests. Document 01, "Replies that refuse".
+-- Refusals: the faults of document 01's table and their numbers, and what a call's tests find in their order.
+-- Document 01, "Replies that refuse".
 use Prim.Native.Nat.{ℕ, zero, suc}
-use mathlib.Core.Bool.{Bool, cond}
+use mathlib.Core.Bool.{Bool, true, false, _||_, cond}
+use mathlib.Core.List.{List, [], _∷_}
+use lib.Dec.{eqb}
+use Rattle.records.specs.declared.Fault.{Fault}
+use Rattle.records.specs.declared.Fault.the-variants.{ContractLength, ContractMark, UnknownKind, BadField, BadOperands, NotOneClause, EmptyList, ShortBuffer, BadImage, BadState, BadPeriod, FullCount, LongInput}
 use Rattle.records.specs.declared.Test.{Test}
-use Rattle.records.specs.declared.Test.the-variants.{Passed, BadImage, BadState, BadPeriod, FullCount}
+use Rattle.records.specs.declared.Test.the-variants.{Passed, Refused}
 
--- the number of a refusal, 0 where every test is passed
+-- a fault's number in the table
+abbrev pub faultNumber : Fault → ℕ
+faultNumber ContractLength = 1
+faultNumber ContractMark = 2
+faultNumber UnknownKind = 3
+faultNumber BadField = 4
+faultNumber BadOperands = 5
+faultNumber NotOneClause = 6
+faultNumber EmptyList = 7
+faultNumber ShortBuffer = 8
+faultNumber BadImage = 9
+faultNumber BadState = 10
+faultNumber BadPeriod = 11
+faultNumber FullCount = 12
+faultNumber LongInput = 13
+
+-- "An accepted call gives number 0 and place 0. A refusal gives its number and a place"
 abbrev pub numberOf : Test → ℕ
 numberOf Passed = 0
-numberOf (BadImage place) = 9
-numberOf BadState = 10
-numberOf (BadPeriod place) = 11
-numberOf (FullCount place) = 12
+numberOf (Refused f place) = faultNumber f
 
--- its place
 abbrev pub placeOf : Test → ℕ
 placeOf Passed = 0
-placeOf (BadImage place) = place
-placeOf BadState = 0
-placeOf (BadPeriod place) = place
-placeOf (FullCount place) = place
+placeOf (Refused f place) = place
+
+-- passed where the condition holds, and otherwise refused
+abbrev pub require : Bool → Fault → (place : ℕ) → Test
+require ok f place = cond ok Passed (Refused f place)
 
 -- the first refusal of two tests, the second made where the first is passed
 abbrev pub firstOf : Test → Test → Test
 firstOf Passed t = t
-firstOf (BadImage place) t = BadImage place
-firstOf BadState t = BadState
-firstOf (BadPeriod place) t = BadPeriod place
-firstOf (FullCount place) t = FullCount place
-
--- passed where the condition holds, and otherwise this refusal
-abbrev pub require : Bool → Test → Test
-require ok refusal = cond ok Passed refusal
+firstOf (Refused f place) t = Refused f place
 
 -- the first number from k on, of n numbers, that fails; k + n where none does
 unfoldable pub firstFailing : (ℕ → Bool) → ℕ → ℕ → ℕ
 firstFailing ok k zero = k
 firstFailing ok k (suc n) = cond (ok k) (firstFailing ok (suc k) n) k
+
+-- ---- which faults a test can give
+
+-- the fault is one of these
+abbrev pub among : List Fault → Fault → Bool
+among [] f = false
+among (g ∷ gs) f = eqb (faultNumber f) (faultNumber g) || among gs f
+
+-- the test is passed, or refused for one of these faults
+abbrev pub onlyFor : List Fault → Test → Bool
+onlyFor fs Passed = true
+onlyFor fs (Refused f place) = among fs f

@@ -1,12 +1,13 @@
-// Little-endian fields of byte slices, the marks of the records, and the refusals that tests find. Document 01, "Records" and "Replies that
-// refuse".
+// Little-endian fields of byte slices, the marks of the records, refusals and replies. Document 01, "Records" and "Replies that refuse".
 ghost use mathlib.Core.Path.{_≡_};
+ghost use mathlib.Core.List.{[], _∷_};
 ghost use Prim.Native.Nat.{_+_, _<_, _≤_};
-ghost use lib.ListN.{length};
+ghost use lib.ListN.{length, getD};
 ghost use lib.Seq.{sets};
 ghost use Rattle.records.specs.Fields.{bytes, HoldsField};
-ghost use Rattle.records.specs.Marks.{contractMark, periodMark, rowMark, endMark, marked};
-ghost use Rattle.records.specs.Refusals.{numberOf, placeOf};
+ghost use Rattle.records.specs.Marks.{marked};
+ghost use Rattle.records.specs.Refusals.{faultNumber, numberOf, placeOf};
+ghost use Rattle.records.specs.Replies.{replyHead, fieldsBytes, replyFields};
 
 // The first two bytes of each record.
 pub const CONTRACT_MARK: [u8; 2] = [0x54, 0x43];
@@ -77,76 +78,102 @@ pub fn put8(s: &mut [u8], at: usize, x: u64)
     put4(s, at + 4, (x / 4294967296) as u32);
 }
 
+// ---- marks
+
 // Whether the record from byte `at` on starts with this mark.
-fn marked(s: &[u8], at: usize, mark: [u8; 2]) -> bool
+pub fn marked(s: &[u8], at: usize, mark: [u8; 2]) -> bool
     requires { ⌜ at + 2 ≤ length (now s) ⌝ }
     ensures { λ r. ⌜ r ≡ marked (now (s .entry)) at mark ⌝ }
 {
     s[at] == mark[0] && s[at + 1] == mark[1]
 }
 
-// Whether a contract record's mark stands at byte `at`; then a period record's, a row's and an end record's.
-pub fn contract_marked(s: &[u8], at: usize) -> bool
+// Writes a mark from byte `at` on.
+pub fn put_mark(s: &mut [u8], at: usize, mark: [u8; 2])
     requires { ⌜ at + 2 ≤ length (now s) ⌝ }
-    ensures { λ r. ⌜ r ≡ marked (now (s .entry)) at contractMark ⌝ }
+    ensures { λ _. ⌜ now (s .exit) ≡ sets (now (s .entry)) at (getD mark 0 0 ∷ getD mark 1 0 ∷ []) ⌝ }
 {
-    marked(s, at, CONTRACT_MARK)
-}
-
-pub fn period_marked(s: &[u8], at: usize) -> bool
-    requires { ⌜ at + 2 ≤ length (now s) ⌝ }
-    ensures { λ r. ⌜ r ≡ marked (now (s .entry)) at periodMark ⌝ }
-{
-    marked(s, at, PERIOD_MARK)
-}
-
-pub fn row_marked(s: &[u8], at: usize) -> bool
-    requires { ⌜ at + 2 ≤ length (now s) ⌝ }
-    ensures { λ r. ⌜ r ≡ marked (now (s .entry)) at rowMark ⌝ }
-{
-    marked(s, at, ROW_MARK)
-}
-
-pub fn end_marked(s: &[u8], at: usize) -> bool
-    requires { ⌜ at + 2 ≤ length (now s) ⌝ }
-    ensures { λ r. ⌜ r ≡ marked (now (s .entry)) at endMark ⌝ }
-{
-    marked(s, at, END_MARK)
+    s[at] = mark[0];
+    s[at + 1] = mark[1];
 }
 
 // ---- refusals
 
-// What a call's tests find: all passed, or the first refusal with its place.
-pub enum Test {
-    Passed,
-    BadImage(usize),
+// Document 01's table, in its order.
+pub enum Fault {
+    ContractLength,
+    ContractMark,
+    UnknownKind,
+    BadField,
+    BadOperands,
+    NotOneClause,
+    EmptyList,
+    ShortBuffer,
+    BadImage,
     BadState,
-    BadPeriod(usize),
-    FullCount(usize),
+    BadPeriod,
+    FullCount,
+    LongInput,
 }
 
-// A refusal's number in replies, 0 for none.
+// What a call's tests find: all passed, or the first refusal, a fault at a place.
+pub enum Test {
+    Passed,
+    Refused(Fault, usize),
+}
+
+// A fault's number in the table.
+pub fn fault_number(f: Fault) -> u32
+    ensures { λ r. ⌜ r ≡ faultNumber f ⌝ }
+{
+    match f {
+        Fault::ContractLength => 1,
+        Fault::ContractMark => 2,
+        Fault::UnknownKind => 3,
+        Fault::BadField => 4,
+        Fault::BadOperands => 5,
+        Fault::NotOneClause => 6,
+        Fault::EmptyList => 7,
+        Fault::ShortBuffer => 8,
+        Fault::BadImage => 9,
+        Fault::BadState => 10,
+        Fault::BadPeriod => 11,
+        Fault::FullCount => 12,
+        Fault::LongInput => 13,
+    }
+}
+
+// A reply's number, 0 where the tests are passed.
 pub fn number(t: Test) -> u32
     ensures { λ r. ⌜ r ≡ numberOf t ⌝ }
 {
     match t {
         Test::Passed => 0,
-        Test::BadImage(_) => 9,
-        Test::BadState => 10,
-        Test::BadPeriod(_) => 11,
-        Test::FullCount(_) => 12,
+        Test::Refused(f, _) => fault_number(f),
     }
 }
 
-// Its place.
+// Its place, 0 where the tests are passed.
 pub fn place(t: Test) -> u64
     ensures { λ r. ⌜ r ≡ placeOf t ⌝ }
 {
     match t {
         Test::Passed => 0,
-        Test::BadImage(k) => k as u64,
-        Test::BadState => 0,
-        Test::BadPeriod(k) => k as u64,
-        Test::FullCount(k) => k as u64,
+        Test::Refused(_, k) => k as u64,
     }
+}
+
+// ---- replies
+
+// The bytes of a reply's first three fields: number (4 bytes), a field of the call's own (4), place (8).
+pub const REPLY_HEAD: usize = 16;
+
+// Writes a reply's first three fields.
+pub fn put_head(reply: &mut [u8], t: Test, own: u32)
+    requires { ⌜ replyHead ≤ length (now reply) ⌝ }
+    ensures { λ _. ⌜ now (reply .exit) ≡ sets (now (reply .entry)) 0 (fieldsBytes (replyFields t own [])) ⌝ }
+{
+    put4(reply, 0, number(t));
+    put4(reply, 4, own);
+    put8(reply, 8, place(t));
 }

@@ -3,8 +3,9 @@ use mathlib.Core.Path.{refl}
 use Rattle.records.specs.Fields.{field, value}
 use Rattle.records.specs.Marks.{marked}
 use Rattle.records.specs.Refusals.{firstFailing}
-use Rattle.periods.specs.Periods.{tries, bit, periodAt}
-use Rattle.periods.specs.Traces.{recordCount, marksTest, traceTest, periodsOf}
+use Rattle.periods.specs.Forms.{formOf}
+use Rattle.periods.specs.Periods.{tries, bit, periodFrom}
+use Rattle.periods.specs.Traces.{wholeRecords, markedAs, periodAt, marksTest, traceTest, periodsOf}
 use Rattle.contract.specs.Meaning.{meaning, repeatMeaning}
 use Rattle.reader.specs.Table.{numbered, kindOf}
 use Rattle.reader.specs.Trees.{node}
@@ -18,8 +19,8 @@ use Rattle.report.proofs.Reports.{longer}
 
 pub report-vectors : ReportVectors
 unfolding
-    report contractLength firstPeriod firstFailing recordCount marked read Reader.goodLength Reader.recordCount readRecords readRecord numbered
-    kindOf fieldsOf operandsOf node onTrace traceTest marksTest lines periodLines meantLine periodsOf periodAt field value meaning repeatMeaning
+    report contractLength firstPeriod firstFailing formOf wholeRecords markedAs marked read Reader.goodLength Reader.contractRecords readRecords readRecord numbered
+    kindOf fieldsOf operandsOf node onTrace traceTest marksTest lines periodLines meantLine periodsOf periodAt periodFrom field value meaning repeatMeaning
     tries bit periodLine decidedLine refusedLine decimal digits
 report-vectors =
     record {

@@ -1,5 +1,4 @@
 -- Laws of the lines of a trace: each step's reply holds what its line says.
--- Assumes nothing.
 use Prim.Native.Nat.{ℕ, suc, _+_, _*_, _-_, _^_, _≤_, _<_}
 use native.Mathlib.Numerals.{add-one}
 use native.Mathlib.Omega.{arith}
@@ -12,14 +11,16 @@ use lib.Seq.{sets}
 use Rattle.records.specs.Fields.{HoldsField}
 use Rattle.records.specs.Verdicts.{Verdict, «open», met, broken, met-after, broken-after, verdictNumber}
 use Rattle.records.specs.declared.Test.the-variants.{Passed}
-use Rattle.periods.specs.Limits.{periodBytes}
+use Rattle.records.specs.Replies.{four, eight, fieldsBytes, Gives}
+use Rattle.records.proofs.Replies.{field-back}
+use Rattle.periods.specs.Forms.{periodBytes, formOf}
 use Rattle.periods.specs.Periods.{Period, party1, party2}
-use Rattle.periods.specs.Traces.{recordCount, markedAt, periodsOf, recordAt}
+use Rattle.periods.specs.Traces.{periodRecords, markedAt, periodsOf, recordAt}
+use Rattle.periods.proofs.Forms.{few-whole}
 use Rattle.periods.proofs.Traces.{length-periodsOf, trace-marks, record-period, record-test}
 use Rattle.states.specs.Limits.{maxPeriods}
-use Rattle.runner.specs.Calls.{beginReplyBytes, stepReplyBytes, Gives, begin, step}
+use Rattle.runner.specs.Calls.{beginReplyBytes, stepReplyBytes, stepReply, begin, step}
 use Rattle.runner.specs.StepCalls.{StepCall, stateAfterCall}
-use Rattle.runner.proofs.Calls.{long-verdict, long-blame, long-decision}
 use Rattle.contract.specs.Meaning.{Clause, only, bothParties, Decision, undecided, satisfied, violated, meaning}
 use Rattle.contract.specs.Verdicts.{decisionPeriod, blame, verdict}
 use Rattle.contract.proofs.Meaning.{within, within-period}
@@ -27,7 +28,7 @@ use Rattle.reader.specs.Reader.{taken, read}
 use Rattle.reader.proofs.Reader.{taken-spells}
 use Rattle.image.specs.Monitors.{callTest, accepts, periodsAfter, meantReply, AnswersCalls, Monitors}
 use Rattle.report.specs.declared.Stepped.{Stepped}
-use Rattle.report.specs.Limits.{lineBytes, mostPeriods}
+use Rattle.report.specs.Limits.{lineBytes, inputPeriods}
 use Rattle.report.specs.Texts.{periodLine, decidedLine, Puts}
 use Rattle.report.specs.Reports.{meantLine, periodLines, lines}
 use Rattle.report.specs.Putting.{Stepping, Follows, Listing, Listed, Following, Followed}
@@ -36,16 +37,16 @@ use Rattle.report.proofs.Texts.{puts-both, short-period, short-decided}
 -- ---- a step's reply
 
 -- what a step on a part of the trace leaves, the part being its record k
-pub stepped-on : (image state trace : List ℕ) (k : ℕ) (result : ℕ) (later reply : List ℕ)
-    → Gives (step image state (take (periodBytes * k + periodBytes - periodBytes * k) (drop (periodBytes * k) trace)) (replicate stepReplyBytes 0)) result later reply
+pub stepped-on : (image state trace : List ℕ) (k bytes : ℕ) → bytes ≡ periodBytes (formOf trace) → (result : ℕ) (later reply : List ℕ)
+    → Gives (step image state (take (bytes * k + bytes - bytes * k) (drop (bytes * k) trace)) (replicate stepReplyBytes 0)) result later reply
     → (s : Stepped) → HoldsField reply 4 4 (s .verdict) → HoldsField reply 16 4 (s .blame) → HoldsField reply 20 4 (s .decision)
     → Stepping image state trace k later s
 unfolding recordAt
-stepped-on image state trace k result later reply g s v b d =
-    let e : periodBytes * k + periodBytes - periodBytes * k ≡ periodBytes = omega arith in
-    let h = rw e at g in
+stepped-on image state trace k bytes i result later reply g s v b d =
+    let e : bytes * k + bytes - bytes * k ≡ bytes = omega arith in
+    let h = rw (e, i) at g in
     record {
-      state-is = h .state-is;
+      state-is = h .lent-is;
       verdict-is = rw (← h .reply-is) (v .is);
       blame-is = rw (← h .reply-is) (b .is);
       decision-is = rw (← h .reply-is) (d .is);
@@ -69,8 +70,8 @@ small-blame (violated k bothParties) = omega arith
 -- ---- a step on record k, from a state that follows the clause after the k records before it
 
 module _ (c : Clause) (image state trace : List ℕ) (k : ℕ) (later : List ℕ) (s : Stepped)
-    (f : Follows c image state (periodsOf trace k)) (h : periodBytes * k + periodBytes ≤ length trace) (m : markedAt trace k ≡ true)
-    (few : k < mostPeriods) (g : Stepping image state trace k later s) where
+    (f : Follows c image state (periodsOf trace k)) (h : k < periodRecords trace) (m : markedAt trace k ≡ true)
+    (few : k < inputPeriods) (g : Stepping image state trace k later s) where
   abbrev before : List Period
   before = periodsOf trace k
 
@@ -88,7 +89,7 @@ module _ (c : Clause) (image state trace : List ℕ) (k : ℕ) (later : List ℕ
   unfolding periodsAfter periodsOf
   periods-next = rw (is-accepted, record-period trace k h)
 
-  reply-meant : step image state (recordAt trace k) (replicate stepReplyBytes 0) .reply ≡ sets (replicate stepReplyBytes 0) 0 (meantReply c next)
+  reply-meant : step image state (recordAt trace k) (replicate stepReplyBytes 0) .reply ≡ sets (replicate stepReplyBytes 0) 0 (fieldsBytes (meantReply c next))
   unfolding AnswersCalls
   reply-meant = rw periods-next at (f .answers (the-call ∷ []) .1 .accepted is-accepted .1)
 
@@ -99,12 +100,15 @@ module _ (c : Clause) (image state trace : List ℕ) (k : ℕ) (later : List ℕ
   abbrev decided : Decision
   decided = meaning c next
 
+  abbrev seen : ℕ
+  seen = verdictNumber (verdict decided (length next))
+
   pub seen-verdict : s .verdict ≡ verdictNumber (verdict decided (length next))
   unfolding meantReply
   seen-verdict =
       g .verdict-is
       ∙ rw reply-meant
-      (long-verdict (replicate stepReplyBytes 0) Passed (verdictNumber (verdict decided (length next))) (blame decided) (decisionPeriod decided) (omega arith)
+      (field-back (four 0 ∷ []) (four seen) (eight 0 ∷ four (blame decided) ∷ four (decisionPeriod decided) ∷ []) (replicate stepReplyBytes 0) (omega arith)
       (small-verdict (verdict decided (length next))))
 
   pub seen-blame : s .blame ≡ blame decided
@@ -112,7 +116,7 @@ module _ (c : Clause) (image state trace : List ℕ) (k : ℕ) (later : List ℕ
   seen-blame =
       g .blame-is
       ∙ rw reply-meant
-      (long-blame (replicate stepReplyBytes 0) Passed (verdictNumber (verdict decided (length next))) (blame decided) (decisionPeriod decided) (omega arith)
+      (field-back (four 0 ∷ four seen ∷ eight 0 ∷ []) (four (blame decided)) (four (decisionPeriod decided) ∷ []) (replicate stepReplyBytes 0) (omega arith)
       (omega (arith, small-blame decided)))
 
   pub seen-decision : s .decision ≡ decisionPeriod decided
@@ -121,7 +125,7 @@ module _ (c : Clause) (image state trace : List ℕ) (k : ℕ) (later : List ℕ
       let e : length next ≡ suc k = length-periodsOf trace (suc k) in
       g .decision-is
       ∙ rw reply-meant
-      (long-decision (replicate stepReplyBytes 0) Passed (verdictNumber (verdict decided (length next))) (blame decided) (decisionPeriod decided) (omega arith)
+      (field-back (four 0 ∷ four seen ∷ eight 0 ∷ four (blame decided) ∷ []) (four (decisionPeriod decided)) [] (replicate stepReplyBytes 0) (omega arith)
       (omega (arith, within-period (length next) decided (within c (f .free) next))))
 
 -- ---- the loop over the periods
@@ -141,7 +145,7 @@ module _ (c : Clause) (image trace text₀ state : List ℕ) where
 
   -- one period more
   pub held-next : (k : ℕ) (text later last : List ℕ) (at r decision : ℕ) (s : Stepped)
-      → Held c image trace text₀ k state text at decision → periodBytes * k + periodBytes ≤ length trace → markedAt trace k ≡ true → k < mostPeriods
+      → Held c image trace text₀ k state text at decision → k < periodRecords trace → markedAt trace k ≡ true → k < inputPeriods
       → Stepping image state trace k later s
       → ((v : Verdict) → s .verdict ≡ verdictNumber v → Puts text at (periodLine (k + 1) v (s .blame)) last r)
       → Held c image trace text₀ (k + 1) later last r (s .decision)
@@ -161,10 +165,10 @@ module _ (c : Clause) (image trace text₀ state : List ℕ) where
 
 module _ {image state₀ trace text₀ : List ℕ} {n : ℕ} (a : Listing image state₀ trace n text₀) where
   module _ (k : ℕ) (i : k < n) where
-    pub next-whole : periodBytes * k + periodBytes ≤ length trace
+    pub next-whole : k < periodRecords trace
     next-whole = omega (arith, a .whole)
 
-    next-few : k < mostPeriods
+    next-few : k < inputPeriods
     next-few = omega (arith, a .few)
 
   module _ (k : ℕ) (state text : List ℕ) (at decision : ℕ) (h : (c : Clause) → Follows c image state₀ [] → Held c image trace text₀ k state text at decision) where
@@ -191,7 +195,7 @@ module _ {image state₀ trace text₀ : List ℕ} {n : ℕ} (a : Listing image 
             held-next c image trace text₀ state k text later last at r decision s (h c f) (next-whole k i) (a .marks k i) (next-few k i) g p
 
     -- the decision is among the periods
-    pub small-decision : k ≤ n → decision ≤ mostPeriods
+    pub small-decision : k ≤ n → decision ≤ inputPeriods
     small-decision i =
         let q = h (a .clause) (a .follows) in
         let w = periodsOf trace k in
@@ -217,16 +221,16 @@ module _ {image state₀ trace text₀ : List ℕ} {n : ℕ} (a : Listing image 
 module _ {image state trace text : List ℕ} (a : Following image state trace text) where
   -- begin's state follows the clause of whichever contract the image monitors
   pub begun : (contract : List ℕ) (c : Clause) → Monitors contract image → read contract ≡ taken c → (reply : List ℕ) → beginReplyBytes ≤ length reply
-      → Follows c image (begin image state reply .state) []
+      → Follows c image (begin image state reply .lent) []
   begun contract c m e reply r =
       let i : m .clause ≡ c = let g = sym (m .means) ∙ e in cc in
       record { free = taken-spells contract c e .empty-free; answers = rw i at (m .answers state reply (a .state-long) r .1) }
 
   -- the lines can be put
-  pub may-list : (reply later : List ℕ) → beginReplyBytes ≤ length reply → later ≡ begin image state reply .state
-      → Listing image later trace (recordCount trace) text
-  unfolding recordCount
+  pub may-list : (reply later : List ℕ) → beginReplyBytes ≤ length reply → later ≡ begin image state reply .lent
+      → Listing image later trace (periodRecords trace) text
   may-list reply later r e =
+      let sixes = few-whole (formOf trace) trace in
       rw e record {
         clause = a .monitors .clause;
         follows = begun (a .contract) (a .monitors .clause) (a .monitors) (a .monitors .means) reply r;
@@ -236,7 +240,7 @@ module _ {image state trace text : List ℕ} (a : Following image state trace te
         room = omega (arith, a .short, a .room);
       }
 
-  pub all-followed : (reply later : List ℕ) → beginReplyBytes ≤ length reply → later ≡ begin image state reply .state → (last : List ℕ) (n : ℕ)
-      → Listed image later trace (recordCount trace) text last n → Followed image trace text last n
+  pub all-followed : (reply later : List ℕ) → beginReplyBytes ≤ length reply → later ≡ begin image state reply .lent → (last : List ℕ) (n : ℕ)
+      → Listed image later trace (periodRecords trace) text last n → Followed image trace text last n
   all-followed reply later r e last n l =
       record { puts = λ contract c m d. l .puts c (rw e (begun contract c m d reply r)) }

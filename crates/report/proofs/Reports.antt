@@ -1,5 +1,4 @@
 -- Laws of the report: longer than the limit, refused by compile, refused by the trace's test, or followed.
--- Assumes nothing.
 use Prim.Native.Nat.{ℕ, _+_, _*_, _-_, _^_, _≤_, _<_}
 use native.Mathlib.Nat.{zero-add, le-refl}
 use native.Mathlib.Omega.{arith}
@@ -7,18 +6,20 @@ use mathlib.Core.List.{List, [], _∷_}
 use mathlib.Core.Path.{_≡_, refl, sym, _∙_}
 use lib.ListN.{length, take, drop, replicate, length-drop}
 use lib.Seq.{sets, length-sets, length-take-le, take-all}
-use borrow.Author.Tests.{lt-ltb, le-ltb, eq-eqb, ne-eqb}
-use types.Run.{OneOf, miss}
-use denote.Enum.Declared.{tagOf}
-use Rattle.records.specs.Fields.{bytes, field}
+use borrow.Author.Tests.{le-leb, lt-leb, eq-eqb}
+use Rattle.records.specs.declared.Fault.{Fault}
+use Rattle.records.specs.declared.Fault.the-variants.{LongInput}
 use Rattle.records.specs.declared.Test.{Test}
-use Rattle.records.specs.declared.Test.the-variants.{Passed, BadImage, BadState, BadPeriod, FullCount}
-use Rattle.records.specs.Refusals.{numberOf, placeOf, firstOf}
-use Rattle.records.proofs.Fields.{value-bytes-lt}
-use Rattle.records.proofs.Test.{the-type}
-use Rattle.periods.specs.Traces.{recordCount, traceTest}
+use Rattle.records.specs.declared.Test.the-variants.{Passed, Refused}
+use Rattle.records.specs.Refusals.{faultNumber, numberOf, placeOf, firstOf}
+use Rattle.records.specs.Replies.{four, eight, fieldsBytes, replyFields, call}
+use Rattle.records.proofs.Refusals.{fault-bounds}
+use Rattle.records.proofs.Replies.{field-back}
+use Rattle.periods.specs.Forms.{formOf}
+use Rattle.periods.specs.Traces.{periodRecords, traceTest}
+use Rattle.periods.proofs.Forms.{few-whole}
 use Rattle.layout.specs.Limits.{rowBytes, maxRows}
-use Rattle.layout.specs.Images.{rowCount, imageBytes}
+use Rattle.layout.specs.Images.{rowCount}
 use Rattle.layout.specs.Refusals.{imageTest}
 use Rattle.layout.proofs.Images.{rowCount-of}
 use Rattle.states.specs.Limits.{headBytes, maxPeriods}
@@ -29,19 +30,16 @@ use Rattle.runner.specs.Refusals.{beginTest, runTest}
 use Rattle.runner.specs.Calls.{beginReplyBytes, begin}
 use Rattle.runner.proofs.StepCalls.{begin-written, begin-sound}
 use Rattle.contract.specs.Meaning.{Clause}
-use Rattle.reader.specs.declared.Fault.{Fault}
-use Rattle.reader.specs.declared.Fault.the-variants.{BadLength, BadMark, UnknownKind, BadField, BadOperands, NotOneClause, EmptyList}
 use Rattle.reader.specs.Limits.{maxRecords}
-use Rattle.reader.specs.Reader as Reader
-use Rattle.reader.specs.Reader.{Result, refused, taken, faultNumber, read}
+use Rattle.reader.specs.Reader.{Result, refused, taken, read, contractRecords, readTest}
 use Rattle.reader.proofs.Reader.{taken-count, taken-spells}
 use Rattle.reader.proofs.Places.{place-most}
 use Rattle.image.specs.Widths.{bufferBytes}
-use Rattle.image.specs.Images.{image}
+use Rattle.image.specs.Images.{imageFor}
 use Rattle.image.specs.Monitors.{Monitors}
-use Rattle.compiler.specs.Calls.{compileReply, compileReplyBytes, compile, Usable}
+use Rattle.compiler.specs.Calls.{compileTest, compileReplyBytes, compile, Usable}
 use Rattle.report.specs.declared.Compiled.{Compiled}
-use Rattle.report.specs.Limits.{inputBytes, tooLong, textBytes}
+use Rattle.report.specs.Limits.{inputBytes, textBytes}
 use Rattle.report.specs.Texts.{refusedLine, Puts}
 use Rattle.report.specs.Split.{contractLength, contractOf, traceOf}
 use Rattle.report.specs.Reports.{lines, onTrace, onContract, report}
@@ -51,35 +49,15 @@ use Rattle.report.proofs.Split.{contract-within}
 -- ---- the input's length
 
 module _ (input : List ℕ) where
-  pub longer : inputBytes < length input → report input ≡ refusedLine tooLong 0
+  pub longer : inputBytes < length input → report input ≡ refusedLine (faultNumber LongInput) 0
   unfolding report
-  longer h = rw (lt-ltb inputBytes (length input) h)
+  longer h = rw (lt-leb (length input) inputBytes h)
 
   pub no-longer : length input ≤ inputBytes → report input ≡ onContract (read (contractOf input)) (traceOf input)
   unfolding report
-  no-longer h = rw (le-ltb inputBytes (length input) h)
+  no-longer h = rw (le-leb (length input) inputBytes h)
 
 -- ---- compile's reply
-
--- the fields of a refusal's reply in an area of zeros
-module _ (number place : ℕ) where
-  replied-number : number < 256 ^ 4 → field (sets (replicate compileReplyBytes 0) 0 (compileReply number 0 place)) 0 4 ≡ number
-  unfolding compileReply bytes field
-  replied-number h = value-bytes-lt 4 h
-
-  replied-place : place < 256 ^ 8 → field (sets (replicate compileReplyBytes 0) 0 (compileReply number 0 place)) 8 8 ≡ place
-  unfolding compileReply bytes field
-  replied-place h = value-bytes-lt 8 h
-
--- a fault's number is 1 to 7
-fault-number : (f : Fault) → (1 ≤ faultNumber f) × (faultNumber f ≤ 7)
-fault-number BadLength = (omega arith, omega arith)
-fault-number BadMark = (omega arith, omega arith)
-fault-number UnknownKind = (omega arith, omega arith)
-fault-number BadField = (omega arith, omega arith)
-fault-number BadOperands = (omega arith, omega arith)
-fault-number NotOneClause = (omega arith, omega arith)
-fault-number EmptyList = (omega arith, omega arith)
 
 -- what compile leaves of a contract that is taken: an image of so many rows first in its buffer, which monitors it
 pub record Served (contract later : List ℕ) (rows : ℕ) : Type 0 where
@@ -90,24 +68,28 @@ pub record Served (contract later : List ℕ) (rows : ℕ) : Type 0 where
 
 -- a contract that is taken never meets 8 with a buffer for the most records, which stays as long as it was
 module _ (contract buffer : List ℕ) (e : length buffer ≡ bufferBytes maxRecords) (c : Clause) (i : read contract ≡ taken c) where
-  roomy : bufferBytes (Reader.recordCount contract) ≤ length buffer
+  roomy : bufferBytes (contractRecords contract) ≤ length buffer
   roomy = omega (arith, taken-count contract c i, taken-spells contract c i .few-records)
 
-  same-long : length (compile contract buffer (replicate compileReplyBytes 0) .buffer) ≡ length buffer
-  unfolding compile
-  same-long = rw (i, le-ltb (length buffer) (bufferBytes (Reader.recordCount contract)) roomy) (length-sets buffer 0 (imageBytes (image c)))
+  same-long : length (compile contract buffer (replicate compileReplyBytes 0) .lent) ≡ length buffer
+  unfolding compile compileTest call readTest
+  same-long = rw (i, le-leb (bufferBytes (contractRecords contract)) (length buffer) roomy) (length-sets buffer 0 (imageFor contract))
 
 -- refused exactly where the number is not 0
 module _ {contract buffer later : List ℕ} {r : Compiled} (h : Compiling contract buffer later r) (e : length buffer ≡ bufferBytes maxRecords) where
+  -- the reply of a refusal
+  refused-reply : (f : Fault) (k : ℕ) → read contract ≡ refused f k
+      → h .reply ≡ sets (replicate compileReplyBytes 0) 0 (fieldsBytes (replyFields (Refused f k) 0 []))
+  unfolding compile compileTest call readTest
+  refused-reply f k i = h .compiles .gives .reply-is ∙ rw i
+
   number-of : (f : Fault) (k : ℕ) → read contract ≡ refused f k → r .number ≡ faultNumber f
-  unfolding compile
   number-of f k i =
-      h .number-is ∙ rw (h .compiles .reply-is, i) (replied-number (faultNumber f) k (omega (arith, fault-number f .1)))
+      h .number-is ∙ rw (refused-reply f k i) (field-back [] (four (faultNumber f)) (four 0 ∷ eight k ∷ []) (replicate compileReplyBytes 0) (omega arith) (omega (arith, fault-bounds f .1)))
 
   place-of : (f : Fault) (k : ℕ) → read contract ≡ refused f k → r .place ≡ k
-  unfolding compile
   place-of f k i =
-      h .place-is ∙ rw (h .compiles .reply-is, i) (replied-place (faultNumber f) k (omega (arith, place-most contract f k i)))
+      h .place-is ∙ rw (refused-reply f k i) (field-back (four (faultNumber f) ∷ four 0 ∷ []) (eight k) [] (replicate compileReplyBytes 0) (omega arith) (omega (arith, place-most contract f k i)))
 
   usable : (c : Clause) → read contract ≡ taken c → Usable contract later (h .reply)
   usable c i = h .compiles .usable c i (le-refl compileReplyBytes) (roomy contract buffer e c i)
@@ -123,12 +105,12 @@ module _ {contract buffer later : List ℕ} {r : Compiled} (h : Compiling contra
   taken-contract n = go (read contract) refl
     where
       go : (o : Result Clause) → read contract ≡ o → Served contract later (r .rows)
-      go (refused f k) i = absurd (omega (arith, number-of f k i, fault-number f .0))
+      go (refused f k) i = absurd (omega (arith, number-of f k i, fault-bounds f .0))
       go (taken c) i =
           let u = usable c i in
           let s : r .rows ≡ u .count = h .rows-is ∙ u .count-is in
           let few : u .count ≤ maxRows = omega (arith, u .few, taken-count contract c i, taken-spells contract c i .few-records) in
-          let long : length later ≡ length buffer = rw (h .compiles .buffer-is) (same-long contract buffer e c i) in
+          let long : length later ≡ length buffer = rw (h .compiles .gives .lent-is) (same-long contract buffer e c i) in
           let within : rowBytes * (u .count + 1) ≤ length later = omega arith in
           rw s record {
             few = few;
@@ -136,25 +118,6 @@ module _ {contract buffer later : List ℕ} {r : Compiled} (h : Compiling contra
             count = rowCount-of (take (rowBytes * (u .count + 1)) later) (u .count) (length-take-le (rowBytes * (u .count + 1)) later within);
             monitors = u .monitors;
           }
-
--- ---- the trace's test
-
-module _ (c : Clause) (trace : List ℕ) where
-  pub refused-trace : ¬ (numberOf (traceTest trace) ≡ 0) → onTrace c trace ≡ refusedLine (numberOf (traceTest trace)) (placeOf (traceTest trace))
-  unfolding onTrace
-  refused-trace h = rw (ne-eqb (numberOf (traceTest trace)) 0 h)
-
-  pub passed-trace : traceTest trace ≡ Passed → onTrace c trace ≡ lines c trace (recordCount trace)
-  unfolding onTrace
-  passed-trace h = rw h
-
--- where a match has found a refusal's tag
-found-refused : (t : Test) → OneOf (1 ∷ 2 ∷ 3 ∷ 4 ∷ []) (tagOf the-type t) → ¬ (numberOf t ≡ 0)
-found-refused Passed h e = absurd (miss (1 ∷ 2 ∷ 3 ∷ 4 ∷ []) 0 tt h)
-found-refused (BadImage k) h e = omega arith
-found-refused BadState h e = omega arith
-found-refused (BadPeriod k) h e = omega arith
-found-refused (FullCount k) h e = omega arith
 
 -- ---- the input's parts as the program has them, and its ways out
 
@@ -182,11 +145,10 @@ module _ (input : List ℕ) (end : ℕ) (e : end ≡ contractLength input) where
       on-taken : onContract (read (contractOf input)) (traceOf input) ≡ onTrace (served .monitors .clause) (drop end input)
       on-taken = rw (← e, served .monitors .means)
 
-      pub trace-refused : (t : Test) → t ≡ traceTest rest → OneOf (1 ∷ 2 ∷ 3 ∷ 4 ∷ []) (tagOf the-type t)
+      pub trace-refused : (t : Test) → t ≡ traceTest rest → (f : Fault) (k : ℕ) → t ≡ Refused f k
           → onContract (read (contractOf input)) (traceOf input) ≡ refusedLine (numberOf t) (placeOf t)
-      trace-refused t i k =
-          let j : t ≡ traceTest (drop end input) = rw rest-is at i in
-          on-taken ∙ rw j (refused-trace (served .monitors .clause) (drop end input) (rw (← j) (found-refused t k)))
+      unfolding onTrace
+      trace-refused t i f k j = on-taken ∙ rw (← (rw rest-is at i), j)
 
       module _ (p : traceTest rest ≡ Passed) where
         pub may-follow : (state text : List ℕ) → length state ≡ headBytes + maxRows → length text ≡ textBytes → length input ≤ inputBytes
@@ -203,19 +165,17 @@ module _ (input : List ℕ) (end : ℕ) (e : end ≡ contractLength input) where
 
         pub followed : {text last : List ℕ} {s : ℕ} → Followed (take (rowBytes * (r .rows + 1)) later) rest text last s
             → Puts text 0 (onContract (read (contractOf input)) (traceOf input)) last s
+        unfolding onTrace
         followed f =
             let m = served .monitors in
-            rw (on-taken, passed-trace (m .clause) (drop end input) (rw rest-is at p))
+            rw (on-taken, rw rest-is at p)
             (rw rest-is at (f .puts (take end input) (m .clause) m (m .means)))
 
 -- ---- "run's on the trace" is the trace's own test: from the state that begin leaves no other test of run's refuses
 
 first-only : (t : Test) → firstOf t Passed ≡ t
 first-only Passed = refl
-first-only (BadImage k) = refl
-first-only BadState = refl
-first-only (BadPeriod k) = refl
-first-only (FullCount k) = refl
+first-only (Refused f k) = refl
 
 module _ (image state reply : List ℕ) (g : imageTest image ≡ Passed) (e : length state ≡ headBytes + rowCount image)
     (r : beginReplyBytes ≤ length reply) where
@@ -223,11 +183,11 @@ module _ (image state reply : List ℕ) (g : imageTest image ≡ Passed) (e : le
   unfolding beginTest
   begins = rw (g, eq-eqb (length state) (headBytes + rowCount image) e)
 
-  begun : stateOf (begin image state reply .state) ≡ freshState (rowCount image)
+  begun : stateOf (begin image state reply .lent) ≡ freshState (rowCount image)
   begun = rw (begin-written image state reply r begins, e) (fresh-read (rowCount image))
 
-  pub only-trace : (trace : List ℕ) → length trace ≤ inputBytes → runTest image (begin image state reply .state) trace ≡ traceTest trace
-  unfolding runTest countTest recordCount
+  pub only-trace : (trace : List ℕ) → length trace ≤ inputBytes → runTest image (begin image state reply .lent) trace ≡ traceTest trace
+  unfolding runTest countTest
   only-trace trace l =
-      let few : recordCount trace ≤ maxPeriods = omega arith in
-      rw (begin-sound image state reply r begins, begun, zero-add, le-ltb maxPeriods (recordCount trace) few) (first-only (traceTest trace))
+      let few : periodRecords trace ≤ maxPeriods = omega (arith, few-whole (formOf trace) trace) in
+      rw (begin-sound image state reply r begins, begun, zero-add, le-leb (periodRecords trace) maxPeriods few) (first-only (traceTest trace))

@@ -1,5 +1,4 @@
 -- Laws of the input's two parts.
--- Assumes nothing.
 use Prim.Native.Nat.{ℕ, _*_, _≤_}
 use native.Mathlib.Omega.{arith}
 use mathlib.Core.Bool.{Bool, true, false, cond}
@@ -10,23 +9,20 @@ use lib.ListN.{length}
 use borrow.Author.Tests.{eq-eqb, ne-eqb}
 use Rattle.records.specs.Refusals.{firstFailing}
 use Rattle.records.proofs.Refusals.{failing-most}
-use Rattle.periods.specs.Limits.{periodBytes}
-use Rattle.periods.specs.Traces.{recordCount}
-use Rattle.report.specs.Split.{unmarkedAt, firstPeriod, contractLength}
+use Rattle.periods.specs.declared.Form.the-variants.{Short}
+use Rattle.periods.specs.Forms.{periodBytes}
+use Rattle.periods.specs.Traces.{wholeRecords, marksAre}
+use Rattle.periods.proofs.Forms.{few-whole}
+use Rattle.report.specs.Split.{firstPeriod, contractLength}
 
 module _ (input : List ℕ) where
-  -- all the whole six bytes are within the input
-  pub sixes-within : periodBytes * recordCount input ≤ length input
-  unfolding recordCount
-  sixes-within = omega arith
-
   -- the first with the mark is one of them, or past the last
-  pub first-within : firstPeriod input ≤ recordCount input
+  pub first-within : firstPeriod input ≤ wholeRecords Short input
   unfolding firstPeriod
-  first-within = omega (arith, failing-most (unmarkedAt input) 0 (recordCount input))
+  first-within = omega (arith, failing-most (marksAre false Short input) 0 (wholeRecords Short input))
 
   -- n whole six bytes, the first of which with the mark is number k, or k is n where none has it
-  module _ (n k : ℕ) (e : n ≡ recordCount input) (f : k ≡ firstFailing (unmarkedAt input) 0 n) where
+  module _ (n k : ℕ) (e : n ≡ wholeRecords Short input) (f : k ≡ firstFailing (marksAre false Short input) 0 n) where
     first-is : firstPeriod input ≡ k
     unfolding firstPeriod
     first-is = rw (← e, ← f)
@@ -37,17 +33,17 @@ module _ (input : List ℕ) where
     -- "Without such a record all is contract."
     pub none-found : k ≡ n → length input ≡ contractLength input
     unfolding contractLength
-    none-found h = rw (eq-eqb (firstPeriod input) (recordCount input) (first-is ∙ h ∙ e))
+    none-found h = rw (eq-eqb (firstPeriod input) (wholeRecords Short input) (first-is ∙ h ∙ e))
 
-    pub one-found : ¬ (k ≡ n) → periodBytes * k ≡ contractLength input
+    pub one-found : ¬ (k ≡ n) → periodBytes Short * k ≡ contractLength input
     unfolding contractLength
-    one-found h = rw (ne-eqb (firstPeriod input) (recordCount input) (λ i. h (sym first-is ∙ i ∙ sym e)), first-is)
+    one-found h = rw (ne-eqb (firstPeriod input) (wholeRecords Short input) (λ i. h (sym first-is ∙ i ∙ sym e)), first-is)
 
   -- the contract is within the input
   pub contract-within : contractLength input ≤ length input
   unfolding contractLength
-  contract-within = go (eqb (firstPeriod input) (recordCount input))
+  contract-within = go (eqb (firstPeriod input) (wholeRecords Short input))
     where
-      go : (t : Bool) → cond t (length input) (periodBytes * firstPeriod input) ≤ length input
+      go : (t : Bool) → cond t (length input) (periodBytes Short * firstPeriod input) ≤ length input
       go true = omega arith
-      go false = omega (arith, sixes-within, first-within)
+      go false = omega (arith, few-whole Short input, first-within)

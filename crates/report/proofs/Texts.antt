@@ -1,5 +1,4 @@
 -- Laws of the lines: puts one behind the other, verdicts by their numbers, and how long numbers and lines are.
--- Assumes nothing.
 use Prim.Native.Nat.{ℕ, zero, suc, _+_, _/_, _%_, _^_, _≤_, _<_}
 use native.Mathlib.Nat.{add-suc, div-lt-self, div-lt-iff-lt-mul}
 use native.Mathlib.Numerals.{add-one}

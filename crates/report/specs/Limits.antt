@@ -1,18 +1,15 @@
 -- How much `watch` reads, and how much it prints at most. Document 01, "Watch", and "Replies that refuse", 13.
 use Prim.Native.Nat.{ℕ, _+_, _*_, _/_}
-use Rattle.periods.specs.Limits.{periodBytes}
+use Rattle.periods.specs.declared.Form.the-variants.{Short}
+use Rattle.periods.specs.Forms.{periodBytes}
 
 -- "reads standard input up to 65,520 bytes"
 abbrev pub inputBytes : ℕ
 inputBytes = 65520
 
--- 13: "input over 65,520 bytes; 0"
-abbrev pub tooLong : ℕ
-tooLong = 13
-
 -- the most period records of an input
-abbrev pub mostPeriods : ℕ
-mostPeriods = inputBytes / periodBytes
+abbrev pub inputPeriods : ℕ
+inputPeriods = inputBytes / periodBytes Short
 
 -- the most bytes of a verdict's name
 abbrev pub nameBytes : ℕ
@@ -24,4 +21,4 @@ lineBytes = 21
 
 -- room for a line for each period and one more
 abbrev pub textBytes : ℕ
-textBytes = lineBytes * (mostPeriods + 1)
+textBytes = lineBytes * (inputPeriods + 1)

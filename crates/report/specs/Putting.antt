@@ -6,9 +6,8 @@ use mathlib.Core.Path.{_≡_}
 use lib.ListN.{length, replicate}
 use Rattle.records.specs.Fields.{field}
 use Rattle.records.specs.declared.Test.the-variants.{Passed}
-use Rattle.periods.specs.Limits.{periodBytes}
 use Rattle.periods.specs.Periods.{Period}
-use Rattle.periods.specs.Traces.{recordCount, markedAt, traceTest, recordAt}
+use Rattle.periods.specs.Traces.{periodRecords, markedAt, traceTest, recordAt}
 use Rattle.layout.specs.Images.{rowCount}
 use Rattle.states.specs.Limits.{headBytes}
 use Rattle.runner.specs.Calls.{stepReplyBytes, step}
@@ -19,7 +18,7 @@ use Rattle.image.specs.Monitors.{AnswersCalls, Monitors}
 use Rattle.compiler.specs.Calls.{compileReplyBytes, Compiles}
 use Rattle.report.specs.declared.Stepped.{Stepped}
 use Rattle.report.specs.declared.Compiled.{Compiled}
-use Rattle.report.specs.Limits.{inputBytes, lineBytes, mostPeriods, textBytes}
+use Rattle.report.specs.Limits.{inputBytes, lineBytes, inputPeriods, textBytes}
 use Rattle.report.specs.Texts.{Puts}
 use Rattle.report.specs.Reports.{lines}
 
@@ -34,7 +33,7 @@ pub record Compiling (contract buffer later : List ℕ) (r : Compiled) : Type 0 
 
 -- what a step on record k of a trace leaves where its reply is read from an area of zeros
 pub record Stepping (image state trace : List ℕ) (k : ℕ) (later : List ℕ) (r : Stepped) : Type 0 where
-  pub state-is : later ≡ step image state (recordAt trace k) (replicate stepReplyBytes 0) .state
+  pub state-is : later ≡ step image state (recordAt trace k) (replicate stepReplyBytes 0) .lent
   pub verdict-is : r .verdict ≡ field (step image state (recordAt trace k) (replicate stepReplyBytes 0) .reply) 4 4
   pub blame-is : r .blame ≡ field (step image state (recordAt trace k) (replicate stepReplyBytes 0) .reply) 16 4
   pub decision-is : r .decision ≡ field (step image state (recordAt trace k) (replicate stepReplyBytes 0) .reply) 20 4
@@ -48,9 +47,9 @@ pub record Follows (c : Clause) (image state : List ℕ) (w : List Period) : Typ
 pub record Listing (image state trace : List ℕ) (n : ℕ) (text : List ℕ) : Type 0 where
   pub clause : Clause
   pub follows : Follows clause image state []
-  pub whole : periodBytes * n ≤ length trace
+  pub whole : n ≤ periodRecords trace
   pub marks : (i : ℕ) → i < n → markedAt trace i ≡ true
-  pub few : n ≤ mostPeriods
+  pub few : n ≤ inputPeriods
   pub room : lineBytes * (n + 1) ≤ length text
 
 -- the lines are those of whichever clause the state follows
@@ -68,4 +67,4 @@ pub record Following (image state trace text : List ℕ) : Type 0 where
 
 -- the lines are those of whichever contract the image monitors
 pub record Followed (image trace text later : List ℕ) (r : ℕ) : Type 0 where
-  pub puts : (contract : List ℕ) (c : Clause) → Monitors contract image → read contract ≡ taken c → Puts text 0 (lines c trace (recordCount trace)) later r
+  pub puts : (contract : List ℕ) (c : Clause) → Monitors contract image → read contract ≡ taken c → Puts text 0 (lines c trace (periodRecords trace)) later r

@@ -1,24 +1,21 @@
 -- Where the contract ends and the trace begins. Document 01, "Watch": "the contract is what precedes the first six-byte record marked `54 50`,
 -- the rest the trace. Without such a record all is contract."
 use Prim.Native.Nat.{ℕ, _*_}
-use mathlib.Core.Bool.{Bool, not, cond}
+use mathlib.Core.Bool.{false, cond}
 use mathlib.Core.List.{List}
 use lib.Dec.{eqb}
 use lib.ListN.{length, take, drop}
 use Rattle.records.specs.Refusals.{firstFailing}
-use Rattle.periods.specs.Limits.{periodBytes}
-use Rattle.periods.specs.Traces.{recordCount, markedAt}
+use Rattle.periods.specs.declared.Form.the-variants.{Short}
+use Rattle.periods.specs.Forms.{periodBytes}
+use Rattle.periods.specs.Traces.{wholeRecords, marksAre}
 
--- the six bytes of number k, counted in sixes from 0, have another mark
-abbrev pub unmarkedAt : List ℕ → ℕ → Bool
-unmarkedAt input k = not (markedAt input k)
-
--- the number of the first whole six bytes with a period record's mark; that of all whole six bytes where none has it
+-- the number, counted in sixes from 0, of the first whole six bytes with a period record's mark; that of all whole six bytes where none has it
 unfoldable pub firstPeriod : List ℕ → ℕ
-firstPeriod input = firstFailing (unmarkedAt input) 0 (recordCount input)
+firstPeriod input = firstFailing (marksAre false Short input) 0 (wholeRecords Short input)
 
 unfoldable pub contractLength : List ℕ → ℕ
-contractLength input = cond (eqb (firstPeriod input) (recordCount input)) (length input) (periodBytes * firstPeriod input)
+contractLength input = cond (eqb (firstPeriod input) (wholeRecords Short input)) (length input) (periodBytes Short * firstPeriod input)
 
 abbrev pub contractOf : List ℕ → List ℕ
 contractOf input = take (contractLength input) input

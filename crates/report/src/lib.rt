@@ -3,8 +3,7 @@ ghost use mathlib.Core.Path.{_≡_};
 ghost use Prim.Native.Nat.{_+_, _*_, _≤_, _<_};
 ghost use lib.ListN.{length};
 ghost use Rattle.records.specs.Verdicts.{Verdict, verdictNumber, verdictName};
-ghost use Rattle.records.specs.Refusals.{firstFailing};
-ghost use Rattle.periods.specs.Limits.{periodBytes};
+ghost use Rattle.periods.specs.Traces.{periodRecords};
 ghost use Rattle.layout.specs.Limits.{maxRows};
 ghost use Rattle.states.specs.Limits.{headBytes};
 ghost use Rattle.reader.specs.Limits.{maxRecords};
@@ -12,23 +11,25 @@ ghost use Rattle.reader.specs.Reader.{read};
 ghost use Rattle.image.specs.Widths.{bufferBytes};
 ghost use Rattle.report.specs.Limits.{inputBytes, nameBytes, lineBytes, textBytes};
 ghost use Rattle.report.specs.Texts.{ascii, decimal, periodLine, decidedLine, refusedLine, Puts};
-ghost use Rattle.report.specs.Split.{unmarkedAt, contractLength, contractOf, traceOf};
+ghost use Rattle.report.specs.Split.{contractLength, contractOf, traceOf};
 ghost use Rattle.report.specs.Reports.{onContract, report};
 ghost use Rattle.report.specs.Putting.{Compiling, Stepping, Listing, Listed, Following, Followed};
+use periods::Form;
+use records::Fault;
 use records::Test;
 
 // The most bytes of an input.
 pub const INPUT_BYTES: usize = 65520;
-
-// The refusal of a longer one.
-const TOO_LONG: u64 = 13;
 
 // The image buffer for a contract of 64 records, a state for as many rows as an image can have, and room for a line for each period and one more.
 pub const IMAGE_BYTES: usize = layout::ROW_BYTES * (layout::MAX_ROWS + 1);
 
 pub const STATE_BYTES: usize = states::HEAD_BYTES + layout::MAX_ROWS;
 
-pub const TEXT_BYTES: usize = LINE_BYTES * (INPUT_BYTES / periods::PERIOD_BYTES + 1);
+pub const TEXT_BYTES: usize = LINE_BYTES * (INPUT_PERIODS + 1);
+
+// The most period records of an input.
+const INPUT_PERIODS: usize = INPUT_BYTES / periods::SHORT_BYTES;
 
 // The most bytes of a line.
 const LINE_BYTES: usize = 21;
@@ -118,31 +119,16 @@ fn put_refused(text: &mut [u8], number: u64, place: u64) -> usize
 
 // ---- the input's parts
 
-// The first of n times six bytes with a period record's mark, or n.
-fn first_period(input: &[u8], n: usize) -> usize
-    requires { ⌜ periodBytes * n ≤ length (now input) ⌝ }
-    ensures { λ r. ⌜ r ≡ firstFailing (unmarkedAt (now (input .entry))) 0 n ⌝ }
-{
-    let mut k = 0;
-    while k < n {
-        if records::period_marked(input, periods::PERIOD_BYTES * k) {
-            return k;
-        }
-        k += 1;
-    }
-    k
-}
-
 // How many bytes of the input are the contract; the rest is the trace.
 fn contract_length(input: &[u8]) -> usize
     ensures { λ r. ⌜ r ≡ contractLength (now (input .entry)) ⌝ }
 {
-    let n = periods::record_count(input);
-    let k = first_period(input, n);
+    let n = periods::whole_records(Form::Short, input);
+    let k = periods::first_other(Form::Short, input, n, false);
     if k == n {
         return input.len();
     }
-    periods::PERIOD_BYTES * k
+    periods::period_bytes(Form::Short) * k
 }
 
 // ---- compile and step, with their replies' fields
@@ -156,7 +142,7 @@ pub struct Compiled {
 fn compile(contract: &[u8], image: &mut [u8]) -> Compiled
     ensures { λ r. ⌜ Compiling (now (contract .entry)) (now (image .entry)) (now (image .exit)) r ⌝ }
 {
-    let mut reply = [0u8; 16];
+    let mut reply = [0u8; compiler::COMPILE_REPLY_BYTES];
     compiler::monitor_compile(contract, image, &mut reply);
     Compiled {
         number: records::get4(&reply, 0),
@@ -173,21 +159,17 @@ pub struct Stepped {
 
 // A step on record k of a trace.
 fn step(image: &[u8], state: &mut [u8], trace: &[u8], k: usize) -> Stepped
-    requires { ⌜ periodBytes * k + periodBytes ≤ length (now trace) ⌝ }
+    requires { ⌜ k < periodRecords (now trace) ⌝ }
     ensures { λ r. ⌜ Stepping (now (image .entry)) (now (state .entry)) (now (trace .entry)) k (now (state .exit)) r ⌝ }
 {
-    let from = periods::PERIOD_BYTES * k;
-    let mut reply = [0u8; 24];
-    runner::monitor_step(
-        image,
-        state,
-        &trace[from..from + periods::PERIOD_BYTES],
-        &mut reply,
-    );
+    let bytes = periods::period_bytes(periods::form_of(trace));
+    let from = bytes * k;
+    let mut reply = [0u8; runner::STEP_REPLY_BYTES];
+    runner::monitor_step(image, state, &trace[from..from + bytes], &mut reply);
     Stepped {
         verdict: records::get4(&reply, 4),
-        blame: records::get4(&reply, 16),
-        decision: records::get4(&reply, 20),
+        blame: records::get4(&reply, records::REPLY_HEAD),
+        decision: records::get4(&reply, records::REPLY_HEAD + 4),
     }
 }
 
@@ -215,9 +197,9 @@ fn follow(image: &[u8], state: &mut [u8], trace: &[u8], text: &mut [u8]) -> usiz
     requires { ⌜ Following (now image) (now state) (now trace) (now text) ⌝ }
     ensures { λ r. ⌜ Followed (now (image .entry)) (now (trace .entry)) (now (text .entry)) (now (text .exit)) r ⌝ }
 {
-    let mut reply = [0u8; 16];
+    let mut reply = [0u8; runner::BEGIN_REPLY_BYTES];
     runner::monitor_begin(image, state, &mut reply);
-    put_lines(image, state, trace, periods::record_count(trace), text)
+    put_lines(image, state, trace, periods::period_records(trace), text)
 }
 
 // Puts the report of an input of at most INPUT_BYTES.
@@ -260,7 +242,7 @@ pub fn put_report(
     ensures { λ r. ⌜ Puts (now (text .entry)) 0 (report (now (input .entry))) (now (text .exit)) r ⌝ }
 {
     if input.len() > INPUT_BYTES {
-        return put_refused(text, TOO_LONG, 0);
+        return put_refused(text, records::fault_number(Fault::LongInput) as u64, 0);
     }
     put_parts(input, image, state, text)
 }

@@ -1,28 +1,27 @@
 -- What passed tests of step and run show. Document 01, "Replies that refuse".
--- Assumes nothing.
 use Prim.Native.Nat.{ℕ, _-_, _≤_, _<_}
 use native.Mathlib.Omega.{arith}
 use mathlib.Core.Path.{_≡_}
 use mathlib.Core.Bool.{true}
-use mathlib.Core.List.{List}
+use mathlib.Core.List.{List, _++_}
 use lib.Dec.{eqb}
 use lib.ListN.{length}
 use borrow.Author.Tests.{eqb-true}
 use Rattle.records.specs.declared.Test.{Test}
-use Rattle.records.specs.declared.Test.the-variants.{Passed, BadPeriod}
-use Rattle.records.specs.Refusals.{firstOf, require}
-use Rattle.records.proofs.Refusals.{first-passed, require-passed, period-refused}
-use Rattle.periods.specs.Limits.{periodBytes}
-use Rattle.periods.specs.Traces.{recordCount, markedAt, marksTest, recordTest, traceTest}
-use Rattle.periods.proofs.Traces.{trace-marks}
+use Rattle.records.specs.declared.Test.the-variants.{Passed}
+use Rattle.records.specs.Refusals.{firstOf, onlyFor}
+use Rattle.records.proofs.Refusals.{first-passed, only-append}
+use Rattle.periods.specs.Traces.{periodRecords, markedAt, recordTest, traceTest, periodFaults}
+use Rattle.periods.proofs.Traces.{trace-marks, record-one, record-only, trace-only}
 use Rattle.layout.specs.Images.{rowCount}
-use Rattle.layout.specs.Refusals.{imageTest}
+use Rattle.layout.specs.Refusals.{imageTest, imageFaults}
+use Rattle.layout.proofs.Images.{image-only}
 use Rattle.states.specs.Limits.{headBytes}
 use Rattle.states.specs.States.{stateOf, sound}
-use Rattle.states.specs.Refusals.{stateTest, countTest}
-use Rattle.states.proofs.Refusals.{state-passed, passed-count}
+use Rattle.states.specs.Refusals.{stateLengthTest, stateTest, countTest, stateFaults, countFaults}
+use Rattle.states.proofs.Refusals.{state-passed, passed-count, length-only, state-only, count-only}
 use Rattle.machine.specs.Premises.{Ready}
-use Rattle.runner.specs.Refusals.{readyTest, stepTest, runTest}
+use Rattle.runner.specs.Refusals.{beginTest, readyTest, stepTest, runTest, beginFaults, stepFaults}
 
 pub ready-passed : (image state : List ℕ) → readyTest image state ≡ Passed → (imageTest image ≡ Passed) × (stateTest (rowCount image) state ≡ Passed)
 unfolding readyTest
@@ -46,16 +45,38 @@ pub step-ready : (image state period : List ℕ) → stepTest image state period
 unfolding stepTest
 step-ready image state period e = tests-ready image state (recordTest period) 1 e .0
 
-pub step-length : (image state period : List ℕ) → stepTest image state period ≡ Passed → length period ≡ periodBytes
-unfolding stepTest recordTest
-step-length image state period e =
-    let t = first-passed (require (eqb (length period) periodBytes) (BadPeriod 0)) (marksTest period) (tests-ready image state (recordTest period) 1 e .1) in
-    eqb-true (length period) periodBytes (require-passed (eqb (length period) periodBytes) (BadPeriod 0) (period-refused 0) (t .0))
+pub step-record : (image state period : List ℕ) → stepTest image state period ≡ Passed → periodRecords period ≡ 1
+unfolding stepTest
+step-record image state period e = record-one period (tests-ready image state (recordTest period) 1 e .1)
 
-pub run-ready : (image state trace : List ℕ) → runTest image state trace ≡ Passed → Ready image state (recordCount trace)
+pub run-ready : (image state trace : List ℕ) → runTest image state trace ≡ Passed → Ready image state (periodRecords trace)
 unfolding runTest
-run-ready image state trace e = tests-ready image state (traceTest trace) (recordCount trace) e .0
+run-ready image state trace e = tests-ready image state (traceTest trace) (periodRecords trace) e .0
 
-pub run-marks : (image state trace : List ℕ) → runTest image state trace ≡ Passed → (i : ℕ) → i < recordCount trace → markedAt trace i ≡ true
+pub run-marks : (image state trace : List ℕ) → runTest image state trace ≡ Passed → (i : ℕ) → i < periodRecords trace → markedAt trace i ≡ true
 unfolding runTest
-run-marks image state trace e = trace-marks trace (tests-ready image state (traceTest trace) (recordCount trace) e .1)
+run-marks image state trace e = trace-marks trace (tests-ready image state (traceTest trace) (periodRecords trace) e .1)
+
+-- ---- no other faults are given
+
+pub begin-only : (image state : List ℕ) → onlyFor beginFaults (beginTest image state) ≡ true
+unfolding beginTest
+begin-only image state =
+    only-append imageFaults stateFaults (imageTest image) (stateLengthTest (rowCount image) state) (image-only image) (length-only (rowCount image) state)
+
+-- the image, the state, then records with this test, then their count
+tests-only : (image state : List ℕ) (t : Test) (n : ℕ) → onlyFor periodFaults t ≡ true
+    → onlyFor stepFaults (firstOf (readyTest image state) (firstOf t (countTest (stateOf state) n))) ≡ true
+unfolding readyTest
+tests-only image state t n h =
+    only-append (imageFaults ++ stateFaults) (periodFaults ++ countFaults) (readyTest image state) (firstOf t (countTest (stateOf state) n))
+    (only-append imageFaults stateFaults (imageTest image) (stateTest (rowCount image) state) (image-only image) (state-only (rowCount image) state))
+    (only-append periodFaults countFaults t (countTest (stateOf state) n) h (count-only (stateOf state) n))
+
+pub step-only : (image state period : List ℕ) → onlyFor stepFaults (stepTest image state period) ≡ true
+unfolding stepTest
+step-only image state period = tests-only image state (recordTest period) 1 (record-only period)
+
+pub run-only : (image state trace : List ℕ) → onlyFor stepFaults (runTest image state trace) ≡ true
+unfolding runTest
+run-only image state trace = tests-only image state (traceTest trace) (periodRecords trace) (trace-only trace)

@@ -1,7 +1,6 @@
 -- A run ends as the steps of its records do. A refused one is refused as every step is, by the image or the state; at 0, by a length
 -- that leaves a record cut; or at the record whose step is refused first, except that a wrong mark anywhere (11) goes before the count
 -- (12).
--- Assumes nothing.
 use Prim.Native.Nat.{ℕ, zero, suc, _+_, _*_, _-_, _%_, _≤_, _<_}
 use native.Mathlib.Numerals.{add-one}
 use native.Mathlib.Omega.{arith}
@@ -9,18 +8,20 @@ use mathlib.Core.Bool.{true, false, cond}
 use mathlib.Core.List.{List, [], _∷_, _++_}
 use mathlib.Core.Logic.{_⊎_, ⊎-elim}
 use mathlib.Core.Path.{_≡_, refl, sym, ap, _∙_}
-use borrow.Author.Tests.{le-leb, lt-ltb, eq-eqb, ne-eqb}
+use borrow.Author.Tests.{le-leb, lt-leb, eq-eqb, ne-eqb}
 use lib.ListN.{length}
 use lib.Seq.{sets}
 use Rattle.records.specs.Fields.{AllBytes}
-use Rattle.records.specs.declared.Test.the-variants.{Passed, BadPeriod, FullCount}
+use Rattle.records.specs.declared.Fault.the-variants.{BadPeriod, FullCount}
+use Rattle.records.specs.declared.Test.the-variants.{Passed, Refused}
 use Rattle.records.specs.Refusals.{numberOf}
 use Rattle.records.proofs.Numbers.{lt-or-le}
 use Rattle.records.proofs.Fields.{field-lt}
-use Rattle.records.proofs.Refusals.{failing-is, all-pass, first-refused, number-passed}
-use Rattle.periods.specs.Limits.{periodBytes}
-use Rattle.periods.specs.Periods.{periodAt}
-use Rattle.periods.specs.Traces.{recordCount, markedAt, marksTest, recordTest, traceTest, periodsOf, recordAt}
+use Rattle.records.proofs.Refusals.{failing-is, all-pass, first-refused}
+use Rattle.records.specs.Replies.{fieldsBytes, After}
+use Rattle.records.proofs.Replies.{call-no-room, call-passed, call-refused}
+use Rattle.periods.specs.Forms.{periodBytes, formOf}
+use Rattle.periods.specs.Traces.{periodRecords, periodAt, markedAt, marksTest, recordTest, traceTest, periodsOf, recordAt}
 use Rattle.periods.proofs.Traces.{length-periodsOf, record-period, record-test, record-refused}
 use Rattle.layout.specs.Images.{imageOf}
 use Rattle.states.specs.Limits.{maxPeriods}
@@ -33,10 +34,9 @@ use Rattle.machine.specs.Premises.{Ready}
 use Rattle.machine.proofs.Machine.{after-snoc, periods-afterPeriods}
 use Rattle.machine.proofs.Steps.{ready-long, later-read, later-ready}
 use Rattle.runner.specs.Refusals.{readyTest, stepTest, runTest}
-use Rattle.runner.specs.Calls.{stepReplyBytes, answer, After, step, run}
+use Rattle.runner.specs.Calls.{stepReplyBytes, answer, step, run}
 use Rattle.runner.specs.StepCalls.{StepCall, accepted, stateAfterCall, stateAfter, acceptedCount, callsOf, EndsAsSteps, RefusedAt}
 use Rattle.runner.proofs.Refusals.{ready-passed, run-ready, run-marks}
-use Rattle.runner.proofs.Calls.{call-no-room, call-passed, call-refused}
 use Rattle.runner.proofs.StepCalls.{accepted-step, taken-step}
 
 -- ---- steps that are accepted, and steps that are refused
@@ -46,11 +46,11 @@ module _ (image l : List ℕ) where
   unfolding stepTest readyTest
   step-passes h r t = rw (h .good, h .sound, t) (passes-count (stateOf l) 1 (h .room))
 
-  step-refuses : {n : ℕ} → Ready image l n → (r : List ℕ) → recordTest r ≡ BadPeriod 0 → stepTest image l r ≡ BadPeriod 0
+  step-refuses : {n : ℕ} → Ready image l n → (r : List ℕ) → recordTest r ≡ Refused BadPeriod 0 → stepTest image l r ≡ Refused BadPeriod 0
   unfolding stepTest readyTest
   step-refuses h r t = rw (h .good, h .sound, t)
 
-  step-full : Ready image l 0 → stateOf l .periods ≡ maxPeriods → (r : List ℕ) → recordTest r ≡ Passed → stepTest image l r ≡ FullCount 0
+  step-full : Ready image l 0 → stateOf l .periods ≡ maxPeriods → (r : List ℕ) → recordTest r ≡ Passed → stepTest image l r ≡ Refused FullCount 0
   unfolding stepTest readyTest countTest
   step-full h e r t = rw (h .good, h .sound, t, e)
 
@@ -85,7 +85,7 @@ pub record Accepts (image state trace reply : List ℕ) (k : ℕ) : Type 0 where
 
 module _ (image state trace reply : List ℕ) (n : ℕ) (h : Ready image state n) (b : AllBytes state) (r : stepReplyBytes ≤ length reply) where
   -- the step after k periods is accepted with a marked record
-  next-accepted : (k : ℕ) → suc k ≤ n → periodBytes * k + periodBytes ≤ length trace → markedAt trace k ≡ true
+  next-accepted : (k : ℕ) → suc k ≤ n → k < periodRecords trace → markedAt trace k ≡ true
       → accepted image (stateBytes (afterPeriods (imageOf image) (stateOf state) (periodsOf trace k))) (record { period = recordAt trace k; reply = reply }) ≡ true
   next-accepted k i f m =
       let w = periodsOf trace k in
@@ -94,7 +94,7 @@ module _ (image state trace reply : List ℕ) (n : ℕ) (h : Ready image state n
       step-accepts image l (ready-less image l 1 (n - length w) (omega arith) (later-ready image state n h w (omega arith)))
       (record { period = recordAt trace k; reply = reply }) r (record-test trace k f m)
 
-  pub accepts : (k : ℕ) → k ≤ n → periodBytes * k ≤ length trace → ((i : ℕ) → i < k → markedAt trace i ≡ true) → Accepts image state trace reply k
+  pub accepts : (k : ℕ) → k ≤ n → k ≤ periodRecords trace → ((i : ℕ) → i < k → markedAt trace i ≡ true) → Accepts image state trace reply k
   unfolding callsOf periodsOf afterPeriods acceptedCount stateAfter
   accepts zero i j m = record { all = refl; leaves = sym (stateBytes-stateOf state b (omega (arith, ready-long image state n h))) }
   accepts (suc k) i j m =
@@ -103,19 +103,19 @@ module _ (image state trace reply : List ℕ) (n : ℕ) (h : Ready image state n
       let l = stateBytes (afterPeriods (imageOf image) (stateOf state) w) in
       let c : StepCall = record { period = recordAt trace k; reply = reply } in
       let before = accepts k (omega arith) (omega arith) (λ x y. m x (omega arith)) in
-      let f : periodBytes * k + periodBytes ≤ length trace = omega arith in
+      let f : k < periodRecords trace = omega arith in
       let next = next-accepted k i f (m k (omega arith)) in
       record {
         all = count-last image state (callsOf trace reply k) c ∙ rw (before .all, before .leaves, next) (add-one k);
         leaves = after-last image state (callsOf trace reply k) c
             ∙ rw (before .leaves, taken-step image l c next, later-read image state n h w (omega arith), record-period trace k f)
-            (ap stateBytes (sym (after-snoc (imageOf image) (stateOf state) w (periodAt trace (periodBytes * k)))));
+            (ap stateBytes (sym (after-snoc (imageOf image) (stateOf state) w (periodAt trace k))));
       }
 
   -- the next step's reply
-  pub next-reply : (k : ℕ) → suc k ≤ n → periodBytes * suc k ≤ length trace → ((i : ℕ) → i < suc k → markedAt trace i ≡ true)
+  pub next-reply : (k : ℕ) → suc k ≤ n → k < periodRecords trace → ((i : ℕ) → i < suc k → markedAt trace i ≡ true)
       → step image (stateAfter image state (callsOf trace reply k)) (recordAt trace k) reply .reply
-      ≡ sets reply 0 (answer (afterPeriods (imageOf image) (stateOf state) (periodsOf trace (suc k))))
+      ≡ sets reply 0 (fieldsBytes (answer (afterPeriods (imageOf image) (stateOf state) (periodsOf trace (suc k)))))
   unfolding periodsOf
   next-reply k i j m =
       let w = periodsOf trace k in
@@ -123,38 +123,38 @@ module _ (image state trace reply : List ℕ) (n : ℕ) (h : Ready image state n
       let l = stateBytes (afterPeriods (imageOf image) (stateOf state) w) in
       let c : StepCall = record { period = recordAt trace k; reply = reply } in
       let before = accepts k (omega arith) (omega arith) (λ x y. m x (omega arith)) in
-      let f : periodBytes * k + periodBytes ≤ length trace = omega arith in
-      rw (before .leaves, after-snoc (imageOf image) (stateOf state) w (periodAt trace (periodBytes * k)), ← record-period trace k f)
+      let f : k < periodRecords trace = omega arith in
+      rw (before .leaves, after-snoc (imageOf image) (stateOf state) w (periodAt trace k), ← record-period trace k f)
       (rw (later-read image state n h w (omega arith)) at
-      (ap (λ (x : After). x .reply) (accepted-step image l c (next-accepted k i f (m k (omega arith))))))
+      (ap (λ (x : After (List ℕ)). x .reply) (accepted-step image l c (next-accepted k i f (m k (omega arith))))))
 
 -- ---- a run
 
 module _ (image state trace reply : List ℕ) (b : AllBytes state) (r : stepReplyBytes ≤ length reply) where
   -- an accepted run ends as the steps of its records do
   pub run-ends : runTest image state trace ≡ Passed → EndsAsSteps image state trace reply
-  unfolding run recordCount periodsOf afterPeriods
+  unfolding run periodsOf afterPeriods
   run-ends t =
-      let n = recordCount trace in
+      let n = periodRecords trace in
       let h = run-ready image state trace t in
-      let left = call-passed stepReplyBytes (runTest image state trace) _ _ _ state reply r (ap numberOf t) in
+      let left = call-passed (runTest image state trace) _ _ state _ reply r t in
       let each = accepts image state trace reply n h b r n (omega arith) (omega arith) (run-marks image state trace t) in
       record {
         all = each .all;
-        same-state = ap (λ (x : After). x .state) left ∙ sym (each .leaves);
-        own-answer = λ e. ap (λ (x : After). x .reply) left ∙ rw e;
-        last-reply = λ k e. ap (λ (x : After). x .reply) left ∙ rw e (sym (next-reply image state trace reply n h b r k (omega arith) (omega arith) (λ i j. run-marks image state trace t i (omega arith))));
+        same-state = ap (λ (x : After (List ℕ)). x .lent) left ∙ sym (each .leaves);
+        own-answer = λ e. ap (λ (x : After (List ℕ)). x .reply) left ∙ rw e;
+        last-reply = λ k e. ap (λ (x : After (List ℕ)). x .reply) left ∙ rw e (sym (next-reply image state trace reply n h b r k (omega arith) (omega arith) (λ i j. run-marks image state trace t i (omega arith))));
       }
 
 -- ---- a refused run
 
 -- it leaves the state as it was
-pub run-keeps : (image state trace reply : List ℕ) → ¬ (runTest image state trace ≡ Passed) → run image state trace reply .state ≡ state
+pub run-keeps : (image state trace reply : List ℕ) → ¬ (runTest image state trace ≡ Passed) → run image state trace reply .lent ≡ state
 unfolding run
 run-keeps image state trace reply h =
     let t = runTest image state trace in
-    ⊎-elim (λ n. ap (λ (x : After). x .state) (call-no-room stepReplyBytes t _ _ _ state reply n))
-    (λ n. ap (λ (x : After). x .state) (call-refused stepReplyBytes t _ _ _ state reply n (λ e. h (number-passed t e))))
+    ⊎-elim (λ n. ap (λ (x : After (List ℕ)). x .lent) (call-no-room t _ _ state _ reply n))
+    (λ n. ap (λ (x : After (List ℕ)). x .lent) (call-refused t _ _ state _ reply n h))
     (lt-or-le (length reply) stepReplyBytes)
 
 small-periods : (state : List ℕ) → AllBytes state → stateOf state .periods ≤ maxPeriods
@@ -169,26 +169,25 @@ refused-ready image state trace period h =
     first-refused (readyTest image state) _ h ∙ sym (first-refused (readyTest image state) _ h)
 
 -- by the length: at 0
-pub refused-length : (image state trace : List ℕ) → readyTest image state ≡ Passed → ¬ (length trace % periodBytes ≡ 0)
-    → runTest image state trace ≡ BadPeriod 0
+pub refused-length : (image state trace : List ℕ) → readyTest image state ≡ Passed → ¬ (length trace % periodBytes (formOf trace) ≡ 0)
+    → runTest image state trace ≡ Refused BadPeriod 0
 unfolding runTest traceTest
-refused-length image state trace h e = rw (h, ne-eqb (length trace % periodBytes) 0 e)
+refused-length image state trace h e = rw (h, ne-eqb (length trace % periodBytes (formOf trace)) 0 e)
 
-module _ (image state trace : List ℕ) (h : readyTest image state ≡ Passed) (e : length trace % periodBytes ≡ 0) where
+module _ (image state trace : List ℕ) (h : readyTest image state ≡ Passed) (e : length trace % periodBytes (formOf trace) ≡ 0) where
   sound-ready : (n : ℕ) → stateOf state .periods + n ≤ maxPeriods → Ready image state n
   sound-ready n l = let p = ready-passed image state h in record { good = p .0; sound = p .1; room = omega arith }
 
   -- by a record's mark: at the first record of another mark, which its step refuses if the count lets the steps before it pass
-  module _ (k : ℕ) (i : k < recordCount trace) (m : (j : ℕ) → j < k → markedAt trace j ≡ true) (bad : markedAt trace k ≡ false) where
-    pub refused-mark : runTest image state trace ≡ BadPeriod k
+  module _ (k : ℕ) (i : k < periodRecords trace) (m : (j : ℕ) → j < k → markedAt trace j ≡ true) (bad : markedAt trace k ≡ false) where
+    pub refused-mark : runTest image state trace ≡ Refused BadPeriod k
     unfolding runTest traceTest marksTest
     refused-mark =
-        let f = failing-is (markedAt trace) (recordCount trace) k i m bad in
-        rw (h, eq-eqb (length trace % periodBytes) 0 e, f, ne-eqb k (recordCount trace) (λ q. omega arith))
+        let f = failing-is (markedAt trace) (periodRecords trace) k i m bad in
+        rw (h, eq-eqb (length trace % periodBytes (formOf trace)) 0 e, f, ne-eqb k (periodRecords trace) (λ q. omega arith))
 
     pub refused-mark-step : (reply : List ℕ) → AllBytes state → stepReplyBytes ≤ length reply → stateOf state .periods + k ≤ maxPeriods
-        → RefusedAt image state trace reply k (BadPeriod 0)
-    unfolding recordCount
+        → RefusedAt image state trace reply k (Refused BadPeriod 0)
     refused-mark-step reply b r l =
         let ready = sound-ready k l in
         let w = periodsOf trace k in
@@ -201,16 +200,15 @@ module _ (image state trace : List ℕ) (h : readyTest image state ≡ Passed) (
         }
 
   -- by the count: at the first record too many, which its step refuses
-  module _ (m : (j : ℕ) → j < recordCount trace → markedAt trace j ≡ true) (l : maxPeriods < stateOf state .periods + recordCount trace) where
-    pub refused-count : runTest image state trace ≡ FullCount (maxPeriods - stateOf state .periods)
+  module _ (m : (j : ℕ) → j < periodRecords trace → markedAt trace j ≡ true) (l : maxPeriods < stateOf state .periods + periodRecords trace) where
+    pub refused-count : runTest image state trace ≡ Refused FullCount (maxPeriods - stateOf state .periods)
     unfolding runTest traceTest marksTest countTest
     refused-count =
-        let n = recordCount trace in
-        rw (h, eq-eqb (length trace % periodBytes) 0 e, all-pass (markedAt trace) n m, eq-eqb n n refl, lt-ltb maxPeriods (stateOf state .periods + n) l)
+        let n = periodRecords trace in
+        rw (h, eq-eqb (length trace % periodBytes (formOf trace)) 0 e, all-pass (markedAt trace) n m, eq-eqb n n refl, lt-leb (stateOf state .periods + n) maxPeriods l)
 
     pub refused-count-step : (reply : List ℕ) → AllBytes state → stepReplyBytes ≤ length reply
-        → RefusedAt image state trace reply (maxPeriods - stateOf state .periods) (FullCount 0)
-    unfolding recordCount
+        → RefusedAt image state trace reply (maxPeriods - stateOf state .periods) (Refused FullCount 0)
     refused-count-step reply b r =
         let small = small-periods state b in
         let k = maxPeriods - stateOf state .periods in

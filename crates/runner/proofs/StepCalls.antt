@@ -1,6 +1,5 @@
 -- What step calls do to a state, one after the other: a refused call leaves it as it was, an accepted one counts a period and
 -- leaves a sound state of the same length, and a decision never changes. Begin's state is sound.
--- Assumes nothing.
 use Prim.Native.Nat.{ℕ, _+_, _≤_}
 use native.Mathlib.Nat.{add-zero, add-assoc}
 use native.Mathlib.Omega.{arith}
@@ -11,11 +10,14 @@ use mathlib.Core.Path.{_≡_, refl, sym, ap, _∙_}
 use borrow.Author.Tests.{leb-true, eqb-true, eqb-false, le-leb}
 use lib.Dec.{eqb, leb}
 use lib.ListN.{length, replicate}
-use Rattle.records.specs.declared.Test.the-variants.{Passed, BadState}
+use Rattle.records.specs.declared.Fault.the-variants.{BadState}
+use Rattle.records.specs.declared.Test.the-variants.{Passed}
 use Rattle.records.specs.Refusals.{numberOf}
 use Rattle.records.proofs.Numbers.{lt-or-le}
-use Rattle.records.proofs.Refusals.{true-or-false, first-passed, passed-first, require-passed, state-refused, number-passed}
-use Rattle.periods.specs.Periods.{periodAt}
+use Rattle.records.proofs.Refusals.{true-or-false, first-passed, passed-first, require-passed, number-passed}
+use Rattle.records.specs.Replies.{After, written}
+use Rattle.records.proofs.Replies.{call-no-room, call-passed, call-refused}
+use Rattle.periods.specs.Traces.{periodAt}
 use Rattle.layout.specs.Images.{rowCount, imageOf}
 use Rattle.layout.specs.Refusals.{imageTest}
 use Rattle.states.specs.Limits.{headBytes}
@@ -29,10 +31,9 @@ use Rattle.machine.specs.Premises.{Ready}
 use Rattle.machine.proofs.Machine.{SameDecision, stays-decided, periods-after}
 use Rattle.machine.proofs.Steps.{later-ready, step-read}
 use Rattle.runner.specs.Refusals.{beginTest, readyTest, stepTest}
-use Rattle.runner.specs.Calls.{beginReply, beginReplyBytes, stepReplyBytes, answer, After, written, begin, step}
+use Rattle.runner.specs.Calls.{beginReply, beginReplyBytes, stepReplyBytes, answer, begin, step}
 use Rattle.runner.specs.StepCalls.{StepCall, accepted, stateAfterCall, stateAfter, acceptedCount}
 use Rattle.runner.proofs.Refusals.{ready-passed, step-ready}
-use Rattle.runner.proofs.Calls.{call-no-room, call-passed, call-refused}
 
 -- ---- one call
 
@@ -57,23 +58,23 @@ module _ (image state : List ℕ) (c : StepCall) where
       (answer (afterPeriod (imageOf image) (periodAt (c .period) 0) (stateOf state)))
   unfolding step
   accepted-step e =
-      call-passed stepReplyBytes (stepTest image state (c .period)) _ _ _ state (c .reply) (accepted-room e) (ap numberOf (accepted-passed e))
+      call-passed (stepTest image state (c .period)) _ _ state _ (c .reply) (accepted-room e) (accepted-passed e)
 
   -- a refused call leaves the state as it was
   pub refused-step : accepted image state c ≡ false → stateAfterCall image state c ≡ state
   unfolding accepted stateAfterCall step
   refused-step e =
       let t = stepTest image state (c .period) in
-      let keeps : (left : After) → step image state (c .period) (c .reply) ≡ left → left .state ≡ state → step image state (c .period) (c .reply) .state ≡ state
-      = λ left q k. ap (λ (x : After). x .state) q ∙ k in
-      ⊎-elim (λ h. keeps _ (call-no-room stepReplyBytes t _ _ _ state (c .reply) h) refl)
-      (λ h. keeps _ (call-refused stepReplyBytes t _ _ _ state (c .reply) h (eqb-false (numberOf t) 0 (rw (le-leb stepReplyBytes (length (c .reply)) h) at e))) refl)
+      let keeps : (left : After (List ℕ)) → step image state (c .period) (c .reply) ≡ left → left .lent ≡ state → step image state (c .period) (c .reply) .lent ≡ state
+      = λ left q k. ap (λ (x : After (List ℕ)). x .lent) q ∙ k in
+      ⊎-elim (λ h. keeps _ (call-no-room t _ _ state _ (c .reply) h) refl)
+      (λ h. keeps _ (call-refused t _ _ state _ (c .reply) h (λ p. eqb-false (numberOf t) 0 (rw (le-leb stepReplyBytes (length (c .reply)) h) at e) (ap numberOf p))) refl)
       (lt-or-le (length (c .reply)) stepReplyBytes)
 
   -- an accepted call leaves the state's bytes of the period after
   pub taken-step : accepted image state c ≡ true → stateAfterCall image state c ≡ stateBytes (afterPeriod (imageOf image) (periodAt (c .period) 0) (stateOf state))
   unfolding stateAfterCall
-  taken-step e = ap (λ (x : After). x .state) (accepted-step e)
+  taken-step e = ap (λ (x : After (List ℕ)). x .lent) (accepted-step e)
 
   pub taken-read : accepted image state c ≡ true → stateOf (stateAfterCall image state c) ≡ afterPeriod (imageOf image) (periodAt (c .period) 0) (stateOf state)
   taken-read e = rw (taken-step e) (step-read image state (step-ready image state (c .period) (accepted-passed e)) (periodAt (c .period) 0))
@@ -152,17 +153,17 @@ module _ (image state reply : List ℕ) (r : beginReplyBytes ≤ length reply) (
   begun =
       let b = first-passed (imageTest image) (stateLengthTest (rowCount image) state) h in
       let n = headBytes + rowCount image in
-      (b .0, eqb-true (length state) n (require-passed (eqb (length state) n) BadState state-refused (b .1)))
+      (b .0, eqb-true (length state) n (require-passed (eqb (length state) n) BadState 0 (b .1)))
 
   pub begin-written : begin image state reply ≡ written (replicate (length state) 0) reply (beginReply Passed)
   unfolding begin
-  begin-written = call-passed beginReplyBytes (beginTest image state) _ _ _ state reply r (ap numberOf h) ∙ rw h
+  begin-written = call-passed (beginTest image state) _ _ state _ reply r h
 
-  pub begin-state : begin image state reply .state ≡ stateBytes (freshState (rowCount image))
-  begin-state = ap (λ (x : After). x .state) begin-written ∙ rw (begun .1) (fresh-bytes (rowCount image))
+  pub begin-state : begin image state reply .lent ≡ stateBytes (freshState (rowCount image))
+  begin-state = ap (λ (x : After (List ℕ)). x .lent) begin-written ∙ rw (begun .1) (fresh-bytes (rowCount image))
 
-  pub begin-sound : readyTest image (begin image state reply .state) ≡ Passed
+  pub begin-sound : readyTest image (begin image state reply .lent) ≡ Passed
   unfolding readyTest
   begin-sound =
-      passed-first (imageTest image) (stateTest (rowCount image) (begin image state reply .state)) (begun .0)
+      passed-first (imageTest image) (stateTest (rowCount image) (begin image state reply .lent)) (begun .0)
       (rw begin-state (sound-passes (rowCount image) (freshState (rowCount image)) (fresh-sound (rowCount image)) (omega arith)))

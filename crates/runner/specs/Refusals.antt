@@ -1,13 +1,14 @@
 -- The tests of begin, step and run, in their order. Document 01, "Replies that refuse".
 use Prim.Native.Nat.{ℕ}
-use mathlib.Core.List.{List}
+use mathlib.Core.List.{List, _++_}
+use Rattle.records.specs.declared.Fault.{Fault}
 use Rattle.records.specs.declared.Test.{Test}
 use Rattle.records.specs.Refusals.{firstOf}
-use Rattle.periods.specs.Traces.{recordTest, traceTest, recordCount}
+use Rattle.periods.specs.Traces.{periodRecords, recordTest, traceTest, periodFaults}
 use Rattle.layout.specs.Images.{rowCount}
-use Rattle.layout.specs.Refusals.{imageTest}
+use Rattle.layout.specs.Refusals.{imageTest, imageFaults}
 use Rattle.states.specs.States.{stateOf}
-use Rattle.states.specs.Refusals.{stateTest, countTest, stateLengthTest}
+use Rattle.states.specs.Refusals.{stateLengthTest, stateTest, countTest, stateFaults, countFaults}
 
 unfoldable pub beginTest : List ℕ → List ℕ → Test
 beginTest image state = firstOf (imageTest image) (stateLengthTest (rowCount image) state)
@@ -22,4 +23,11 @@ stepTest image state period =
 
 unfoldable pub runTest : List ℕ → List ℕ → List ℕ → Test
 runTest image state trace =
-    firstOf (readyTest image state) (firstOf (traceTest trace) (countTest (stateOf state) (recordCount trace)))
+    firstOf (readyTest image state) (firstOf (traceTest trace) (countTest (stateOf state) (periodRecords trace)))
+
+-- the faults that these tests can give
+abbrev pub beginFaults : List Fault
+beginFaults = imageFaults ++ stateFaults
+
+abbrev pub stepFaults : List Fault
+stepFaults = (imageFaults ++ stateFaults) ++ (periodFaults ++ countFaults)

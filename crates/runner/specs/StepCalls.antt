@@ -9,7 +9,8 @@ use lib.ListN.{length}
 use lib.Seq.{sets}
 use Rattle.records.specs.declared.Test.{Test}
 use Rattle.records.specs.Refusals.{numberOf}
-use Rattle.periods.specs.Traces.{recordCount, recordAt}
+use Rattle.records.specs.Replies.{fieldsBytes}
+use Rattle.periods.specs.Traces.{periodRecords, recordAt}
 use Rattle.states.specs.States.{stateOf}
 use Rattle.runner.specs.Refusals.{stepTest}
 use Rattle.runner.specs.Calls.{answer, stepReplyBytes, step, run}
@@ -25,7 +26,7 @@ accepted image state c = leb stepReplyBytes (length (c .reply)) && eqb (numberOf
 
 -- the state that a call leaves, and the state that a list of calls leaves
 unfoldable pub stateAfterCall : (image state : List ℕ) → StepCall → List ℕ
-stateAfterCall image state c = step image state (c .period) (c .reply) .state
+stateAfterCall image state c = step image state (c .period) (c .reply) .lent
 
 unfoldable pub stateAfter : (image state : List ℕ) → List StepCall → List ℕ
 stateAfter image state [] = state
@@ -45,10 +46,10 @@ callsOf trace reply (suc n) = callsOf trace reply n ++ (record { period = record
 -- A run ends as the steps of its records do: each of them is accepted, the state is the one that they leave, and the reply is the
 -- last one's, or the state's own answer where there is none.
 pub record EndsAsSteps (image state trace reply : List ℕ) : Type 0 where
-  pub all : acceptedCount image state (callsOf trace reply (recordCount trace)) ≡ recordCount trace
-  pub same-state : run image state trace reply .state ≡ stateAfter image state (callsOf trace reply (recordCount trace))
-  pub own-answer : recordCount trace ≡ 0 → run image state trace reply .reply ≡ sets reply 0 (answer (stateOf state))
-  pub last-reply : (k : ℕ) → recordCount trace ≡ suc k
+  pub all : acceptedCount image state (callsOf trace reply (periodRecords trace)) ≡ periodRecords trace
+  pub same-state : run image state trace reply .lent ≡ stateAfter image state (callsOf trace reply (periodRecords trace))
+  pub own-answer : periodRecords trace ≡ 0 → run image state trace reply .reply ≡ sets reply 0 (fieldsBytes (answer (stateOf state)))
+  pub last-reply : (k : ℕ) → periodRecords trace ≡ suc k
       → run image state trace reply .reply ≡ step image (stateAfter image state (callsOf trace reply k)) (recordAt trace k) reply .reply
 
 -- the steps of a trace's first k records are accepted, and the next one is refused by this test

@@ -3,17 +3,19 @@ ghost use mathlib.Core.Path.{_≡_};
 ghost use Prim.Native.Nat.{_≤_};
 ghost use lib.ListN.{length, replicate};
 ghost use lib.Seq.{sets};
+ghost use Rattle.records.specs.Replies.{fieldsBytes, Gives};
 ghost use Rattle.states.specs.States.{stateOf};
 ghost use Rattle.states.specs.Premises.{Answering};
 ghost use Rattle.runner.specs.Refusals.{beginTest, readyTest, stepTest, runTest};
-ghost use Rattle.runner.specs.Calls.{beginReply, stepReply, answer, beginReplyBytes, stepReplyBytes, Gives, begin, step, run};
+ghost use Rattle.runner.specs.Calls.{stepReply, answer, stepReplyBytes, begin, step, run};
+use records::Fault;
 use records::Test;
 
-// Begin's reply: number (4 bytes), 0 (4), place (8).
-const BEGIN_REPLY_BYTES: usize = 16;
+// Begin's reply has the first three fields alone.
+pub const BEGIN_REPLY_BYTES: usize = records::REPLY_HEAD;
 
-// Step's and run's: number (4), verdict (4), place (8), blame (4), decision period (4).
-const STEP_REPLY_BYTES: usize = 24;
+// Step's and run's: number (4 bytes), verdict (4), place (8), blame (4), decision period (4).
+pub const STEP_REPLY_BYTES: usize = records::REPLY_HEAD + 8;
 
 // ---- the tests of each call
 
@@ -26,7 +28,7 @@ fn begin_test(image: &[u8], state: &[u8]) -> Test
         return t;
     };
     if state.len() != states::HEAD_BYTES + layout::row_count(image) {
-        return Test::BadState;
+        return Test::Refused(Fault::BadState, 0);
     }
     Test::Passed
 }
@@ -69,37 +71,25 @@ fn run_test(image: &[u8], state: &[u8], trace: &[u8]) -> Test
     let Test::Passed = u else {
         return u;
     };
-    states::count_test(state, periods::record_count(trace))
+    states::count_test(state, periods::period_records(trace))
 }
 
 // ---- replies
 
-// Writes begin's reply, accepted or refused.
-fn put_begin_reply(reply: &mut [u8], t: Test)
-    requires { ⌜ beginReplyBytes ≤ length (now reply) ⌝ }
-    ensures { λ _. ⌜ now (reply .exit) ≡ sets (now (reply .entry)) 0 (beginReply t) ⌝ }
-{
-    records::put4(reply, 0, records::number(t));
-    records::put4(reply, 4, 0);
-    records::put8(reply, 8, records::place(t));
-}
-
 // Writes step's or run's reply.
 fn put_step_reply(reply: &mut [u8], t: Test, verdict: u32, blame: u32, decision: u32)
     requires { ⌜ stepReplyBytes ≤ length (now reply) ⌝ }
-    ensures { λ _. ⌜ now (reply .exit) ≡ sets (now (reply .entry)) 0 (stepReply t verdict blame decision) ⌝ }
+    ensures { λ _. ⌜ now (reply .exit) ≡ sets (now (reply .entry)) 0 (fieldsBytes (stepReply t verdict blame decision)) ⌝ }
 {
-    records::put4(reply, 0, records::number(t));
-    records::put4(reply, 4, verdict);
-    records::put8(reply, 8, records::place(t));
-    records::put4(reply, 16, blame);
-    records::put4(reply, 20, decision);
+    records::put_head(reply, t, verdict);
+    records::put4(reply, records::REPLY_HEAD, blame);
+    records::put4(reply, records::REPLY_HEAD + 4, decision);
 }
 
 // The answer that a state gives.
 fn put_answer(reply: &mut [u8], state: &[u8])
     requires { ⌜ (stepReplyBytes ≤ length (now reply)) × Answering (now state) ⌝ }
-    ensures { λ _. ⌜ now (reply .exit) ≡ sets (now (reply .entry)) 0 (answer (stateOf (now (state .entry)))) ⌝ }
+    ensures { λ _. ⌜ now (reply .exit) ≡ sets (now (reply .entry)) 0 (fieldsBytes (answer (stateOf (now (state .entry))))) ⌝ }
 {
     put_step_reply(
         reply,
@@ -132,10 +122,11 @@ pub extern "C" fn monitor_begin(image: &[u8], state: &mut [u8], reply: &mut [u8]
         return 0;
     }
     let t = begin_test(image, state);
-    put_begin_reply(reply, t);
-    if records::number(t) == 0 {
-        clear(state);
-    }
+    records::put_head(reply, t, 0);
+    let Test::Passed = t else {
+        return 1;
+    };
+    clear(state);
     1
 }
 
@@ -153,10 +144,10 @@ pub extern "C" fn monitor_step(
         return 0;
     }
     let t = step_test(image, state, period);
-    if records::number(t) != 0 {
+    let Test::Passed = t else {
         put_step_reply(reply, t, 0, 0, 0);
         return 1;
-    }
+    };
     machine::take_periods(image, state, period, 1);
     put_answer(reply, state);
     1
@@ -171,11 +162,11 @@ pub extern "C" fn monitor_run(image: &[u8], state: &mut [u8], trace: &[u8], repl
         return 0;
     }
     let t = run_test(image, state, trace);
-    if records::number(t) != 0 {
+    let Test::Passed = t else {
         put_step_reply(reply, t, 0, 0, 0);
         return 1;
-    }
-    machine::take_periods(image, state, trace, periods::record_count(trace));
+    };
+    machine::take_periods(image, state, trace, periods::period_records(trace));
     put_answer(reply, state);
     1
 }

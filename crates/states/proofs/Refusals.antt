@@ -1,37 +1,45 @@
 -- What passed tests of a state and of its count show. Document 01, "Replies that refuse".
--- Assumes nothing.
 use Prim.Native.Nat.{ℕ, _+_, _-_, _≤_}
 use native.Mathlib.Omega.{arith}
 use mathlib.Core.Path.{_≡_, refl}
-use mathlib.Core.Bool.{Bool, true, false, cond}
+use mathlib.Core.Bool.{true}
 use mathlib.Core.List.{List}
-use lib.Dec.{eqb, ltb}
+use lib.Dec.{eqb, leb}
 use lib.ListN.{length}
-use borrow.Author.Tests.{eqb-true, ltb-false, le-ltb}
-use Rattle.records.specs.declared.Test.the-variants.{Passed, BadState, FullCount}
-use Rattle.records.specs.Refusals.{require}
-use Rattle.records.proofs.Refusals.{first-passed, require-passed, count-refused, state-refused}
+use borrow.Author.Tests.{eqb-true, leb-true, le-leb}
+use Rattle.records.specs.declared.Fault.the-variants.{BadState, FullCount}
+use Rattle.records.specs.declared.Test.the-variants.{Passed}
+use Rattle.records.specs.Refusals.{require, onlyFor}
+use Rattle.records.proofs.Refusals.{first-passed, require-passed, only-require, only-first}
 use Rattle.states.specs.Limits.{headBytes, maxPeriods}
 use Rattle.states.specs.States.{stateOf, sound, State}
-use Rattle.states.specs.Refusals.{stateLengthTest, stateTest, countTest}
+use Rattle.states.specs.Refusals.{stateLengthTest, stateTest, countTest, stateFaults, countFaults}
 
 pub state-passed : (n : ℕ) (l : List ℕ) → stateTest n l ≡ Passed → (length l ≡ headBytes + n) × (sound (stateOf l) ≡ true)
 unfolding stateTest
 state-passed n l e =
-    let u = first-passed (stateLengthTest n l) (require (sound (stateOf l)) BadState) e in (
-      eqb-true (length l) (headBytes + n) (require-passed (eqb (length l) (headBytes + n)) BadState state-refused (u .0)),
-      require-passed (sound (stateOf l)) BadState state-refused (u .1),
+    let u = first-passed (stateLengthTest n l) (require (sound (stateOf l)) BadState 0) e in (
+      eqb-true (length l) (headBytes + n) (require-passed (eqb (length l) (headBytes + n)) BadState 0 (u .0)),
+      require-passed (sound (stateOf l)) BadState 0 (u .1),
     )
 
 pub passed-count : (s : State) (n : ℕ) → countTest s n ≡ Passed → s .periods + n ≤ maxPeriods
 unfolding countTest
-passed-count s n e = go (ltb maxPeriods (s .periods + n)) refl e
-  where
-    go : (t : Bool) → ltb maxPeriods (s .periods + n) ≡ t → cond t (FullCount (maxPeriods - s .periods)) Passed ≡ Passed
-        → s .periods + n ≤ maxPeriods
-    go true b q = absurd (count-refused (maxPeriods - s .periods) q)
-    go false b q = let h = ltb-false maxPeriods (s .periods + n) b in omega arith
+passed-count s n e = leb-true (s .periods + n) maxPeriods (require-passed (leb (s .periods + n) maxPeriods) FullCount (maxPeriods - s .periods) e)
 
 pub passes-count : (s : State) (n : ℕ) → s .periods + n ≤ maxPeriods → countTest s n ≡ Passed
 unfolding countTest
-passes-count s n h = rw (le-ltb maxPeriods (s .periods + n) (omega arith))
+passes-count s n h = rw (le-leb (s .periods + n) maxPeriods h)
+
+-- no other faults are given
+pub length-only : (n : ℕ) (l : List ℕ) → onlyFor stateFaults (stateLengthTest n l) ≡ true
+length-only n l = only-require stateFaults BadState refl (eqb (length l) (headBytes + n)) 0
+
+pub state-only : (n : ℕ) (l : List ℕ) → onlyFor stateFaults (stateTest n l) ≡ true
+unfolding stateTest
+state-only n l =
+    only-first stateFaults (stateLengthTest n l) (require (sound (stateOf l)) BadState 0) (length-only n l) (only-require stateFaults BadState refl (sound (stateOf l)) 0)
+
+pub count-only : (s : State) (n : ℕ) → onlyFor countFaults (countTest s n) ≡ true
+unfolding countTest
+count-only s n = only-require countFaults FullCount refl (leb (s .periods + n) maxPeriods) (maxPeriods - s .periods)

@@ -1,23 +1,30 @@
 -- Refusals 10 and 12, and their places. Document 01, "Replies that refuse".
 use Prim.Native.Nat.{ℕ, _+_, _-_}
-use mathlib.Core.Bool.{cond}
-use mathlib.Core.List.{List}
-use lib.Dec.{eqb, ltb}
+use mathlib.Core.List.{List, [], _∷_}
+use lib.Dec.{eqb, leb}
 use lib.ListN.{length}
+use Rattle.records.specs.declared.Fault.{Fault}
+use Rattle.records.specs.declared.Fault.the-variants.{BadState, FullCount}
 use Rattle.records.specs.declared.Test.{Test}
-use Rattle.records.specs.declared.Test.the-variants.{Passed, BadState, FullCount}
 use Rattle.records.specs.Refusals.{require, firstOf}
 use Rattle.states.specs.Limits.{headBytes, maxPeriods}
 use Rattle.states.specs.States.{State, stateOf, sound}
 
 -- 10: the state's length, for an image of n rows
 abbrev pub stateLengthTest : ℕ → List ℕ → Test
-stateLengthTest n state = require (eqb (length state) (headBytes + n)) BadState
+stateLengthTest n state = require (eqb (length state) (headBytes + n)) BadState 0
 
 -- 10 in step and run: also whether it is sound
 unfoldable pub stateTest : ℕ → List ℕ → Test
-stateTest n state = firstOf (stateLengthTest n state) (require (sound (stateOf state)) BadState)
+stateTest n state = firstOf (stateLengthTest n state) (require (sound (stateOf state)) BadState 0)
 
 -- 12: n more records would pass the largest count; at the first record too many
 unfoldable pub countTest : State → ℕ → Test
-countTest s n = cond (ltb maxPeriods (s .periods + n)) (FullCount (maxPeriods - s .periods)) Passed
+countTest s n = require (leb (s .periods + n) maxPeriods) FullCount (maxPeriods - s .periods)
+
+-- the faults that these tests can give
+abbrev pub stateFaults : List Fault
+stateFaults = BadState ∷ []
+
+abbrev pub countFaults : List Fault
+countFaults = FullCount ∷ []

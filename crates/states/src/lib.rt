@@ -8,6 +8,7 @@ ghost use Rattle.states.specs.States.{stateOf, allAtMost, sound};
 ghost use Rattle.states.specs.Verdicts.{verdict};
 ghost use Rattle.states.specs.Refusals.{stateTest, countTest};
 ghost use Rattle.states.specs.Premises.{soundHead, Answering};
+use records::Fault;
 use records::Test;
 
 // The bytes of a state before its row values.
@@ -71,10 +72,10 @@ pub fn state_test(n: usize, state: &[u8]) -> Test
     ensures { λ r. ⌜ r ≡ stateTest n (now (state .entry)) ⌝ }
 {
     if state.len() != HEAD_BYTES + n {
-        return Test::BadState;
+        return Test::Refused(Fault::BadState, 0);
     }
     if !sound(state) {
-        return Test::BadState;
+        return Test::Refused(Fault::BadState, 0);
     }
     Test::Passed
 }
@@ -88,7 +89,7 @@ pub fn count_test(state: &[u8], n: usize) -> Test
 {
     let left = (MAX_PERIODS - records::get4(state, 2)) as usize;
     if left < n {
-        return Test::FullCount(left);
+        return Test::Refused(Fault::FullCount, left);
     }
     Test::Passed
 }

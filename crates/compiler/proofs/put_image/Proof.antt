@@ -1,5 +1,4 @@
 -- `compiler::put_image` meets its contract: the fixed rows, the contract's rows and the end record, one behind the other.
--- Assumes nothing.
 use borrow.Author.Needs.{needs}
 use native.Mathlib.Omega.{arith}
 use mathlib.Core.Path.{_≡_}

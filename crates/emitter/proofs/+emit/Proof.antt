@@ -1,6 +1,5 @@
 -- `emitter::emit` meets its contract: with the rows of the operands written, the record's own rows round them are the tree's.
 -- The measure is the number of records.
--- Assumes nothing.
 use Prim.Native.Nat.{ℕ, _+_, _*_, _-_, _<_}
 use native.Mathlib.Omega.{arith}
 use mathlib.Core.Path.{_≡_, refl, _∙_}

@@ -1,5 +1,4 @@
 -- `emitter::block_of` meets its contract: the plan's last three fields are looked up among the bases, in the order of the parties.
--- Assumes nothing.
 use mathlib.Core.Bool.{cond}
 use mathlib.Core.Logic.{⊎-elim}
 use mathlib.Core.Path.{_≡_}

@@ -1,5 +1,4 @@
 -- `emitter::plan_of` meets its contract: the program's plans are the definition's at every kind's number.
--- Assumes nothing.
 use Prim.Native.Nat.{ℕ, _-_, _≤_}
 use native.Mathlib.Omega.{arith}
 use mathlib.Core.Path.{_≡_, sym, ap, _∙_}

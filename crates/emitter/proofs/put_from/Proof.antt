@@ -1,5 +1,4 @@
 -- `emitter::put_from` meets its contract: after j turns the first j of the rows are written.
--- Assumes nothing.
 use Prim.Native.Nat.{_+_, _-_, _*_, _≤_}
 use native.Mathlib.Numerals.{add-one}
 use native.Mathlib.Omega.{arith}

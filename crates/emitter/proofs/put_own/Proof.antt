@@ -1,5 +1,4 @@
 -- `emitter::put_own` meets its contract: both runs of the record's own rows are written.
--- Assumes nothing.
 use borrow.Author.Needs.{needs}
 use Rattle.emitter.specs.Plans.{recordWritten}
 use Rattle.emitter.proofs.Writing.{length-written}

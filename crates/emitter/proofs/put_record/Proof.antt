@@ -1,5 +1,4 @@
 -- `emitter::put_record` meets its contract: its own rows are written, and the block is theirs.
--- Assumes nothing.
 use borrow.Author.Needs.{needs}
 use Rattle.emitter.proofs.put_record.Statement.{statement}
 use Rattle.emitter.proofs.put_record.Tie as tie

@@ -1,5 +1,4 @@
 -- `emitter::put_rows` meets its contract: the rows stand in one of the two tables.
--- Assumes nothing.
 use native.Mathlib.Omega.{arith}
 use mathlib.Core.Logic.{⊎-elim}
 use mathlib.Core.Path.{sym, ap, _∙_}

@@ -1,5 +1,4 @@
 -- `emitter::wires_of` meets its contract: the plan's three fields are looked up among the bases, which for these need no operands.
--- Assumes nothing.
 use mathlib.Core.Path.{_≡_}
 use borrow.Author.Needs.{needs}
 use Rattle.emitter.specs.Plans.{noBlock, basesOf, wiresOf}

@@ -1,5 +1,4 @@
 -- `examples::show` ends and stays within the text: so does the report.
--- Assumes nothing.
 use native.Mathlib.Omega.{arith}
 use mathlib.Core.Path.{sym}
 use lib.Seq.{length-take-le}

@@ -1,5 +1,4 @@
 -- `layout::good_end` meets its contract: the mark, then each of the three fields is compared.
--- Assumes nothing.
 use borrow.Author.Needs.{needs}
 use borrow.Author.Tests.{lt-ltb, le-ltb, not-true, not-false}
 use Prim.Native.Nat.{_+_, _*_}
@@ -8,7 +7,7 @@ use mathlib.Core.Bool.{_&&_}
 use mathlib.Core.Logic.{⊎-elim}
 use lib.Dec.{ltb}
 use Rattle.records.specs.Fields.{field}
-use Rattle.records.proofs.end_marked.Reads as end-marked-reads
+use Rattle.records.proofs.marked.Reads as marked-reads
 use Rattle.records.proofs.get2.Reads as get2-reads
 use Rattle.layout.specs.Images.{goodEnd}
 use Rattle.layout.proofs.good_end.Statement.{statement}
@@ -19,12 +18,12 @@ use Rattle.layout.proofs.good_end.Lts as lts
 mul-at : tie.Need-mul-at
 mul-at c = search needs
 
-end-marked-requires : tie.Need-end-marked-requires
-end-marked-requires c κs = search needs
+marked-requires : tie.Need-marked-requires
+marked-requires c κs = search needs
 
 returns : tie.Need-returns
 unfolding goodEnd
-returns c = rw (← c .before .end-marked .ensures, not-true (c .before .end-marked .result) (c .if1 .taken))
+returns c = rw (← c .before .marked .ensures, not-true (c .before .marked .result) (c .if1 .taken))
 
 add-get2 : tie.Need-add-get2
 add-get2 c = search needs
@@ -54,7 +53,7 @@ cast-result : tie.Need-cast-result
 cast-result c = search needs
 
 -- where the arms of the first two comparisons meet
-first-two : (c : lts.Joined2 (end-marked-reads.Asked, end-marked-reads.Learnt, get2-reads.Asked, get2-reads.Learnt) reads.Pre reads.Post)
+first-two : (c : lts.Joined2 (marked-reads.Asked, marked-reads.Learnt, get2-reads.Asked, get2-reads.Learnt) reads.Pre reads.Post)
     → let a = c .before .before .before .before .before .args in
     c .if2 .if3 ≡ (ltb (c .before .get2 .result) (a .n) && ltb (field (a .image .now) (8 * a .n + 4) 2) (a .n))
 first-two c =
@@ -68,21 +67,21 @@ unfolding goodEnd
 returns-2 c =
     let g = c .before .before .before in
     let m = g .before in
-    rw (← m .before .end-marked .ensures, not-false (m .before .end-marked .result) (m .if1 .left), ← g .get2 .ensures .is, ← first-two (c .before .before), c .before .if3 .taken, ← c .get23 .ensures .is)
+    rw (← m .before .marked .ensures, not-false (m .before .marked .result) (m .if1 .left), ← g .get2 .ensures .is, ← first-two (c .before .before), c .before .if3 .taken, ← c .get23 .ensures .is)
 
 returns-3 : tie.Need-returns-3
 unfolding goodEnd
 returns-3 c =
     let g = c .before .before in
     let m = g .before in
-    rw (← m .before .end-marked .ensures, not-false (m .before .end-marked .result) (m .if1 .left), ← g .get2 .ensures .is, ← first-two (c .before), c .if3 .left)
+    rw (← m .before .marked .ensures, not-false (m .before .marked .result) (m .if1 .left), ← g .get2 .ensures .is, ← first-two (c .before), c .if3 .left)
 
 pub good-end-spec : {M : Type 1} → statement M
 good-end-spec =
     tie.close
     (tie.spec
     mul-at
-    end-marked-requires
+    marked-requires
     returns
     add-get2
     get2-requires

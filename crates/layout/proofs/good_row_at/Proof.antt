@@ -1,5 +1,4 @@
 -- `layout::good_row_at` meets its contract: the mark, the zero byte, then the row of the kind and the fields that are read.
--- Assumes nothing.
 use borrow.Author.Needs.{needs}
 use borrow.Author.Tests.{eq-eqb, ne-eqb, not-true, not-false}
 use Rattle.layout.specs.Rows.{decode}
@@ -10,12 +9,12 @@ use Rattle.layout.proofs.good_row_at.Tie as tie
 mul-at : tie.Need-mul-at
 mul-at c = search needs
 
-row-marked-requires : tie.Need-row-marked-requires
-row-marked-requires c κs = search needs
+marked-requires : tie.Need-marked-requires
+marked-requires c κs = search needs
 
 returns : tie.Need-returns
 unfolding goodRowAt decode
-returns c = rw (← c .before .row-marked .ensures, not-true (c .before .row-marked .result) (c .if1 .taken))
+returns c = rw (← c .before .marked .ensures, not-true (c .before .marked .result) (c .if1 .taken))
 
 add-if2 : tie.Need-add-if2
 add-if2 c = search needs
@@ -26,7 +25,7 @@ shared-slice-read-if2 c = search needs
 returns-2 : tie.Need-returns-2
 unfolding goodRowAt decode
 returns-2 c =
-    rw (← c .before .before .before .row-marked .ensures, not-false (c .before .before .before .row-marked .result) (c .before .before .if1 .left), ne-eqb _ _ (c .if2 .taken))
+    rw (← c .before .before .before .marked .ensures, not-false (c .before .before .before .marked .result) (c .before .before .if1 .left), ne-eqb _ _ (c .if2 .taken))
 
 add-good-row : tie.Need-add-good-row
 add-good-row c = search needs
@@ -55,7 +54,7 @@ returns-3 c =
     let g = c .before .before in
     let e = g .before .before in
     let m = e .before .before in
-    rw (← m .before .row-marked .ensures, not-false (m .before .row-marked .result) (m .if1 .left), eq-eqb _ _ (e .if2 .left), ← g .get2 .ensures .is, ← c .before .get22 .ensures .is)
+    rw (← m .before .marked .ensures, not-false (m .before .marked .result) (m .if1 .left), eq-eqb _ _ (e .if2 .left), ← g .get2 .ensures .is, ← c .before .get22 .ensures .is)
     (c .good-row .ensures)
 
 pub good-row-at-spec : {M : Type 1} → statement M
@@ -63,7 +62,7 @@ good-row-at-spec =
     tie.close
     (tie.spec
     mul-at
-    row-marked-requires
+    marked-requires
     returns
     add-if2
     shared-slice-read-if2

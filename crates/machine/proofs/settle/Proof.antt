@@ -1,5 +1,4 @@
 -- `machine::settle` meets its contract: the first bits of the rows' part stand in its place.
--- Assumes nothing.
 use borrow.Author.Needs.{needs}
 use Rattle.machine.proofs.Settling.{settled-put}
 use Rattle.machine.proofs.settle.Statement.{statement}

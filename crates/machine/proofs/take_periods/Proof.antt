@@ -1,5 +1,4 @@
 -- `machine::take_periods` meets its contract: after k turns the state stands for what the first k periods leave.
--- Assumes nothing.
 use Prim.Native.Nat.{_-_, _*_, _≤_}
 use native.Mathlib.Numerals.{add-one}
 use native.Mathlib.Omega.{arith}
@@ -7,9 +6,7 @@ use mathlib.Core.Bool.{true}
 use mathlib.Core.Path.{_≡_, refl, sym, ap, _∙_}
 use lib.ListN.{length, drop}
 use Rattle.records.specs.Fields.{AllBytes}
-use Rattle.periods.specs.Limits.{periodBytes}
-use Rattle.periods.specs.Periods.{periodAt}
-use Rattle.periods.specs.Traces.{periodsOf}
+use Rattle.periods.specs.Traces.{periodAt, periodsOf}
 use Rattle.periods.proofs.Traces.{length-periodsOf}
 use Rattle.layout.specs.Images.{rowCount, imageOf}
 use Rattle.states.specs.Limits.{headBytes}
@@ -45,9 +42,6 @@ loop-holds c =
       plain-small (rowCount (a .image .now)) l (h .sound),
     )
 
-mul-read-period : tie.Need-mul-read-period Inv-loop μ-loop
-mul-read-period c = omega (arith, c .before .before .before .before .before .before .pre .1)
-
 read-period-requires : tie.Need-read-period-requires Inv-loop μ-loop
 read-period-requires c κs = omega (arith, c .before .before .before .before .before .before .pre .1)
 
@@ -79,7 +73,7 @@ loop-again c =
       t .kept .1 .0 ∙ l .inv .1,
       t .ensures .is
           ∙ rw (l .inv .2, later-read (a .image .now) (a .state .now) (a .n) h w (omega arith), c .before .before .before .read-period .ensures .is, add-one (l .k))
-          (ap stateBytes (sym (after-snoc (imageOf (a .image .now)) (stateOf (a .state .now)) w (periodAt (a .trace .now) (periodBytes * l .k))))),
+          (ap stateBytes (sym (after-snoc (imageOf (a .image .now)) (stateOf (a .state .now)) w (periodAt (a .trace .now) (l .k))))),
       t .ensures .small,
     )
 
@@ -104,7 +98,6 @@ take-periods-spec =
     Inv-loop
     μ-loop
     loop-holds
-    mul-read-period
     read-period-requires
     advance-requires
     add-k

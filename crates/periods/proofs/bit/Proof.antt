@@ -1,5 +1,4 @@
 -- `periods::bit` meets its contract.
--- Assumes nothing.
 use borrow.Author.Needs.{needs}
 use Rattle.periods.proofs.Periods.{bit-shift}
 use Rattle.periods.proofs.bit.Statement.{statement}

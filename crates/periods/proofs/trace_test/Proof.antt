@@ -1,21 +1,31 @@
 -- `periods::trace_test` meets its contract: the length, then the marks.
--- Assumes nothing.
 use borrow.Author.Needs.{needs}
 use borrow.Author.Tests.{eq-eqb, ne-eqb}
 use Rattle.periods.specs.Traces.{traceTest}
 use Rattle.periods.proofs.trace_test.Statement.{statement}
 use Rattle.periods.proofs.trace_test.Tie as tie
 
+form-of-requires : tie.Need-form-of-requires
+form-of-requires c κs = search needs
+
+period-bytes-requires : tie.Need-period-bytes-requires
+period-bytes-requires c κs = search needs
+
+rem-if1 : tie.Need-rem-if1
+rem-if1 c = search needs
+
 returns : tie.Need-returns
 unfolding traceTest
-returns c = rw (ne-eqb _ _ (c .if1 .taken))
+returns c = rw (← c .before .before .form-of .ensures, ← c .before .period-bytes .ensures, ne-eqb _ _ (c .if1 .taken))
 
 marks-test-requires : tie.Need-marks-test-requires
 marks-test-requires c κs = search needs
 
 returns-2 : tie.Need-returns-2
 unfolding traceTest
-returns-2 c = rw (eq-eqb _ _ (c .before .if1 .left)) (c .marks-test .ensures)
+returns-2 c = rw (← c .before .before .before .form-of .ensures, ← c .before .before .period-bytes .ensures, eq-eqb _ _ (c .before .if1 .left)) (c .marks-test .ensures)
 
 pub trace-test-spec : {M : Type 1} → statement M
-trace-test-spec = tie.close (tie.spec returns marks-test-requires returns-2)
+trace-test-spec =
+    tie.close
+    (tie.spec form-of-requires period-bytes-requires rem-if1 returns marks-test-requires returns-2)

@@ -1,5 +1,4 @@
 -- `periods::tried` meets its contract: the party's number picks its mask.
--- Assumes nothing.
 use native.Mathlib.Omega.{arith}
 use borrow.Author.Needs.{needs}
 use Rattle.periods.specs.Periods.{party1, party2, tries}

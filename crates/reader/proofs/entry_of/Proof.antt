@@ -1,5 +1,4 @@
 -- `reader::entry_of` meets its contract: the program's table is the definition's at every number of a byte.
--- Assumes nothing.
 use borrow.Author.Needs.{needs}
 use native.Mathlib.Omega.{arith}
 use mathlib.Core.Path.{sym}

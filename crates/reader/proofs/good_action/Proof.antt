@@ -1,5 +1,4 @@
 -- `reader::good_action` meets its contract.
--- Assumes nothing.
 use borrow.Author.Needs.{needs}
 use Rattle.reader.proofs.good_action.Statement.{statement}
 use Rattle.reader.proofs.good_action.Tie as tie

@@ -1,5 +1,4 @@
 -- `reader::good_party` meets its contract.
--- Assumes nothing.
 use mathlib.Core.Path.{sym}
 use Rattle.reader.proofs.Tests.{party-zero, party-one-or-two, party-above}
 use Rattle.reader.proofs.good_party.Statement.{statement}

@@ -1,5 +1,4 @@
 -- `reader::operands` meets its contract: the table's line tells.
--- Assumes nothing.
 use borrow.Author.Needs.{needs}
 use mathlib.Core.Path.{_≡_, refl, sym, ap, _∙_}
 use mathlib.Core.Option.{Option, none, some}

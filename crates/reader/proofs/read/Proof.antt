@@ -1,5 +1,4 @@
 -- `reader::read` meets its contract: the length, then the records.
--- Assumes nothing.
 use borrow.Author.Needs.{needs}
 use borrow.Author.Tests.{eqb-true, eqb-false, ltb-true, ltb-false, not-true, not-false}
 use Prim.Native.Nat.{_*_, _/_, _%_, _≤_, _<_}
@@ -8,7 +7,7 @@ use mathlib.Core.Logic.{⊎-elim}
 use mathlib.Core.Path.{_≡_}
 use lib.ListN.{length}
 use Rattle.reader.specs.Limits.{recordBytes, maxRecords}
-use Rattle.reader.specs.Reader.{recordCount, read, answer}
+use Rattle.reader.specs.Reader.{contractRecords, read, readTest}
 use Rattle.reader.proofs.Reader.{WholeRecords, good-length, not-whole}
 use Rattle.reader.proofs.read.Statement.{statement}
 use Rattle.reader.proofs.read.Tie as tie
@@ -17,7 +16,7 @@ mul-if3 : tie.Need-mul-if3
 mul-if3 c = search needs
 
 returns : tie.Need-returns
-unfolding answer read recordCount
+unfolding readTest read contractRecords
 returns c =
     let l = c .before .before .args .contract .now in
     let bad : ¬ WholeRecords l = λ w.
@@ -30,19 +29,25 @@ returns c =
     (c .if1 .came) in
     rw (not-whole l bad)
 
+contract-records-requires : tie.Need-contract-records-requires
+contract-records-requires c κs = search needs
+
 read-records-requires : tie.Need-read-records-requires
-read-records-requires c κs = record { whole = omega arith; few = omega (arith, ltb-false) }
+unfolding contractRecords
+read-records-requires c κs =
+    let n = c .contract-records .ensures in
+    record { whole = omega arith; few = omega (arith, ltb-false) }
 
 returns-2 : tie.Need-returns-2
-unfolding answer read recordCount
+unfolding readTest read contractRecords
 returns-2 c =
-    let d = c .before in
+    let d = c .before .before in
     let e = d .before .before in
     let l = e .before .before .args .contract .now in
     let some : length l ≡ 0 → ⊥ = e .if1 .left in
     let even : length l % recordBytes ≡ 0 = eqb-true _ _ (not-false _ (d .before .if2 .left)) in
     let few : length l ≤ recordBytes * maxRecords = ltb-false _ _ (d .if3 .left) in
-    rw (good-length l .1 (record { some-records = omega arith; few-records = omega arith; whole = omega arith })) (c .read-records .ensures)
+    rw (good-length l .1 (record { some-records = omega arith; few-records = omega arith; whole = omega arith })) (rw (c .before .contract-records .ensures) at (c .read-records .ensures))
 
 pub read-spec : {M : Type 1} → statement M
-read-spec = tie.close (tie.spec mul-if3 returns read-records-requires returns-2)
+read-spec = tie.close (tie.spec mul-if3 returns contract-records-requires read-records-requires returns-2)

@@ -1,13 +1,12 @@
 -- `reader::read_record` meets its contract: each way out makes the tests that led to it.
--- Assumes nothing.
 use borrow.Author.Needs.{needs}
 use borrow.Author.Tests.{not-true, not-false}
 use Prim.Native.Nat.{_+_}
 use mathlib.Core.Bool.{cond}
 use mathlib.Core.Path.{_≡_, sym, _∙_}
 use lib.ListN.{drop, getD}
-use Rattle.records.proofs.contract_marked.Reads as contract-marked-reads
-use Rattle.reader.specs.declared.Fault.the-variants.{EmptyList}
+use Rattle.records.proofs.marked.Reads as marked-reads
+use Rattle.records.specs.declared.Fault.the-variants.{EmptyList}
 use Rattle.reader.specs.declared.Step.the-variants.{Bad, Completed}
 use Rattle.reader.specs.Codes.{emptyUnder, completed, stepOf}
 use Rattle.reader.proofs.Tests.{step-mark, step-kind, step-fields, step-operands, step-last}
@@ -21,13 +20,13 @@ use Rattle.reader.proofs.entry_of.Reads as entry-of-reads
 use Rattle.reader.proofs.good_fields.Reads as good-fields-reads
 use Rattle.reader.proofs.good_operands.Reads as good-operands-reads
 
-contract-marked-requires : tie.Need-contract-marked-requires
-contract-marked-requires c κs = search needs
+marked-requires : tie.Need-marked-requires
+marked-requires c κs = search needs
 
 returns : tie.Need-returns
 returns c =
     let a = c .before .before .before .args in
-    sym (step-mark (a .contract .now) (a .at) (a .below) (a .top) (sym (c .before .contract-marked .ensures) ∙ not-true _ (c .if1 .taken)))
+    sym (step-mark (a .contract .now) (a .at) (a .below) (a .top) (sym (c .before .marked .ensures) ∙ not-true _ (c .if1 .taken)))
 
 add-kind : tie.Need-add-kind
 add-kind c = search needs
@@ -55,7 +54,7 @@ returns-2 c =
     (a .at)
     (a .below)
     (a .top)
-    (sym (m .before .contract-marked .ensures) ∙ not-false _ (m .if1 .left))
+    (sym (m .before .marked .ensures) ∙ not-false _ (m .if1 .left))
     (sym (k .entry-of .ensures) ∙ c .enum-told .given .1))
 
 add-good-fields : tie.Need-add-good-fields
@@ -91,7 +90,7 @@ returns-3 c =
     (a .at)
     (a .below)
     (a .top)
-    (sym (m .before .contract-marked .ensures) ∙ not-false _ (m .if1 .left))
+    (sym (m .before .marked .ensures) ∙ not-false _ (m .if1 .left))
     (n .found .given .0 .0)
     (sym (k .entry-of .ensures) ∙ n .found .given .1)
     (sym (c .before .good-fields .ensures) ∙ not-true _ (c .if2 .taken)))
@@ -112,7 +111,7 @@ returns-4 c =
     (a .at)
     (a .below)
     (a .top)
-    (sym (m .before .contract-marked .ensures) ∙ not-false _ (m .if1 .left))
+    (sym (m .before .marked .ensures) ∙ not-false _ (m .if1 .left))
     (n .found .given .0 .0)
     (sym (k .entry-of .ensures) ∙ n .found .given .1)
     (sym (g .before .good-fields .ensures) ∙ not-false _ (g .if2 .left))
@@ -122,7 +121,7 @@ empty-under-requires : tie.Need-empty-under-requires
 empty-under-requires c κs = search needs
 
 -- past the tests of the operands
-last : (o : lts.Else3 (contract-marked-reads.Asked, contract-marked-reads.Learnt, entry-of-reads.Asked, entry-of-reads.Learnt, good-fields-reads.Asked, good-fields-reads.Learnt, good-operands-reads.Asked, good-operands-reads.Learnt, empty-under-reads.Asked, empty-under-reads.Learnt, completed-reads.Asked, completed-reads.Learnt) reads.Pre reads.Post)
+last : (o : lts.Else3 (marked-reads.Asked, marked-reads.Learnt, entry-of-reads.Asked, entry-of-reads.Learnt, good-fields-reads.Asked, good-fields-reads.Learnt, good-operands-reads.Asked, good-operands-reads.Learnt, empty-under-reads.Asked, empty-under-reads.Learnt, completed-reads.Asked, completed-reads.Learnt) reads.Pre reads.Post)
     → let a = o .before .before .before .before .before .before .before .before .before .before .before .before .before .before .before .args in
     let kind = getD (a .contract .now) (a .at + 2) 0 in
     stepOf (drop (a .at) (a .contract .now)) (a .below) (a .top)
@@ -139,7 +138,7 @@ last o =
     (a .at)
     (a .below)
     (a .top)
-    (sym (m .before .contract-marked .ensures) ∙ not-false _ (m .if1 .left))
+    (sym (m .before .marked .ensures) ∙ not-false _ (m .if1 .left))
     (n .found .given .0 .0)
     (sym (k .entry-of .ensures) ∙ n .found .given .1)
     (sym (g .before .good-fields .ensures) ∙ not-false _ (g .if2 .left))
@@ -160,7 +159,7 @@ pub read-record-spec : {M : Type 1} → statement M
 read-record-spec =
     tie.close
     (tie.spec
-    contract-marked-requires
+    marked-requires
     returns
     add-kind
     shared-slice-read-kind

@@ -1,5 +1,4 @@
 -- `records::get2` meets its contract: two fields of one byte are one of two.
--- Assumes nothing.
 use borrow.Author.Needs.{needs}
 use Rattle.records.proofs.Fields.{holds-one, holds-add}
 use Rattle.records.proofs.get2.Statement.{statement}

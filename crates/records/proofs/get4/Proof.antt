@@ -1,5 +1,4 @@
 -- `records::get4` meets its contract: two fields of two bytes are one of four.
--- Assumes nothing.
 use borrow.Author.Needs.{needs}
 use Rattle.records.proofs.Fields.{holds-add}
 use Rattle.records.proofs.get4.Statement.{statement}

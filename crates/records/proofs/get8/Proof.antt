@@ -1,5 +1,4 @@
 -- `records::get8` meets its contract: two fields of four bytes are one of eight.
--- Assumes nothing.
 use borrow.Author.Needs.{needs}
 use Rattle.records.proofs.Fields.{holds-add}
 use Rattle.records.proofs.get8.Statement.{statement}

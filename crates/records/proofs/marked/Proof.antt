@@ -1,5 +1,4 @@
 -- `records::marked` meets its contract: the second byte is compared where the first is the mark's.
--- Assumes nothing.
 use borrow.Author.Needs.{needs}
 use borrow.Author.Tests.{eq-eqb, ne-eqb}
 use Rattle.records.specs.Marks.{marked}

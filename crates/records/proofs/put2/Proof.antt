@@ -1,5 +1,4 @@
 -- `records::put2` meets its contract: a field of two bytes is written as two of one.
--- Assumes nothing.
 use borrow.Author.Needs.{needs}
 use native.Mathlib.Omega.{arith}
 use mathlib.Core.Path.{sym}

@@ -1,5 +1,4 @@
 -- `records::put4` meets its contract: a field of four bytes is written as two of two.
--- Assumes nothing.
 use borrow.Author.Needs.{needs}
 use Rattle.records.proofs.Written.{sets-bytes-add}
 use Rattle.records.proofs.put4.Statement.{statement}

@@ -1,5 +1,4 @@
 -- `records::put8` meets its contract: a field of eight bytes is written as two of four.
--- Assumes nothing.
 use borrow.Author.Needs.{needs}
 use Rattle.records.proofs.Fields.{bytes-mod}
 use Rattle.records.proofs.Written.{sets-bytes-add}

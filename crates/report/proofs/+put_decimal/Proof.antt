@@ -1,5 +1,4 @@
 -- `report::put_decimal` meets its contract: the last digit is put behind the others, which are those of a tenth. The measure is the number.
--- Assumes nothing.
 use Prim.Native.Nat.{ℕ, _/_, _%_, _<_}
 use native.Mathlib.Nat.{div-lt-self, mod-lt}
 use native.Mathlib.Omega.{arith}

@@ -1,5 +1,4 @@
 -- `report::follow` meets its contract: the state that begin leaves follows the clause, and the lines are put from there.
--- Assumes nothing.
 use borrow.Author.Needs.{needs}
 use native.Mathlib.Omega.{arith}
 use Rattle.report.proofs.Following.{may-list, all-followed}
@@ -12,14 +11,14 @@ slice-aggregate-monitor-begin c = search needs
 monitor-begin-requires : tie.Need-monitor-begin-requires
 monitor-begin-requires c κs = search needs
 
-record-count-requires : tie.Need-record-count-requires
-record-count-requires c κs = search needs
+period-records-requires : tie.Need-period-records-requires
+period-records-requires c κs = search needs
 
 put-lines-requires : tie.Need-put-lines-requires
 put-lines-requires c κs =
     let b = c .before .before .before .before .before .before in
-    rw (c .before .record-count .ensures)
-    (may-list (b .before .before .before .before .before .before .before .pre) _ _ (omega arith) (b .monitor-begin .ensures .state-is))
+    rw (c .before .period-records .ensures)
+    (may-list (b .before .before .before .before .before .before .before .pre) _ _ (omega arith) (b .monitor-begin .ensures .lent-is))
 
 same-length : tie.Need-same-length
 same-length c = search needs
@@ -31,7 +30,7 @@ returns : tie.Need-returns
 returns c =
     let p = c .before .before .before .before in
     let b = p .before .before .before .before .before .before .before in
-    all-followed (b .before .before .before .before .before .before .before .pre) _ _ (omega arith) (b .monitor-begin .ensures .state-is) _ _ (rw (p .before .before .record-count .ensures) at (p .put-lines .ensures))
+    all-followed (b .before .before .before .before .before .before .before .pre) _ _ (omega arith) (b .monitor-begin .ensures .lent-is) _ _ (rw (p .before .before .period-records .ensures) at (p .put-lines .ensures))
 
 pub follow-spec : {M : Type 1} → statement M
 follow-spec =
@@ -39,7 +38,7 @@ follow-spec =
     (tie.spec
     slice-aggregate-monitor-begin
     monitor-begin-requires
-    record-count-requires
+    period-records-requires
     put-lines-requires
     same-length
     same-length-2

@@ -1,5 +1,4 @@
 -- `report::put_decided` meets its contract: the words and the number are put one behind the other.
--- Assumes nothing.
 use native.Mathlib.Omega.{arith}
 use borrow.Author.Needs.{needs}
 use Rattle.report.proofs.Texts.{puts-ends, length-decided, puts-decided}

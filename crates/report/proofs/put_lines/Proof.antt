@@ -1,6 +1,5 @@
 -- `report::put_lines` meets its contract. The loop's invariant: after k periods the state follows whichever clause the first one follows, and
 -- the text holds their lines.
--- Assumes nothing.
 use Prim.Native.Nat.{_*_, _-_, _≤_}
 use borrow.Author.Needs.{needs}
 use native.Mathlib.Omega.{arith}

@@ -1,5 +1,4 @@
 -- `report::put_name` meets its contract: of a verdict with its number each word is the name.
--- Assumes nothing.
 use native.Mathlib.Omega.{arith}
 use mathlib.Core.Path.{sym, _∙_}
 use borrow.Author.Needs.{needs}

@@ -1,5 +1,4 @@
 -- `report::put_parts` meets its contract: the contract refused, the trace refused, or its lines put.
--- Assumes nothing.
 use borrow.Author.Needs.{needs}
 use native.Mathlib.Omega.{arith}
 use mathlib.Core.Path.{sym, _∙_}
@@ -64,6 +63,9 @@ trace-test-requires c κs = search needs
 enum-told : tie.Need-enum-told
 enum-told c = search needs
 
+enum-told-2 : tie.Need-enum-told-2
+enum-told-2 c = search needs
+
 number-requires : tie.Need-number-requires
 number-requires c κs = search needs
 
@@ -86,11 +88,11 @@ returns-2 : tie.Need-returns-2
 returns-2 c =
     let p = c .before .before in
     let m = p .before .before .before .before in
-    let t = m .before in
+    let t = m .before .before in
     let i = t .before .before in
     let d = i .before .before .before .before in
     let k = d .before .before .before in
-    rw (trace-refused _ _ (k .contract-length .ensures) (d .compile .ensures) (k .before .before .before .before .before .pre .1 .0) (i .if1 .left) (t .trace-test .result) (t .trace-test .ensures) (m .match .keys2), ← p .before .before .number .ensures, ← p .before .place .ensures) (p .put-refused2 .ensures)
+    rw (trace-refused _ _ (k .contract-length .ensures) (d .compile .ensures) (k .before .before .before .before .before .pre .1 .0) (i .if1 .left) (t .trace-test .result) (t .trace-test .ensures) _ _ (m .enum-told2 .given .1), ← p .before .before .number .ensures, ← p .before .place .ensures) (p .put-refused2 .ensures)
 
 cast-rows : tie.Need-cast-rows
 cast-rows c = search needs
@@ -170,6 +172,7 @@ put-parts-spec =
     part-trace-end
     trace-test-requires
     enum-told
+    enum-told-2
     number-requires
     cast-put-refused-2
     place-requires

@@ -1,5 +1,4 @@
 -- `report::put_period` meets its contract: numbers, name and words are put one behind the other, and each has room on the line.
--- Assumes nothing.
 use Prim.Native.Nat.{_+_, _≤_}
 use native.Mathlib.Omega.{arith}
 use lib.ListN.{length}

@@ -1,5 +1,4 @@
 -- `report::put_refused` meets its contract: the words and the numbers are put one behind the other.
--- Assumes nothing.
 use native.Mathlib.Omega.{arith}
 use borrow.Author.Needs.{needs}
 use Rattle.report.proofs.Texts.{puts-ends, length-refused, puts-refused}

@@ -1,5 +1,4 @@
 -- `report::put_report` meets its contract: longer than the limit, or the report of the input's parts.
--- Assumes nothing.
 use borrow.Author.Needs.{needs}
 use native.Mathlib.Omega.{arith}
 use lib.Dec.{lit<}
@@ -8,11 +7,17 @@ use Rattle.report.proofs.Reports.{longer, no-longer}
 use Rattle.report.proofs.put_report.Statement.{statement}
 use Rattle.report.proofs.put_report.Tie as tie
 
+fault-number-requires : tie.Need-fault-number-requires
+fault-number-requires c κs = search needs
+
+cast-put-refused : tie.Need-cast-put-refused
+cast-put-refused c = search needs
+
 put-refused-requires : tie.Need-put-refused-requires
-put-refused-requires c κs = omega (arith, short-refused 13 0 (lit< tt) (lit< tt))
+put-refused-requires c κs = rw (c .fault-number .ensures) (omega (arith, short-refused 13 0 (lit< tt) (lit< tt)))
 
 returns : tie.Need-returns
-returns c = rw (longer _ (c .before .before .if1 .taken)) (c .put-refused .ensures)
+returns c = rw (longer _ (c .before .before .before .if1 .taken)) (rw (c .before .fault-number .ensures) at (c .put-refused .ensures))
 
 put-parts-requires : tie.Need-put-parts-requires
 put-parts-requires c κs = search needs
@@ -22,4 +27,11 @@ returns-2 c = rw (no-longer _ (c .before .before .before .before .if1 .left)) (c
 
 pub put-report-spec : {M : Type 1} → statement M
 put-report-spec =
-    tie.close (tie.spec put-refused-requires returns put-parts-requires returns-2)
+    tie.close
+    (tie.spec
+    fault-number-requires
+    cast-put-refused
+    put-refused-requires
+    returns
+    put-parts-requires
+    returns-2)

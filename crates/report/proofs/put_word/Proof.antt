@@ -1,5 +1,4 @@
 -- `report::put_word` meets its contract: after k turns the word's first k bytes are put.
--- Assumes nothing.
 use Prim.Native.Nat.{_+_, _-_, _≤_}
 use native.Mathlib.Omega.{arith}
 use mathlib.Core.Path.{refl}

@@ -1,5 +1,4 @@
 -- `runner::begin_test` meets its contract: the image, then the state's length.
--- Assumes nothing.
 use borrow.Author.Needs.{needs}
 use borrow.Author.Tests.{eq-eqb, ne-eqb}
 use native.Mathlib.Omega.{arith}
@@ -22,11 +21,14 @@ image-test-requires c κs = search needs
 enum-told : tie.Need-enum-told
 enum-told c = search needs
 
+enum-told-2 : tie.Need-enum-told-2
+enum-told-2 c = search needs
+
 returns : tie.Need-returns
 unfolding beginTest
 returns c =
-    let t = c .before .image-test in
-    refused-first (t .result) _ _ (t .ensures) (c .match .keys2)
+    let t = c .before .before .image-test in
+    refused-first (t .result) _ _ (t .ensures) (c .enum-told2 .given .1)
 
 -- past the test of the image
 passed : (c : lts.After-enum-told (image-test-reads.Asked, image-test-reads.Learnt, row-count-reads.Asked, row-count-reads.Learnt) reads.Pre reads.Post)
@@ -51,4 +53,4 @@ returns-3 c = rw (passed (c .before .before), ← c .before .row-count .ensures,
 
 pub begin-test-spec : {M : Type 1} → statement M
 begin-test-spec =
-    tie.close (tie.spec image-test-requires enum-told returns row-count-requires add-if1 returns-2 returns-3)
+    tie.close (tie.spec image-test-requires enum-told enum-told-2 returns row-count-requires add-if1 returns-2 returns-3)

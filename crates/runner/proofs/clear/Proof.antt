@@ -1,5 +1,4 @@
 -- `runner::clear` meets its contract: the first k bytes are 0, and the others as they were.
--- Assumes nothing.
 use Prim.Native.Nat.{_≤_, _-_}
 use native.Mathlib.Omega.{arith}
 use mathlib.Core.Path.{_≡_, refl}

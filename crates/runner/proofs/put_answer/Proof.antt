@@ -1,5 +1,4 @@
 -- `runner::put_answer` meets its contract: verdict, blame and decision period are those that are read of the state.
--- Assumes nothing.
 use borrow.Author.Needs.{needs}
 use Rattle.states.specs.States.{stateOf}
 use Rattle.runner.specs.Calls.{answer}

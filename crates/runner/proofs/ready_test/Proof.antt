@@ -1,5 +1,4 @@
 -- `runner::ready_test` meets its contract: the image, then the state.
--- Assumes nothing.
 use borrow.Author.Needs.{needs}
 use native.Mathlib.Omega.{arith}
 use mathlib.Core.Path.{_≡_, sym, _∙_}
@@ -22,11 +21,14 @@ image-test-requires c κs = search needs
 enum-told : tie.Need-enum-told
 enum-told c = search needs
 
+enum-told-2 : tie.Need-enum-told-2
+enum-told-2 c = search needs
+
 returns : tie.Need-returns
 unfolding readyTest
 returns c =
-    let t = c .before .image-test in
-    refused-first (t .result) _ _ (t .ensures) (c .match .keys2)
+    let t = c .before .before .image-test in
+    refused-first (t .result) _ _ (t .ensures) (c .enum-told2 .given .1)
 
 -- past the test of the image
 passed : (c : lts.After-enum-told (image-test-reads.Asked, image-test-reads.Learnt, row-count-reads.Asked, row-count-reads.Learnt, state-test-reads.Asked, state-test-reads.Learnt) reads.Pre reads.Post)
@@ -48,4 +50,4 @@ returns-2 c = rw (passed (c .before .before), ← c .before .row-count .ensures)
 pub ready-test-spec : {M : Type 1} → statement M
 ready-test-spec =
     tie.close
-    (tie.spec image-test-requires enum-told returns row-count-requires state-test-requires returns-2)
+    (tie.spec image-test-requires enum-told enum-told-2 returns row-count-requires state-test-requires returns-2)

@@ -1,11 +1,10 @@
 -- `runner::run_test` meets its contract: the image and the state, then the trace, then the count.
--- Assumes nothing.
 use borrow.Author.Needs.{needs}
 use mathlib.Core.Path.{_≡_, sym, _∙_}
 use Rattle.records.specs.declared.Test.the-variants.{Passed}
 use Rattle.records.proofs.Refusals.{refused-first}
 use Rattle.periods.proofs.trace_test.Reads as trace-test-reads
-use Rattle.periods.proofs.record_count.Reads as record-count-reads
+use Rattle.periods.proofs.period_records.Reads as period-records-reads
 use Rattle.states.proofs.count_test.Reads as count-test-reads
 use Rattle.runner.specs.Refusals.{readyTest, runTest}
 use Rattle.runner.proofs.Refusals.{ready-head}
@@ -21,31 +20,37 @@ ready-test-requires c κs = search needs
 enum-told : tie.Need-enum-told
 enum-told c = search needs
 
+enum-told-2 : tie.Need-enum-told-2
+enum-told-2 c = search needs
+
 returns : tie.Need-returns
 unfolding runTest
 returns c =
-    let t = c .before .ready-test in
-    refused-first (t .result) _ _ (t .ensures) (c .match .keys2)
+    let t = c .before .before .ready-test in
+    refused-first (t .result) _ _ (t .ensures) (c .enum-told2 .given .1)
 
 -- past the tests of the image and the state
-ready : (c : lts.After-enum-told (ready-test-reads.Asked, ready-test-reads.Learnt, trace-test-reads.Asked, trace-test-reads.Learnt, record-count-reads.Asked, record-count-reads.Learnt, count-test-reads.Asked, count-test-reads.Learnt) reads.Pre reads.Post)
+ready : (c : lts.After-enum-told (ready-test-reads.Asked, ready-test-reads.Learnt, trace-test-reads.Asked, trace-test-reads.Learnt, period-records-reads.Asked, period-records-reads.Learnt, count-test-reads.Asked, count-test-reads.Learnt) reads.Pre reads.Post)
     → let a = c .before .before .before .before .before .before .args in readyTest (a .image .now) (a .state .now) ≡ Passed
 ready c = sym (c .before .before .ready-test .ensures) ∙ c .enum-told .given .1
 
 trace-test-requires : tie.Need-trace-test-requires
 trace-test-requires c κs = search needs
 
-enum-told-2 : tie.Need-enum-told-2
-enum-told-2 c = search needs
+enum-told-3 : tie.Need-enum-told-3
+enum-told-3 c = search needs
+
+enum-told-4 : tie.Need-enum-told-4
+enum-told-4 c = search needs
 
 returns-2 : tie.Need-returns-2
 unfolding runTest
 returns-2 c =
-    let t = c .before .trace-test in
-    rw (ready (c .before .before)) (refused-first (t .result) _ _ (t .ensures) (c .match2 .keys2))
+    let t = c .before .before .trace-test in
+    rw (ready (c .before .before .before)) (refused-first (t .result) _ _ (t .ensures) (c .enum-told4 .given .1))
 
-record-count-requires : tie.Need-record-count-requires
-record-count-requires c κs = search needs
+period-records-requires : tie.Need-period-records-requires
+period-records-requires c κs = search needs
 
 count-test-requires : tie.Need-count-test-requires
 count-test-requires c κs = ready-head _ _ (ready (c .before .before .before .before))
@@ -54,7 +59,7 @@ returns-3 : tie.Need-returns-3
 unfolding runTest
 returns-3 c =
     let t = c .before .before .before .before .trace-test in
-    rw (ready (c .before .before .before .before .before), ← c .before .record-count .ensures, ← t .ensures, c .before .before .enum-told2 .given .1) (c .count-test .ensures)
+    rw (ready (c .before .before .before .before .before), ← c .before .period-records .ensures, ← t .ensures, c .before .before .enum-told3 .given .1) (c .count-test .ensures)
 
 pub run-test-spec : {M : Type 1} → statement M
 run-test-spec =
@@ -62,10 +67,12 @@ run-test-spec =
     (tie.spec
     ready-test-requires
     enum-told
+    enum-told-2
     returns
     trace-test-requires
-    enum-told-2
+    enum-told-3
+    enum-told-4
     returns-2
-    record-count-requires
+    period-records-requires
     count-test-requires
     returns-3)

@@ -1,5 +1,4 @@
 -- `runner::step_test` meets its contract: the image and the state, then the record, then the count.
--- Assumes nothing.
 use borrow.Author.Needs.{needs}
 use mathlib.Core.Path.{_≡_, sym, _∙_}
 use Rattle.records.specs.declared.Test.the-variants.{Passed}
@@ -20,11 +19,14 @@ ready-test-requires c κs = search needs
 enum-told : tie.Need-enum-told
 enum-told c = search needs
 
+enum-told-2 : tie.Need-enum-told-2
+enum-told-2 c = search needs
+
 returns : tie.Need-returns
 unfolding stepTest
 returns c =
-    let t = c .before .ready-test in
-    refused-first (t .result) _ _ (t .ensures) (c .match .keys2)
+    let t = c .before .before .ready-test in
+    refused-first (t .result) _ _ (t .ensures) (c .enum-told2 .given .1)
 
 -- past the tests of the image and the state
 ready : (c : lts.After-enum-told (ready-test-reads.Asked, ready-test-reads.Learnt, record-test-reads.Asked, record-test-reads.Learnt, count-test-reads.Asked, count-test-reads.Learnt) reads.Pre reads.Post)
@@ -34,14 +36,17 @@ ready c = sym (c .before .before .ready-test .ensures) ∙ c .enum-told .given .
 record-test-requires : tie.Need-record-test-requires
 record-test-requires c κs = search needs
 
-enum-told-2 : tie.Need-enum-told-2
-enum-told-2 c = search needs
+enum-told-3 : tie.Need-enum-told-3
+enum-told-3 c = search needs
+
+enum-told-4 : tie.Need-enum-told-4
+enum-told-4 c = search needs
 
 returns-2 : tie.Need-returns-2
 unfolding stepTest
 returns-2 c =
-    let t = c .before .record-test in
-    rw (ready (c .before .before)) (refused-first (t .result) _ _ (t .ensures) (c .match2 .keys2))
+    let t = c .before .before .record-test in
+    rw (ready (c .before .before .before)) (refused-first (t .result) _ _ (t .ensures) (c .enum-told4 .given .1))
 
 count-test-requires : tie.Need-count-test-requires
 count-test-requires c κs = ready-head _ _ (ready (c .before .before .before))
@@ -50,7 +55,7 @@ returns-3 : tie.Need-returns-3
 unfolding stepTest
 returns-3 c =
     let t = c .before .before .before .record-test in
-    rw (ready (c .before .before .before .before), ← t .ensures, c .before .enum-told2 .given .1) (c .count-test .ensures)
+    rw (ready (c .before .before .before .before), ← t .ensures, c .before .enum-told3 .given .1) (c .count-test .ensures)
 
 pub step-test-spec : {M : Type 1} → statement M
 step-test-spec =
@@ -58,9 +63,11 @@ step-test-spec =
     (tie.spec
     ready-test-requires
     enum-told
+    enum-told-2
     returns
     record-test-requires
-    enum-told-2
+    enum-told-3
+    enum-told-4
     returns-2
     count-test-requires
     returns-3)

@@ -1,9 +1,8 @@
 -- `states::count_test` meets its contract: the periods left are fewer than n where the sum is above the most.
--- Assumes nothing.
 use borrow.Author.Needs.{needs}
 use Prim.Native.Nat.{_+_}
 use native.Mathlib.Omega.{arith}
-use borrow.Author.Tests.{lt-ltb, le-ltb}
+use borrow.Author.Tests.{lt-leb, le-leb}
 use Rattle.states.specs.Limits.{maxPeriods}
 use Rattle.states.specs.States.{stateOf}
 use Rattle.states.specs.Refusals.{countTest}
@@ -23,13 +22,13 @@ returns : tie.Need-returns
 unfolding stateOf countTest
 returns c =
     let g = c .before .get4 in
-    rw (← g .ensures .is, lt-ltb maxPeriods (g .result + c .before .before .before .args .n) (omega arith))
+    rw (← g .ensures .is, lt-leb (g .result + c .before .before .before .args .n) maxPeriods (omega arith))
 
 returns-2 : tie.Need-returns-2
 unfolding stateOf countTest
 returns-2 c =
     let g = c .before .get4 in
-    rw (← g .ensures .is, le-ltb maxPeriods (g .result + c .before .before .before .args .n) (omega arith))
+    rw (← g .ensures .is, le-leb (g .result + c .before .before .before .args .n) maxPeriods (omega arith))
 
 pub count-test-spec : {M : Type 1} → statement M
 count-test-spec = tie.close (tie.spec get4-requires sub-left cast-left returns returns-2)

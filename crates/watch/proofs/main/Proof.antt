@@ -1,5 +1,4 @@
 -- `watch::main` meets its contract: what has been read lies within its buffer, and so does the report.
--- Assumes nothing.
 use borrow.Author.Needs.{needs}
 use native.Mathlib.Omega.{arith}
 use mathlib.Core.Path.{sym}

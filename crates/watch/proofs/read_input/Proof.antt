@@ -1,5 +1,4 @@
 -- `watch::read_input` meets its contract: what has been read lies within the buffer.
--- Assumes nothing.
 use Prim.Native.Nat.{_-_, _≤_}
 use mathlib.Core.Path.{_≡_}
 use lib.ListN as ListN

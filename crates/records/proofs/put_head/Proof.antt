@@ -1,9 +1,8 @@
--- `runner::put_begin_reply` meets its contract: the reply's fields are written one after the other.
--- Assumes nothing.
+-- `records::put_head` meets its contract: the fields are written one after the other.
 use borrow.Author.Needs.{needs}
-use Rattle.runner.proofs.Calls.{short-written}
-use Rattle.runner.proofs.put_begin_reply.Statement.{statement}
-use Rattle.runner.proofs.put_begin_reply.Tie as tie
+use Rattle.records.proofs.Replies.{head-written}
+use Rattle.records.proofs.put_head.Statement.{statement}
+use Rattle.records.proofs.put_head.Tie as tie
 
 number-requires : tie.Need-number-requires
 number-requires c κs = search needs
@@ -26,10 +25,10 @@ same-length c = search needs
 returns : tie.Need-returns
 returns c =
     let a = c .before .before .before .before .before .before .before .before .before .before .before .before .before .before .before .args in
-    cc (short-written (a .reply .now) (a .t))
+    cc (head-written (a .reply .now) (a .t) (a .own))
 
-pub put-begin-reply-spec : {M : Type 1} → statement M
-put-begin-reply-spec =
+pub put-head-spec : {M : Type 1} → statement M
+put-head-spec =
     tie.close
     (tie.spec
     number-requires

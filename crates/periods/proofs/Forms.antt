@@ -1,0 +1,39 @@
+-- What holds of a period record in each form.
+use Prim.Native.Nat.{ℕ, _+_, _*_, _/_, _≤_, _<_}
+use native.Mathlib.Nat.{add-assoc}
+use native.Mathlib.Omega.{arith}
+use mathlib.Core.List.{List}
+use mathlib.Core.Path.{_≡_, refl}
+use lib.ListN.{length}
+use Rattle.records.specs.Fields.{field}
+use Rattle.periods.specs.declared.Form.{Form}
+use Rattle.periods.specs.declared.Form.the-variants.{Short}
+use Rattle.periods.specs.Forms.{periodBytes}
+use Rattle.periods.specs.Periods.{periodFrom}
+use Rattle.periods.specs.Traces.{wholeRecords}
+
+pub is-short : (f : Form) → f ≡ Short
+is-short Short = refl
+
+-- what the short form's reading finds
+pub short-room : (f : Form) (at n : ℕ) → at + periodBytes f ≤ n → at + 6 ≤ n
+short-room Short at n h = h
+
+pub short-period : (f : Form) (l : List ℕ) (at : ℕ) → periodFrom f l at ≡ record { attempts1 = field l (at + 2) 2; attempts2 = field l (at + 4) 2 }
+unfolding periodFrom
+short-period Short l at = rw (add-assoc at 2 2)
+
+-- a whole record stands inside the bytes
+pub record-inside : (f : Form) (l : List ℕ) (k : ℕ) → k < wholeRecords f l → periodBytes f * k + periodBytes f ≤ length l
+unfolding wholeRecords
+record-inside Short l k h = omega arith
+
+-- as many bytes as one record has are one record, and the first of them
+pub one-record : (f : Form) (l : List ℕ) → length l ≡ periodBytes f → wholeRecords f l ≡ 1
+unfolding wholeRecords
+one-record Short l h = rw h
+
+-- no form's record is shorter than the short one
+pub few-whole : (f : Form) (l : List ℕ) → periodBytes Short * wholeRecords f l ≤ length l
+unfolding wholeRecords
+few-whole Short l = omega arith

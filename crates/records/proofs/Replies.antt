@@ -1,0 +1,97 @@
+-- The bytes of replies, reading a field back, and the three ways out of a call. Document 01, "Calls" and "Replies that refuse".
+use Prim.Native.Nat.{ℕ, _+_, _^_, _≤_, _<_}
+use native.Mathlib.Nat.{zero-add, add-assoc, mod-eq-of-lt}
+use native.Mathlib.Omega.{arith}
+use mathlib.Core.Path.{_≡_, refl, sym, ap, _∙_}
+use mathlib.Core.List.{List, [], _∷_, _++_, append-assoc, append-nil}
+use lib.ListN.{length, drop, length-append}
+use lib.Seq.{sets}
+use borrow.Author.Tests.{lt-ltb, le-ltb}
+use Rattle.records.specs.Fields.{bytes, field}
+use Rattle.records.specs.declared.Test.{Test}
+use Rattle.records.specs.declared.Test.the-variants.{Passed, Refused}
+use Rattle.records.specs.Refusals.{numberOf, placeOf}
+use Rattle.records.specs.Replies.{Field, fieldsBytes, size, replyFields, zeros, After, Gives, unwritten, written, answered, call}
+use Rattle.records.proofs.Fields.{length-bytes}
+use Rattle.records.proofs.Written.{sets-append, drop-after, field-in, field-spelled}
+
+-- ---- the bytes of fields
+
+pub length-fields : (fs : List Field) → length (fieldsBytes fs) ≡ size fs
+unfolding fieldsBytes
+length-fields [] = refl
+length-fields (f ∷ fs) = rw (length-append, length-bytes, length-fields fs)
+
+pub fields-append : (fs gs : List Field) → fieldsBytes (fs ++ gs) ≡ fieldsBytes fs ++ fieldsBytes gs
+unfolding fieldsBytes
+fields-append [] gs = refl
+fields-append (f ∷ fs) gs = rw (fields-append fs gs, append-assoc)
+
+pub size-append : (fs gs : List Field) → size (fs ++ gs) ≡ size fs + size gs
+size-append [] gs = rw zero-add
+size-append (f ∷ fs) gs = rw (size-append fs gs, add-assoc)
+
+-- a refused call's fields are as long as an accepted one's
+pub size-zeros : (fs : List Field) → size (zeros fs) ≡ size fs
+size-zeros [] = refl
+size-zeros (f ∷ fs) = rw (size-zeros fs)
+
+-- fields written behind others
+pub fields-written : (area : List ℕ) (fs gs : List Field) → sets area 0 (fieldsBytes (fs ++ gs)) ≡ sets (sets area 0 (fieldsBytes fs)) (size fs) (fieldsBytes gs)
+fields-written area fs gs = rw (fields-append fs gs, sets-append, length-fields fs, zero-add)
+
+-- a reply's first three fields
+pub head-written : (area : List ℕ) (t : Test) (own : ℕ)
+    → sets area 0 (fieldsBytes (replyFields t own [])) ≡ sets (sets (sets area 0 (bytes 4 (numberOf t))) 4 (bytes 4 own)) 8 (bytes 8 (placeOf t))
+unfolding fieldsBytes
+head-written area t own = simp (append-nil, sets-append, length-bytes)
+
+-- the field behind some fields, with any others after it, is read back
+pub field-back : (before : List Field) (f : Field) (others : List Field) (area : List ℕ) → size (before ++ (f ∷ others)) ≤ length area → f .value < 256 ^ f .width
+    → field (sets area 0 (fieldsBytes (before ++ (f ∷ others)))) (size before) (f .width) ≡ f .value
+unfolding fieldsBytes
+field-back before f others area h small =
+    let fs = before ++ (f ∷ others) in
+    let e : fieldsBytes fs ≡ fieldsBytes before ++ (bytes (f .width) (f .value) ++ fieldsBytes others) = fields-append before (f ∷ others) in
+    let fits : length (fieldsBytes fs) ≤ length area = rw (length-fields fs) h in
+    let within : size before + f .width ≤ length (fieldsBytes fs) = rw (length-fields fs, size-append before (f ∷ others)) (omega arith) in
+    rw zero-add at (field-in area 0 (fieldsBytes fs) (size before) (f .width) (rw zero-add fits) within)
+    ∙ rw e (field-spelled (fieldsBytes before) (f .width) (f .value) (fieldsBytes others) (size before) (length-fields before))
+    ∙ mod-eq-of-lt small
+
+-- the bytes past a reply are as they were
+pub past-fields : (fs : List Field) (area : List ℕ) → drop (size fs) (sets area 0 (fieldsBytes fs)) ≡ drop (size fs) area
+past-fields fs area = drop-after area 0 (fieldsBytes fs) (size fs) (rw length-fields (omega arith))
+
+-- ---- what a call leaves
+
+module _ {Lent : Type 0} (t : Test) (own : ℕ) (others : List Field) (lent later : Lent) (area : List ℕ) where
+  pub call-no-room : length area < size (replyFields t own others) → call t own others lent later area ≡ unwritten lent area
+  unfolding call
+  call-no-room h = rw (lt-ltb (length area) (size (replyFields t own others)) h)
+
+  pub call-passed : size (replyFields t own others) ≤ length area → t ≡ Passed
+      → call t own others lent later area ≡ written later area (replyFields Passed own others)
+  unfolding call
+  call-passed h e = rw (le-ltb (length area) (size (replyFields t own others)) h, e)
+
+  refused : (t : Test) → ¬ (t ≡ Passed) → answered t own others lent later area ≡ written lent area (replyFields t 0 (zeros others))
+  refused Passed h = absurd (h refl)
+  refused (Refused f k) h = refl
+
+  pub call-refused : size (replyFields t own others) ≤ length area → ¬ (t ≡ Passed)
+      → call t own others lent later area ≡ written lent area (replyFields t 0 (zeros others))
+  unfolding call
+  call-refused h e = rw (le-ltb (length area) (size (replyFields t own others)) h) (refused t e)
+
+  -- the three ways out of a call
+  pub gives-no-room : length area < size (replyFields t own others) → Gives (call t own others lent later area) 0 lent area
+  gives-no-room h = rw (call-no-room h) record { result-is = refl; lent-is = refl; reply-is = refl }
+
+  pub gives-refused : size (replyFields t own others) ≤ length area → ¬ (t ≡ Passed) → (r : List ℕ)
+      → r ≡ sets area 0 (fieldsBytes (replyFields t 0 (zeros others))) → Gives (call t own others lent later area) 1 lent r
+  gives-refused h e r j = rw (call-refused h e) record { result-is = refl; lent-is = refl; reply-is = j }
+
+  pub gives-passed : size (replyFields t own others) ≤ length area → t ≡ Passed → (l : Lent) (r : List ℕ)
+      → l ≡ later → r ≡ sets area 0 (fieldsBytes (replyFields Passed own others)) → Gives (call t own others lent later area) 1 l r
+  gives-passed h e l r i j = rw (call-passed h e) record { result-is = refl; lent-is = i; reply-is = j }
