@@ -1,5 +1,4 @@
 -- Images and their bytes. Document 01, "Image and row machine", and refusal 9.
--- Assumes nothing.
 use Prim.Native.Nat.{ℕ, zero, suc, _+_, _*_, _%_, _≤_, _<_}
 use native.Mathlib.Nat.{add-zero}
 use native.Mathlib.Numerals.{add-one}

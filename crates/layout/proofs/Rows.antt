@@ -1,5 +1,4 @@
 -- The rows of an image and their bytes. Document 01, "Image and row machine".
--- Assumes nothing.
 use Prim.Native.Nat.{ℕ, zero, suc, _+_, _^_, _≤_, _<_}
 use native.Mathlib.Nat.{add-zero, add-assoc}
 use native.Mathlib.Numerals.{add-one}

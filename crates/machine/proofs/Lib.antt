@@ -2,5 +2,5 @@
 pub mod RowKinds
 pub mod Machine
 pub mod Computing
-pub mod Settling
+pub mod Trimming
 pub mod Steps

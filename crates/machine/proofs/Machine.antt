@@ -1,5 +1,4 @@
 -- The row machine keeps states sound, counts periods, and never changes a decision.
--- Assumes nothing.
 use Prim.Native.Nat.{ℕ, zero, suc, _+_, _≤_}
 use native.Mathlib.Nat.{add-zero}
 use native.Mathlib.Numerals.{add-one}

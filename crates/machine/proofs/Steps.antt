@@ -1,5 +1,4 @@
 -- What the code of a period leaves in a sound state's bytes is what the row machine says.
--- Assumes nothing.
 use Prim.Native.Nat.{ℕ, _+_, _-_, _%_, _≤_}
 use native.Mathlib.Omega.{arith}
 use mathlib.Core.Bool.{Bool, true, false, _||_, cond, and-eq-true-iff}
@@ -21,9 +20,9 @@ use Rattle.states.specs.Premises.{soundHead, Answering}
 use Rattle.states.proofs.Refusals.{state-passed}
 use Rattle.states.proofs.States.{Sound, sound-split, stateBytes-stateOf, read-back, sound-passes, part-rest, length-stateBytes}
 use Rattle.machine.specs.Machine.{byteOf, isTrue, valuesAfter, outcomeOf, blameOf, computed, counted, afterPeriod, afterPeriods}
-use Rattle.machine.specs.Computing.{firstBits, valuesIn, settled, packed, newBits, RowValues, withDecision, decidedBytes, Working, Advanced}
+use Rattle.machine.specs.Computing.{firstBits, valuesIn, trimmed, packed, newBits, RowValues, withDecision, decidedBytes, Working, Advanced}
 use Rattle.machine.specs.Premises.{Ready}
-use Rattle.machine.proofs.Settling.{length-firstBits, length-settled, put-rest, state-sound, plain, settled-bytes, settled-state}
+use Rattle.machine.proofs.Trimming.{length-firstBits, length-trimmed, put-rest, state-sound, plain, trimmed-bytes, trimmed-state}
 use Rattle.machine.proofs.Computing.{firstBits-packed, packed-small}
 use Rattle.machine.proofs.Machine.{isTrue-byteOf, length-valuesAfter, after-undecided, after-decided, sound-afterPeriods, periods-afterPeriods}
 
@@ -83,10 +82,10 @@ length-valuesIn l = length-map (firstBits l) isTrue ∙ length-firstBits l
 
 module _ (image l : List ℕ) (w : Working image l 1) where
   pub working-long : length l ≡ headBytes + rowCount image
-  working-long = sym (length-settled l) ∙ state-passed (rowCount image) (settled l) (w .ready .sound) .0
+  working-long = sym (length-trimmed l) ∙ state-passed (rowCount image) (trimmed l) (w .ready .sound) .0
 
-  pub working-state : stateOf (settled l) ≡ plain (stateOf l)
-  working-state = settled-state l (rw working-long (omega arith))
+  pub working-state : stateOf (trimmed l) ≡ plain (stateOf l)
+  working-state = trimmed-state l (rw working-long (omega arith))
 
   room : stateOf l .periods + 1 ≤ maxPeriods
   room = rw working-state at (w .ready .room)
@@ -125,7 +124,7 @@ module _ (image l : List ℕ) (w : Working image l 1) where
     pub row-values : RowValues image rows (eqb (stateOf l .periods) 0)
     row-values =
         let s = plain (stateOf l) in
-        let t : sound s ≡ true = rw working-state at (state-passed (rowCount image) (settled l) (w .ready .sound) .1) in
+        let t : sound s ≡ true = rw working-state at (state-passed (rowCount image) (trimmed l) (w .ready .sound) .1) in
         record {
           good = w .ready .good;
           long = ap length raised-values ∙ long-values;
@@ -145,7 +144,7 @@ module _ (image l : List ℕ) (w : Working image l 1) where
       unfolding counted
       period-counted d =
           record {
-            is = rw (working-state, after-decided (imageOf image) p (plain (stateOf l)) d) (ap settled counts ∙ settled-bytes (counted (stateOf l)));
+            is = rw (working-state, after-decided (imageOf image) p (plain (stateOf l)) d) (ap trimmed counts ∙ trimmed-bytes (counted (stateOf l)));
             small = rw raised-rest (w .small);
           }
 
@@ -167,7 +166,7 @@ module _ (image l : List ℕ) (w : Working image l 1) where
           let d : decidedBytes m n (putMid headBytes (length raised - headBytes) raised vs) ≡ stateBytes u =
           rw (put-rest headBytes raised vs, counts, put-values (counted s) vs, e) (put-decided t m new f) in
           record {
-            is = rw (working-state, after-undecided m p (plain s) o) (ap settled d ∙ settled-bytes u ∙ rw f refl);
+            is = rw (working-state, after-undecided m p (plain s) o) (ap trimmed d ∙ trimmed-bytes u ∙ rw f refl);
             small = rw (d, drop-head u, q) (packed-small old new);
           }
 

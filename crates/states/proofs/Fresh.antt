@@ -1,5 +1,4 @@
 -- The state of no periods: its bytes are zeros, and it is sound.
--- Assumes nothing.
 use Prim.Native.Nat.{ℕ, zero, suc, _+_, _≤_}
 use native.Mathlib.Omega.{arith}
 use mathlib.Core.Path.{_≡_, refl, sym}

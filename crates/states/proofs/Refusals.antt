@@ -1,5 +1,4 @@
 -- What passed tests of a state and of its count show. Document 01, "Replies that refuse".
--- Assumes nothing.
 use Prim.Native.Nat.{ℕ, _+_, _-_, _≤_}
 use native.Mathlib.Omega.{arith}
 use mathlib.Core.Path.{_≡_, refl}

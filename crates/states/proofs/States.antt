@@ -1,6 +1,5 @@
 -- States: values that are all at most a number, soundness as facts on numbers, and the bytes of a state. Document 01, "Image and
 -- row machine", from "State".
--- Assumes nothing.
 use Prim.Native.Nat.{ℕ, zero, suc, _+_, _*_, _-_, _^_, _≤_, _<_}
 use native.Mathlib.Nat.{mod-eq-of-lt, le-refl}
 use native.Mathlib.Omega.{arith}

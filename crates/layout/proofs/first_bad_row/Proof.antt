@@ -1,5 +1,4 @@
 -- `layout::first_bad_row` meets its contract. The loop's invariant: the search from k on finds what the whole search finds.
--- Assumes nothing.
 use borrow.Author.Tests.{not-true, not-false}
 use Prim.Native.Nat.{_≤_, _-_}
 use native.Mathlib.Nat.{sub-zero}

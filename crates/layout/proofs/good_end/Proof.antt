@@ -1,5 +1,4 @@
 -- `layout::good_end` meets its contract: the mark, then each of the three fields is compared.
--- Assumes nothing.
 use borrow.Author.Needs.{needs}
 use borrow.Author.Tests.{lt-ltb, le-ltb, not-true, not-false}
 use Prim.Native.Nat.{_+_, _*_}

@@ -1,5 +1,4 @@
 -- `layout::good_row` meets its contract: each arm makes the tests of its kinds.
--- Assumes nothing.
 use borrow.Author.Needs.{needs}
 use borrow.Author.Tests.{eq-eqb, ne-eqb, lt-ltb, le-ltb, le-leb, lt-leb}
 use Prim.Native.Nat.{_≤_, _<_}

@@ -1,5 +1,4 @@
 -- `layout::good_row_at` meets its contract: the mark, the zero byte, then the row of the kind and the fields that are read.
--- Assumes nothing.
 use borrow.Author.Needs.{needs}
 use borrow.Author.Tests.{eq-eqb, ne-eqb, not-true, not-false}
 use Rattle.layout.specs.Rows.{decode}

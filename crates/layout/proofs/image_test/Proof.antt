@@ -1,5 +1,4 @@
 -- `layout::image_test` meets its contract: the length, the first bad row, the end record, in that order.
--- Assumes nothing.
 use borrow.Author.Needs.{needs}
 use borrow.Author.Tests.{eq-eqb, ne-eqb, ltb-true, ltb-false, not-true, not-false}
 use native.Mathlib.Omega.{arith}

@@ -1,5 +1,4 @@
 -- `layout::put_end` meets its contract: the end record's mark and fields are written one after the other.
--- Assumes nothing.
 use Prim.Native.Nat.{ℕ, suc, _+_, _*_}
 use native.Mathlib.Nat.{add-assoc}
 use native.Mathlib.Omega.{arith}

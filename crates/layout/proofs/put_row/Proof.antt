@@ -1,5 +1,4 @@
 -- `layout::put_row` meets its contract: the row's mark, kind and fields are written one after the other.
--- Assumes nothing.
 use Prim.Native.Nat.{ℕ, suc, _+_, _*_}
 use native.Mathlib.Omega.{arith}
 use mathlib.Core.Path.{_≡_, sym}

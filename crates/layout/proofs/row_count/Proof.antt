@@ -1,5 +1,4 @@
 -- `layout::row_count` meets its contract: the division is the count's own.
--- Assumes nothing.
 use borrow.Author.Needs.{needs}
 use mathlib.Core.Path.{refl}
 use Rattle.layout.specs.Images.{rowCount}

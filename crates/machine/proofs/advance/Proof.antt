@@ -1,5 +1,4 @@
 -- `machine::advance` meets its contract: the count is raised, and on an undecided state the rows are computed and decide, the older values being left in second bits.
--- Assumes nothing.
 use Prim.Native.Nat.{_+_}
 use native.Mathlib.Omega.{arith}
 use mathlib.Core.Path.{_≡_, refl, sym, ap, _∙_}

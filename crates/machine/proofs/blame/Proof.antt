@@ -1,5 +1,4 @@
 -- `machine::blame` meets its contract.
--- Assumes nothing.
 use native.Mathlib.Omega.{arith}
 use borrow.Author.Needs.{needs}
 use Rattle.machine.proofs.Computing.{blame-of, blame-small}

@@ -1,5 +1,4 @@
 -- `machine::compute` meets its contract: after k turns the first k rows have their new values.
--- Assumes nothing.
 use Prim.Native.Nat.{_-_, _≤_, _<_}
 use native.Mathlib.Numerals.{add-one}
 use native.Mathlib.Omega.{arith}

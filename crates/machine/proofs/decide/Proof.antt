@@ -1,5 +1,4 @@
 -- `machine::decide` meets its contract: the end record's fields name the rows that decide.
--- Assumes nothing.
 use native.Mathlib.Omega.{arith}
 use mathlib.Core.Path.{_∙_}
 use Rattle.layout.proofs.Images.{passed-good, good-S, good-V1, good-V2}

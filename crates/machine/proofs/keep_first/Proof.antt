@@ -1,5 +1,4 @@
 -- `machine::keep_first` meets its contract: the first k bytes keep their first bits.
--- Assumes nothing.
 use Prim.Native.Nat.{_-_, _%_, _≤_}
 use native.Mathlib.Omega.{arith}
 use native.Mathlib.Numerals.{add-one}

@@ -1,5 +1,4 @@
 -- `machine::kind_value` meets its contract: one law for each kind.
--- Assumes nothing.
 use native.Mathlib.Omega.{arith}
 use borrow.Author.Needs.{needs}
 use borrow.Author.Tests.{ltb-true}

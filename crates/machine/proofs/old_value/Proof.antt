@@ -1,5 +1,4 @@
 -- `machine::old_value` meets its contract: a row below k has its old value in the second bit, another in the first.
--- Assumes nothing.
 use native.Mathlib.Omega.{arith}
 use borrow.Author.Needs.{needs}
 use Rattle.machine.proofs.RowKinds.{old-below, old-above}

@@ -1,5 +1,4 @@
 -- `machine::outcome` meets its contract: V1, then V2, then S.
--- Assumes nothing.
 use borrow.Author.Needs.{needs}
 use Rattle.machine.proofs.Computing.{outcome-sat}
 use Rattle.machine.proofs.outcome.Statement.{statement}

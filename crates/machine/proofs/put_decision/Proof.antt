@@ -1,5 +1,4 @@
 -- `machine::put_decision` meets its contract: the decision period is written where the outcome is not 0.
--- Assumes nothing.
 use mathlib.Core.Path.{ap, _∙_}
 use native.Mathlib.Omega.{arith}
 use borrow.Author.Needs.{needs}

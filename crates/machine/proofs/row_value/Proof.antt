@@ -1,5 +1,4 @@
 -- `machine::row_value` meets its contract: the fields of a good image's row are a row's.
--- Assumes nothing.
 use native.Mathlib.Omega.{arith}
 use Rattle.machine.proofs.RowKinds.{row-fits, row-held, row-good}
 use Rattle.machine.proofs.row_value.Statement.{statement}

@@ -1,5 +1,4 @@
 -- `states::all_at_most` meets its contract: at value k the values are all at most `top` as those from k on are.
--- Assumes nothing.
 use Prim.Native.Nat.{_≤_, _-_}
 use native.Mathlib.Numerals.{add-one}
 use native.Mathlib.Omega.{arith}

@@ -1,5 +1,4 @@
 -- `states::count_test` meets its contract: the periods left are fewer than n where the sum is above the most.
--- Assumes nothing.
 use borrow.Author.Needs.{needs}
 use Prim.Native.Nat.{_+_}
 use native.Mathlib.Omega.{arith}

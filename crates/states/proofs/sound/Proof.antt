@@ -1,5 +1,4 @@
 -- `states::sound` meets its contract: the head's test, and then the values', by whether periods are taken.
--- Assumes nothing.
 use borrow.Author.Needs.{needs}
 use mathlib.Core.Path.{_≡_, sym, _∙_}
 use borrow.Author.Tests.{not-true, not-false}

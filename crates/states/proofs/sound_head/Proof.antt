@@ -1,5 +1,4 @@
 -- `states::sound_head` meets its contract: each outcome has its tests, of which the later are made where the earlier hold.
--- Assumes nothing.
 use mathlib.Core.Bool.{_&&_}
 use mathlib.Core.Logic.{⊎-elim}
 use mathlib.Core.Path.{_≡_, _∙_}

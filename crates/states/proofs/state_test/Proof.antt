@@ -1,5 +1,4 @@
 -- `states::state_test` meets its contract: the length, and then whether the state is sound.
--- Assumes nothing.
 use borrow.Author.Needs.{needs}
 use Prim.Native.Nat.{_+_}
 use lib.ListN.{length}

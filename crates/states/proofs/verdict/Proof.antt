@@ -1,5 +1,4 @@
 -- `states::verdict` meets its contract: outcome and decision period are those that are read of the state.
--- Assumes nothing.
 use native.Mathlib.Omega.{arith}
 use mathlib.Core.Bool.{false}
 use mathlib.Core.Path.{_≡_}

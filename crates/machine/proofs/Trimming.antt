@@ -1,5 +1,4 @@
 -- A state whose rows' bytes hold two values each, and the state that it stands for.
--- Assumes nothing.
 use Prim.Native.Nat.{ℕ, suc, _+_, _-_, _%_, _≤_, _<_}
 use native.Mathlib.Nat.{mod-eq-of-lt, le-refl}
 use native.Mathlib.Omega.{arith}
@@ -17,15 +16,15 @@ use Rattle.states.specs.States.{State, stateOf, stateBytes, allAtMost}
 use Rattle.states.specs.Refusals.{stateTest}
 use Rattle.states.proofs.Refusals.{state-passed}
 use Rattle.states.proofs.States.{at-allAtMost, Sound, sound-facts, part-rest}
-use Rattle.machine.specs.Computing.{firstBits, settled}
+use Rattle.machine.specs.Computing.{firstBits, trimmed}
 
 pub length-firstBits : (l : List ℕ) → length (firstBits l) ≡ length l
 unfolding firstBits
 length-firstBits l = length-map l (λ (v : ℕ). v % 2)
 
-pub length-settled : (l : List ℕ) → length (settled l) ≡ length l
-unfolding settled
-length-settled l = length-append (take headBytes l) (firstBits (drop headBytes l)) ∙ ap (λ (n : ℕ). length (take headBytes l) + n) (length-firstBits (drop headBytes l))
+pub length-trimmed : (l : List ℕ) → length (trimmed l) ≡ length l
+unfolding trimmed
+length-trimmed l = length-append (take headBytes l) (firstBits (drop headBytes l)) ∙ ap (λ (n : ℕ). length (take headBytes l) + n) (length-firstBits (drop headBytes l))
     ∙ sym (length-append (take headBytes l) (drop headBytes l)) ∙ ap length (take-append-drop headBytes l)
 
 -- a part up to the end, put back
@@ -35,9 +34,9 @@ put-rest n l vs =
     ∙ ap (λ (r : List ℕ). take n l ++ r) (append-nil vs)
 
 -- the rows' part with its first bits alone
-pub settled-put : (l vs : List ℕ) → vs ≡ firstBits (take (length l - headBytes) (drop headBytes l)) → putMid headBytes (length l - headBytes) l vs ≡ settled l
-unfolding settled
-settled-put l vs e = put-rest headBytes l vs ∙ ap (λ (r : List ℕ). take headBytes l ++ r) (e ∙ ap firstBits (part-rest headBytes l))
+pub trimmed-put : (l vs : List ℕ) → vs ≡ firstBits (take (length l - headBytes) (drop headBytes l)) → putMid headBytes (length l - headBytes) l vs ≡ trimmed l
+unfolding trimmed
+trimmed-put l vs e = put-rest headBytes l vs ∙ ap (λ (r : List ℕ). take headBytes l ++ r) (e ∙ ap firstBits (part-rest headBytes l))
 
 -- ---- a state that passes its test stands for itself
 
@@ -59,9 +58,9 @@ module _ (n : ℕ) (l : List ℕ) (h : stateTest n l ≡ Passed) where
   unfolding stateOf
   values-small = state-sound n l h .values≤
 
-  pub settled-plain : settled l ≡ l
-  unfolding settled
-  settled-plain = rw (firstBits-plain (drop headBytes l) values-small) (take-append-drop headBytes l)
+  pub trimmed-plain : trimmed l ≡ l
+  unfolding trimmed
+  trimmed-plain = rw (firstBits-plain (drop headBytes l) values-small) (take-append-drop headBytes l)
 
   pub plain-small : allAtMost 3 (drop headBytes l) ≡ true
   plain-small = at-allAtMost 3 (drop headBytes l) (λ i. omega (arith, values-small i))
@@ -72,9 +71,9 @@ module _ (n : ℕ) (l : List ℕ) (h : stateTest n l ≡ Passed) where
 abbrev pub plain : State → State
 plain s = record { outcome = s .outcome; blame = s .blame; periods = s .periods; decision = s .decision; values = firstBits (s .values) }
 
-pub settled-bytes : (s : State) → settled (stateBytes s) ≡ stateBytes (plain s)
-unfolding settled stateBytes bytes
-settled-bytes s = refl
+pub trimmed-bytes : (s : State) → trimmed (stateBytes s) ≡ stateBytes (plain s)
+unfolding trimmed stateBytes bytes
+trimmed-bytes s = refl
 
 -- in the head the bytes are as they were
 module _ (l : List ℕ) (h : headBytes ≤ length l) where
@@ -84,22 +83,22 @@ module _ (l : List ℕ) (h : headBytes ≤ length l) where
   head-long : length (take headBytes l) ≡ headBytes
   head-long = length-take-le headBytes l h
 
-  settled-at : (i : ℕ) → i < headBytes → getD (settled l) i 0 ≡ getD l i 0
-  unfolding settled
-  settled-at i k = List·getD-append (take headBytes l) rest 0 i (rw head-long k) ∙ getD-take headBytes l i 0 k
+  trimmed-at : (i : ℕ) → i < headBytes → getD (trimmed l) i 0 ≡ getD l i 0
+  unfolding trimmed
+  trimmed-at i k = List·getD-append (take headBytes l) rest 0 i (rw head-long k) ∙ getD-take headBytes l i 0 k
 
-  settled-field : (at w : ℕ) → at + w ≤ headBytes → field (settled l) at w ≡ field l at w
-  unfolding settled field
-  settled-field at w k =
+  trimmed-field : (at w : ℕ) → at + w ≤ headBytes → field (trimmed l) at w ≡ field l at w
+  unfolding trimmed field
+  trimmed-field at w k =
       let part : (m : List ℕ) → drop at (take (at + w) m) ≡ take w (drop at m) =
       λ m. let e : at + w - at ≡ w = omega arith in rw e at (drop-take at (at + w) m) in
       ap value (sym (part (take headBytes l ++ rest))
       ∙ ap (drop at) (take-append-le (at + w) (take headBytes l) rest (rw head-long k) ∙ take-take (at + w) headBytes l k) ∙ part l)
 
-  settled-rest : drop headBytes (settled l) ≡ rest
-  unfolding settled
-  settled-rest = drop-at (take headBytes l) rest headBytes head-long
+  trimmed-rest : drop headBytes (trimmed l) ≡ rest
+  unfolding trimmed
+  trimmed-rest = drop-at (take headBytes l) rest headBytes head-long
 
-  pub settled-state : stateOf (settled l) ≡ plain (stateOf l)
+  pub trimmed-state : stateOf (trimmed l) ≡ plain (stateOf l)
   unfolding stateOf
-  settled-state = rw (settled-at 0 (omega arith), settled-at 1 (omega arith), settled-field 2 4 (omega arith), settled-field 6 4 (omega arith), settled-rest)
+  trimmed-state = rw (trimmed-at 0 (omega arith), trimmed-at 1 (omega arith), trimmed-field 2 4 (omega arith), trimmed-field 6 4 (omega arith), trimmed-rest)
