@@ -1,7 +1,7 @@
 -- What the code of a period leaves in a sound state's bytes is what the row machine says.
 use Prim.Native.Nat.{ℕ, _+_, _-_, _%_, _≤_}
 use native.Mathlib.Omega.{arith}
-use mathlib.Core.Bool.{Bool, true, false, _||_, cond, and-eq-true-iff}
+use mathlib.Core.Bool.{Bool, true, false, _||_, cond}
 use mathlib.Core.List.{List, [], _∷_, _++_, map}
 use mathlib.Core.Path.{_≡_, refl, sym, ap, _∙_}
 use borrow.Rule.Slice.PartMut.{putMid}
@@ -15,10 +15,10 @@ use Rattle.periods.specs.Periods.{Period}
 use Rattle.layout.specs.Images.{Image, rowCount, imageOf}
 use Rattle.layout.proofs.Images.{length-rowsOf}
 use Rattle.states.specs.Limits.{headBytes, maxPeriods}
-use Rattle.states.specs.States.{State, stateOf, stateBytes, allAtMost, sound}
-use Rattle.states.specs.Premises.{soundHead, Answering}
+use Rattle.states.specs.States.{State, stateOf, stateBytes, allAtMost}
+use Rattle.states.specs.Premises.{Answering}
 use Rattle.states.proofs.Refusals.{state-passed}
-use Rattle.states.proofs.States.{Sound, sound-split, stateBytes-stateOf, read-back, sound-passes, part-rest, length-stateBytes}
+use Rattle.states.proofs.States.{Sound, decision≤, stateBytes-stateOf, read-back, sound-passes, part-rest, length-stateBytes}
 use Rattle.machine.specs.Machine.{byteOf, isTrue, valuesAfter, outcomeOf, blameOf, computed, counted, afterPeriod, afterPeriods}
 use Rattle.machine.specs.Computing.{firstBits, valuesIn, trimmed, packed, newBits, RowValues, withDecision, decidedBytes, Working, Advanced}
 use Rattle.machine.specs.Premises.{Ready}
@@ -123,14 +123,12 @@ module _ (image l : List ℕ) (w : Working image l 1) where
 
     pub row-values : RowValues image rows (eqb (stateOf l .periods) 0)
     row-values =
-        let s = plain (stateOf l) in
-        let t : sound s ≡ true = rw working-state at (state-passed (rowCount image) (trimmed l) (w .ready .sound) .1) in
+        let s : Sound (rowCount image) (plain (stateOf l)) = rw working-state at (state-sound (rowCount image) (trimmed l) (w .ready .sound)) in
         record {
           good = w .ready .good;
           long = ap length raised-values ∙ long-values;
           small = rw raised-values small-values;
-          fresh = rw raised-values (and-eq-true-iff (soundHead (s .outcome) (s .blame) (s .periods) (s .decision))
-              (allAtMost (cond (eqb (s .periods) 0) 0 1) (s .values)) .0 (sym (sound-split s) ∙ t) .1);
+          fresh = rw raised-values (s .values-sound);
         }
 
     module _ (a : AllBytes l) (e : n ≡ stateOf l .periods + 1) (p : Period) where
@@ -212,7 +210,7 @@ module _ (image l : List ℕ) (n : ℕ) (h : Ready image l n) (w : List Period) 
   later-answering =
       record {
         head = omega (arith, later-long, ready-long image l n h);
-        past = rw later-read (later-sound .head .decision≤);
+        decided-by-now = rw later-read (decision≤ (later-sound .head));
       }
 
 -- the state after one period is read back, and its answer can be given

@@ -1,11 +1,13 @@
 -- A state whose rows' bytes hold two values each, and the state that it stands for.
-use Prim.Native.Nat.{ℕ, suc, _+_, _-_, _%_, _≤_, _<_}
+use Prim.Native.Nat.{ℕ, _+_, _-_, _%_, _≤_, _<_}
 use native.Mathlib.Nat.{mod-eq-of-lt, le-refl}
 use native.Mathlib.Omega.{arith}
-use mathlib.Core.Bool.{true}
+use mathlib.Core.Bool.{true, and-eq-true-iff}
 use mathlib.Core.List.{List, [], _∷_, _++_, append-nil}
 use mathlib.Core.Path.{_≡_, refl, sym, ap, _∙_}
+use borrow.Author.Tests.{leb-true}
 use borrow.Rule.Slice.PartMut.{putMid}
+use lib.Dec.{leb}
 use lib.ListN.{length, getD, take, drop, length-append, length-drop, length-map, take-append-drop, drop-of-length-le, List·getD-append}
 use lib.Seq.{take-append-le, take-take, getD-take, drop-at, length-take-le}
 use Rattle.records.specs.Fields.{value, bytes, field}
@@ -15,7 +17,7 @@ use Rattle.states.specs.Limits.{headBytes}
 use Rattle.states.specs.States.{State, stateOf, stateBytes, allAtMost}
 use Rattle.states.specs.Refusals.{stateTest}
 use Rattle.states.proofs.Refusals.{state-passed}
-use Rattle.states.proofs.States.{at-allAtMost, Sound, sound-facts, part-rest}
+use Rattle.states.proofs.States.{allAtMost-mono, Sound, sound-facts, values≤, part-rest}
 use Rattle.machine.specs.Computing.{firstBits, trimmed}
 
 pub length-firstBits : (l : List ℕ) → length (firstBits l) ≡ length l
@@ -46,24 +48,25 @@ state-sound n l h =
     let b = state-passed n l h in
     sound-facts n (stateOf l) (b .1) (length-drop headBytes l ∙ rw (b .0) (omega arith))
 
-firstBits-plain : (l : List ℕ) → ((i : ℕ) → getD l i 0 ≤ 1) → firstBits l ≡ l
-unfolding firstBits
+firstBits-plain : (l : List ℕ) → allAtMost 1 l ≡ true → firstBits l ≡ l
+unfolding firstBits allAtMost
 firstBits-plain [] h = refl
 firstBits-plain (v ∷ l) h =
-    let k : v < 2 = omega (arith, h 0) in
-    rw (mod-eq-of-lt k, firstBits-plain l (λ i. h (suc i)))
+    let b = and-eq-true-iff (leb v 1) (allAtMost 1 l) .0 h in
+    let k : v < 2 = omega (arith, leb-true v 1 (b .0)) in
+    rw (mod-eq-of-lt k, firstBits-plain l (b .1))
 
 module _ (n : ℕ) (l : List ℕ) (h : stateTest n l ≡ Passed) where
-  values-small : (i : ℕ) → getD (drop headBytes l) i 0 ≤ 1
+  values-small : allAtMost 1 (drop headBytes l) ≡ true
   unfolding stateOf
-  values-small = state-sound n l h .values≤
+  values-small = values≤ n (stateOf l) (state-sound n l h)
 
   pub trimmed-plain : trimmed l ≡ l
   unfolding trimmed
   trimmed-plain = rw (firstBits-plain (drop headBytes l) values-small) (take-append-drop headBytes l)
 
   pub plain-small : allAtMost 3 (drop headBytes l) ≡ true
-  plain-small = at-allAtMost 3 (drop headBytes l) (λ i. omega (arith, values-small i))
+  plain-small = allAtMost-mono (drop headBytes l) (omega arith) values-small
 
 -- ---- the state that bytes stand for
 
