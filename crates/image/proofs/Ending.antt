@@ -19,7 +19,7 @@ use Rattle.contract.specs.Verdicts.{decisionPeriod}
 use Rattle.contract.proofs.Meaning.{Within, within}
 use Rattle.image.proofs.Signals.{Signal, at, _≐_, Report, nothing, met, broken, isMet, blames, isBroken, reportOf, Says, UntilDone, Remembers}
 use Rattle.image.proofs.Threads.{Exclusive, exclusive-until-done, extend, thread, Once, happens, length-snoc, none-yet, unlessPast, cut, cut-off}
-use Rattle.image.proofs.Reports.{decidedAt, satisfiedAt, violatedAt, acceptedAt, once-decided, once-satisfied, unbroken, now, said, saidBy, NotBefore, timely, past, someone-blamed, met-happens, decided-happens, Behaves}
+use Rattle.image.proofs.Reports.{decidedAt, satisfiedAt, violatedAt, acceptedAt, once-decided, once-satisfied, unbroken, now, said, saidBy, NotBefore, timely, silent-past, someone-blamed, met-happens, decided-happens, Behaves}
 use Rattle.image.proofs.Expressions.{heldBy, ReadsAlone}
 use Rattle.image.proofs.Tested.{Tested, goes-on, accepted-last, accepted-before, rejected-by-now, tested}
 
@@ -48,7 +48,7 @@ cut-unfinished c (some w) = go (decidedAt (meaning c w)) refl
     go : (o : Option ℕ) → decidedAt (meaning c w) ≡ o → (saidBy c (unlessPast o w) ≡ said c w) × Unfinished c (unlessPast o w)
     go none e = (refl, rw e tt)
     go (some k) e =
-        ⊎-elim (λ l. rw (lt-ltb k (length w) l) (sym (past (length w) (meaning c w) (omega (arith, decided-at (meaning c w) k e))), tt))
+        ⊎-elim (λ l. rw (lt-ltb k (length w) l) (sym (silent-past (length w) (meaning c w) (omega (arith, decided-at (meaning c w) k e))), tt))
         (λ l. rw (le-ltb k (length w) l) (refl, rw e l))
         (lt-or-le k (length w))
 

@@ -117,7 +117,7 @@ rows-allowed c = omega (arith, rows-most c)
 -- ---- the rows that a block gives out stand before its end
 
 pub record ExpressionInside (e : Expression) (b S : ℕ) : Type 0 where
-  pub past : b ≤ afterExpression e b
+  pub forward : b ≤ afterExpression e b
   pub end-inside : endRow e b S < afterExpression e b
   pub live-inside : liveRow e b < afterExpression e b
 
@@ -140,7 +140,7 @@ inside-ifEmpty e x m h = each (holdsEmpty e)
     each false = omega arith
 
 pub record ClauseInside (c : Clause) (b : ℕ) (o : Outputs) : Type 0 where
-  pub past : b ≤ afterClause c b
+  pub forward : b ≤ afterClause c b
   pub sat-inside : o .sat < afterClause c b
   pub one-inside : o .one < afterClause c b
   pub two-inside : o .two < afterClause c b
@@ -174,16 +174,16 @@ inside-two l r b h k =
 -- ---- good rows
 
 -- row k of an image of n rows is good: it names an action that there is, lower rows, or any row of the image
-abbrev Good : (n k : ℕ) → Row → Type 0
-Good n k never = Unit {0}
-Good n k initial = Unit {0}
-Good n k (attempt p a) = a < actions
-Good n k (negation x) = x < k
-Good n k (conjunction x y) = (x < k) × (y < k)
-Good n k (disjunction x y) = (x < k) × (y < k)
-Good n k (previous x) = x < n
+abbrev GoodAt : (n k : ℕ) → Row → Type 0
+GoodAt n k never = Unit {0}
+GoodAt n k initial = Unit {0}
+GoodAt n k (attempt p a) = a < actions
+GoodAt n k (negation x) = x < k
+GoodAt n k (conjunction x y) = (x < k) × (y < k)
+GoodAt n k (disjunction x y) = (x < k) × (y < k)
+GoodAt n k (previous x) = x < n
 
-good-fits : (n k : ℕ) → k < n → n ≤ 256 ^ 2 → (r : Row) → Good n k r → Fits r
+good-fits : (n k : ℕ) → k < n → n ≤ 256 ^ 2 → (r : Row) → GoodAt n k r → Fits r
 good-fits n k h i never g = g
 good-fits n k h i initial g = g
 good-fits n k h i (attempt p a) g = g
@@ -192,7 +192,7 @@ good-fits n k h i (conjunction x y) g = omega arith
 good-fits n k h i (disjunction x y) g = omega arith
 good-fits n k h i (previous x) g = omega arith
 
-good-names : (n k : ℕ) (r : Row) → Good n k r → namesRows k n r ≡ true
+good-names : (n k : ℕ) (r : Row) → GoodAt n k r → namesRows k n r ≡ true
 good-names n k never g = refl
 good-names n k initial g = refl
 good-names n k (attempt p a) g = refl
@@ -204,9 +204,9 @@ good-names n k (previous x) g = lt-ltb x n g
 -- the rows of a list are good, the first of them being row b
 data GoodFrom (n : ℕ) : (b : ℕ) → List Row → Type 0 where
   end : {b : ℕ} → GoodFrom n b []
-  next : {b : ℕ} {r : Row} {rs : List Row} → Good n b r → GoodFrom n (suc b) rs → GoodFrom n b (r ∷ rs)
+  next : {b : ℕ} {r : Row} {rs : List Row} → GoodAt n b r → GoodFrom n (suc b) rs → GoodFrom n b (r ∷ rs)
 
-good-at : {n b : ℕ} {rs : List Row} → GoodFrom n b rs → (k : ℕ) → k < length rs → Good n (b + k) (getD rs k never)
+good-at : {n b : ℕ} {rs : List Row} → GoodFrom n b rs → (k : ℕ) → k < length rs → GoodAt n (b + k) (getD rs k never)
 good-at end k h = absurd (omega arith)
 good-at (next g gs) zero h = rw add-zero g
 good-at {b = b} (next g gs) (suc k) h =
@@ -217,7 +217,7 @@ good-at {b = b} (next g gs) (suc k) h =
 abbrev First : (n b m : ℕ) → List Row → Type 0
 First n b zero rs = Unit {0}
 First n b (suc m) [] = Unit {0}
-First n b (suc m) (r ∷ rs) = Good n b r × First n (suc b) m rs
+First n b (suc m) (r ∷ rs) = GoodAt n b r × First n (suc b) m rs
 
 abbrev Rest : (n b m : ℕ) → List Row → Type 0
 Rest n b zero rs = GoodFrom n b rs
@@ -237,13 +237,13 @@ after : (k : Kind) {n b : ℕ} {rs : List Row} → First n b (width k .after) rs
 after k = first (width k .after)
 
 -- the rows that tell a block when it reads stand before it, and the block stands in the image
-record Within (n b S K after : ℕ) : Type 0 where
+record InPlace (n b S K after : ℕ) : Type 0 where
   begins : S < b
   goes-on : K < b
   ends : after ≤ n
 
 module _ (n : ℕ) where
-  good-expression : (e : Expression) {b S K : ℕ} {rest : List Row} → ExpressionInRange e → Within n b S K (afterExpression e b)
+  good-expression : (e : Expression) {b S K : ℕ} {rest : List Row} → ExpressionInRange e → InPlace n b S K (afterExpression e b)
       → GoodFrom n (afterExpression e b) rest → GoodFrom n b (expressionRows e b S K rest)
   unfolding ExpressionInRange afterExpression endRow expressionRows
   good-expression (atom any) i h g = g
@@ -265,7 +265,7 @@ module _ (n : ℕ) where
       let parts = inside-expression e (inside Table.star b) (joinRow b) (omega arith) in
       before Table.star (omega arith) (good-expression e i (omega arith) (after Table.star (omega arith) g))
 
-  good-clause : (c : Clause) {b S K : ℕ} {rest : List Row} → InRange c → Within n b S K (afterClause c b)
+  good-clause : (c : Clause) {b S K : ℕ} {rest : List Row} → InRange c → InPlace n b S K (afterClause c b)
       → GoodFrom n (afterClause c b) rest → GoodFrom n b (clauseRows c b S K rest)
   unfolding InRange afterClause outputsOf clauseRows
   good-clause (literal duty p a) i h g = before Table.duty (omega arith) g
@@ -291,7 +291,8 @@ module _ (n : ℕ) where
       let inR = inside-expression e (inside Table.until b) S (omega arith) in
       let inL = inside-clause c (afterExpression e (inside Table.until b)) (omega arith) in
       before Table.until (omega arith)
-      (good-expression e (i .1) (omega arith) (good-clause c (i .0) (omega arith) (after Table.until (omega arith) g)))
+      (good-expression e {rest = clauseRows c (afterExpression e (inside Table.until b)) S (b ⊹ 2) _} (i .1) (omega arith)
+      (good-clause c (i .0) (omega arith) (after Table.until (omega arith) g)))
 
 -- ---- the image
 
@@ -303,7 +304,7 @@ module _ (c : Clause) (i : InRange c) where
       let a = after-clause c fixedRows in
       first fixedRows (omega arith) (good-clause _ c i (omega arith) end)
 
-  good-row : (k : ℕ) → k < length (rowsFor c) → Good (length (rowsFor c)) k (getD (rowsFor c) k never)
+  good-row : (k : ℕ) → k < length (rowsFor c) → GoodAt (length (rowsFor c)) k (getD (rowsFor c) k never)
   good-row k h = rw zero-add at (good-at good-rows k h)
 
   pub writable : records c ≤ maxRecords → Writable (image c)

@@ -35,10 +35,6 @@ other-kind j x y h =
 one-of-two : (a j : ℕ) → a ≤ j → j < 2 + a → (j ≡ a) ⊎ (j ≡ suc a)
 one-of-two a j h i = ⊎-elim (λ l. inl (omega arith)) (λ l. inr (omega arith)) (lt-or-le j (suc a))
 
--- the next kind, past one that it is not
-pub past : {a j : ℕ} → a ≤ j → (j ≡ a → ⊥) → suc a ≤ j
-past h n = omega arith
-
 module _ (k n : ℕ) where
   good-cond : (t : Bool) (r : Row) → goodRow k n (cond t (some r) none) ≡ (t && namesRows k n r)
   good-cond true r = refl
@@ -87,7 +83,7 @@ pub record HasFields (k x y : ℕ) (r : Row) : Type 0 where
   pub is-x : x ≡ fieldX r
   pub is-y : y ≡ fieldY r
 
-cond-some : (t : Bool) (o : Option Row) (r : Row) → cond t o none ≡ some r → (t ≡ true) × (o ≡ some r)
+pub cond-some : (t : Bool) (o : Option Row) (r : Row) → cond t o none ≡ some r → (t ≡ true) × (o ≡ some r)
 cond-some true o r e = (refl, e)
 cond-some false o r e = let z : _≡_ {A = ℕ} 0 1 = cc in absurd (omega arith)
 

@@ -136,7 +136,7 @@ both-below n x y h =
     (ltb-true x n (b .0), ltb-true y n (b .1))
 
 -- a row's value goes by the values of the rows that it names
-value-by : (first : Bool) (p : Period) (old new new′ : List Bool) (k n : ℕ) → ((x : ℕ) → x < k → getD new x false ≡ getD new′ x false)
+pub value-by : (first : Bool) (p : Period) (old new new′ : List Bool) (k n : ℕ) → ((x : ℕ) → x < k → getD new x false ≡ getD new′ x false)
     → (r : Row) → namesRows k n r ≡ true → value first p old new r ≡ value first p old new′ r
 value-by first p old new new′ k n h never g = refl
 value-by first p old new new′ k n h initial g = refl

@@ -21,7 +21,7 @@ use Rattle.layout.specs.Rows.{Row, never, initial, attempt, negation, conjuncti
 use Rattle.layout.specs.Limits.{rowBytes}
 use Rattle.layout.specs.Images.{rowCount, imageOf}
 use Rattle.layout.specs.Refusals.{imageTest}
-use Rattle.layout.proofs.Rows.{good-other}
+use Rattle.layout.proofs.Rows.{good-other, cond-some}
 use Rattle.layout.proofs.Images.{passed-good, good-row}
 use Rattle.states.specs.States.{allAtMost}
 use Rattle.states.proofs.States.{allAtMost-at}
@@ -184,10 +184,6 @@ names-any k n (disjunction x y) h e =
     rw (lt-ltb x n i) (lt-ltb y n j)
 names-any k n (previous x) h e = e
 
-decoded : (t : Bool) (o : Option Row) (r : Row) → cond t o none ≡ some r → o ≡ some r
-decoded true o r e = e
-decoded false o r e = cc
-
 module _ (l : List ℕ) (h : imageTest l ≡ Passed) (k : ℕ) (i : k < rowCount l) where
   pub row-fits : rowBytes * k + rowBytes ≤ length l
   row-fits = let g = passed-good l h in omega arith
@@ -198,8 +194,8 @@ module _ (l : List ℕ) (h : imageTest l ≡ Passed) (k : ℕ) (i : k < rowCount
   unfolding decode
   row-held =
       let at = rowBytes * k in
-      decoded (marked l at rowMark && eqb (getD l (at + 3) 0) 0) (rowOf (getD l (at + 2) 0) (field l (at + 4) 2) (field l (at + 6) 2))
-      (getD (imageOf l .rows) k never) (good-row l (passed-good l h) k i .is)
+      cond-some (marked l at rowMark && eqb (getD l (at + 3) 0) 0) (rowOf (getD l (at + 2) 0) (field l (at + 4) 2) (field l (at + 6) 2))
+      (getD (imageOf l .rows) k never) (good-row l (passed-good l h) k i .is) .1
 
   pub row-good : goodRow (rowCount l) (rowCount l)
       (rowOf (getD l (rowBytes * k + 2) 0) (field l (rowBytes * k + 4) 2) (field l (rowBytes * k + 6) 2)) ≡ true
