@@ -18,7 +18,7 @@ use Rattle.reader.specs.Limits.{maxRecords}
 use Rattle.reader.specs.Table
 use Rattle.reader.specs.Table.{Kind}
 use Rattle.reader.specs.Spelling.{expressionRecords, records, ExpressionInRange, InRange}
-use Rattle.image.specs.Widths.{width, neverRow, mostRows, allowedRows, _⊹_, inside, expressionSize, clauseSize, fixedRows, afterExpression, afterClause}
+use Rattle.image.specs.Widths.{width, size, neverRow, mostRows, allowedRows, _⊹_, inside, expressionSize, clauseSize, fixedRows, afterExpression, afterClause}
 use Rattle.image.specs.Blocks.{joinRow, endRow, liveRow, ifEmpty, expressionRows, Outputs, blaming, outputsOf, clauseRows}
 use Rattle.image.specs.Images.{rowsFor, image}
 
@@ -83,8 +83,8 @@ pub length-rows : (c : Clause) → length (rowsFor c) ≡ clauseSize c + fixedRo
 unfolding rowsFor
 length-rows c = rw (length-clause c) (omega arith)
 
--- no kind has more than 14 rows
-expression-most : (e : Expression) → expressionSize e ≤ 14 * expressionRecords e
+-- no kind has more rows than `both`
+expression-most : (e : Expression) → expressionSize e ≤ size Table.both * expressionRecords e
 unfolding expressionSize expressionRecords
 expression-most (atom any) = omega arith
 expression-most (atom (tries p a)) = omega arith
@@ -95,7 +95,7 @@ expression-most (seq l r) = omega (arith, expression-most l, expression-most r)
 expression-most (or l r) = omega (arith, expression-most l, expression-most r)
 expression-most (star e) = omega (arith, expression-most e)
 
-size-most : (c : Clause) → clauseSize c ≤ 14 * records c
+size-most : (c : Clause) → clauseSize c ≤ size Table.both * records c
 unfolding clauseSize records
 size-most (literal duty p a) = omega arith
 size-most (literal ban p a) = omega arith

@@ -171,7 +171,7 @@ kind-small (conjunction x y) = lit< tt
 kind-small (disjunction x y) = lit< tt
 kind-small (previous x) = lit< tt
 
-pub length-encode : (r : Row) → length (encode r) ≡ 8
+pub length-encode : (r : Row) → length (encode r) ≡ rowBytes
 unfolding encode bytes
 length-encode r = refl
 
@@ -204,9 +204,9 @@ decode-encode front r rest at f e = rw (decode-drop, drop-at front (encode r ++ 
 next : (l : List ℕ) (i : ℕ) → i < length l → drop i l ≡ getD l i 0 ∷ drop (i + 1) l
 next l i h = rw add-one (drop-cons l i 0 h)
 
-eight : (l : List ℕ) (at : ℕ) → at + 8 ≤ length l
-    → take 8 (drop at l) ≡ take 2 (drop at l) ++ (getD l (at + 2) 0 ∷ getD l (at + 3) 0 ∷ (take 2 (drop (at + 4) l) ++ take 2 (drop (at + 6) l)))
-eight l at h =
+row-bytes : (l : List ℕ) (at : ℕ) → at + rowBytes ≤ length l
+    → take rowBytes (drop at l) ≡ take 2 (drop at l) ++ (getD l (at + 2) 0 ∷ getD l (at + 3) 0 ∷ (take 2 (drop (at + 4) l) ++ take 2 (drop (at + 6) l)))
+row-bytes l at h =
     rw (take-add 2 6 (drop at l), drop-drop 2 at l, next l (at + 2) (omega arith), add-assoc at 2 1, next l (at + 3) (omega arith), add-assoc at 3 1, take-add 2 2 (drop (at + 4) l), drop-drop 2 (at + 4) l, add-assoc at 4 2)
 
 pub encode-decode : (l : List ℕ) (at : ℕ) (r : Row) → AllBytes l → at + rowBytes ≤ length l → decode l at ≡ some r → take rowBytes (drop at l) ≡ encode r
@@ -215,4 +215,4 @@ encode-decode l at r a h e =
     let w = cond-some (marked l at rowMark && eqb (getD l (at + 3) 0) 0) (rowOf (getD l (at + 2) 0) (field l (at + 4) 2) (field l (at + 6) 2)) r e in
     let m = and-eq-true-iff (marked l at rowMark) (eqb (getD l (at + 3) 0) 0) .0 (w .0) in
     let g = rowOf-some (getD l (at + 2) 0) (field l (at + 4) 2) (field l (at + 6) 2) r (w .1) in
-    rw (eight l at h, of-marked l at 0x54 0x52 (omega arith) (m .0), g .is-kind, eqb-true (getD l (at + 3) 0) 0 (m .1), ← bytes-field l (at + 4) 2 a (omega arith), ← bytes-field l (at + 6) 2 a (omega arith), g .is-x, g .is-y)
+    rw (row-bytes l at h, of-marked l at _ _ (omega arith) (m .0), g .is-kind, eqb-true (getD l (at + 3) 0) 0 (m .1), ← bytes-field l (at + 4) 2 a (omega arith), ← bytes-field l (at + 6) 2 a (omega arith), g .is-x, g .is-y)

@@ -4,10 +4,11 @@ use native.Mathlib.Nat.{add-assoc}
 use native.Mathlib.Omega.{arith}
 use mathlib.Core.Path.{_≡_, sym}
 use mathlib.Core.List.{List}
-use lib.ListN.{set, length-set}
+use lib.ListN.{getD, set, length-set}
 use lib.Seq.{sets, length-sets}
 use borrow.Author.Needs.{needs}
 use Rattle.records.specs.Fields.{bytes}
+use Rattle.records.specs.Marks.{endMark}
 use Rattle.records.proofs.Fields.{length-bytes}
 use Rattle.records.proofs.Written.{sets-append}
 use Rattle.layout.specs.Limits.{rowBytes}
@@ -17,7 +18,7 @@ use Rattle.layout.proofs.put_end.Tie as tie
 
 end-written : (l : List ℕ) (i sat one two : ℕ)
     → sets l i (endRecord sat one two)
-    ≡ sets (sets (sets (set (set l i 0x54) (i + 1) 0x45) (i + 2) (bytes 2 sat)) (i + 4) (bytes 2 one)) (i + 6) (bytes 2 two)
+    ≡ sets (sets (sets (set (set l i (getD endMark 0 0)) (i + 1) (getD endMark 1 0)) (i + 2) (bytes 2 sat)) (i + 4) (bytes 2 one)) (i + 6) (bytes 2 two)
 end-written l i sat one two =
     let e : i + 1 ≡ suc i = omega arith in
     rw e (simp (sets-append, length-bytes, add-assoc))

@@ -2,11 +2,12 @@
 use Prim.Native.Nat.{ℕ, suc, _+_, _*_}
 use native.Mathlib.Omega.{arith}
 use mathlib.Core.Path.{_≡_, sym}
-use mathlib.Core.List.{List, [], _∷_}
-use lib.ListN.{set, length-set}
+use mathlib.Core.List.{List, [], _∷_, _++_}
+use lib.ListN.{getD, set, length-set}
 use lib.Seq.{sets, length-sets}
 use borrow.Author.Needs.{needs}
 use Rattle.records.specs.Fields.{bytes}
+use Rattle.records.specs.Marks.{rowMark}
 use Rattle.records.proofs.Fields.{length-bytes}
 use Rattle.records.proofs.Written.{sets-append}
 use Rattle.layout.specs.Limits.{rowBytes}
@@ -16,7 +17,7 @@ use Rattle.layout.proofs.put_row.Tie as tie
 
 row-written : (l : List ℕ) (i kind x y : ℕ)
     → sets l i (rowRecord kind x y)
-    ≡ sets (sets (set (set (set (set l i 0x54) (i + 1) 0x52) (i + 2) kind) (i + 3) 0) (i + 4) (bytes 2 x)) (i + 6) (bytes 2 y)
+    ≡ sets (sets (set (set (set (set l i (getD rowMark 0 0)) (i + 1) (getD rowMark 1 0)) (i + 2) kind) (i + 3) 0) (i + 4) (bytes 2 x)) (i + 6) (bytes 2 y)
 row-written l i kind x y =
     let one : i + 1 ≡ suc i = omega arith in
     let two : i + 2 ≡ suc (suc i) = omega arith in
@@ -24,7 +25,7 @@ row-written l i kind x y =
     let four : i + 4 ≡ suc (suc (suc (suc i))) = omega arith in
     let six : i + 6 ≡ suc (suc (suc (suc i))) + 2 = omega arith in
     rw (one, two, three, four, six)
-    (rw length-bytes at (sets-append (sets l i (0x54 ∷ 0x52 ∷ kind ∷ 0 ∷ [])) (suc (suc (suc (suc i)))) (bytes 2 x) (bytes 2 y)))
+    (rw length-bytes at (sets-append (sets l i (rowMark ++ (kind ∷ 0 ∷ []))) (suc (suc (suc (suc i)))) (bytes 2 x) (bytes 2 y)))
 
 mul-i : tie.Need-mul-i
 mul-i c = search needs
