@@ -12,7 +12,7 @@ use Rattle.records.proofs.Written.{sets-append}
 use Rattle.layout.specs.Limits.{rowBytes}
 use Rattle.layout.specs.Rows.{never, initial, negation, rowRecord}
 use Rattle.layout.specs.Images.{rowsBytes, endRecord, endBytes, imageBytes, rowCount}
-use Rattle.layout.proofs.Images.{length-rowsBytes, rowCount-imageBytes}
+use Rattle.layout.proofs.ImageBytes.{length-rowsBytes, rowCount-imageBytes}
 use Rattle.contract.specs.Meaning.{Clause}
 use Rattle.reader.specs.Limits.{recordBytes}
 use Rattle.reader.specs.Table.{clause}

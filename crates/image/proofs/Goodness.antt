@@ -11,7 +11,7 @@ use borrow.Author.Tests.{lt-ltb}
 use Rattle.periods.specs.Limits.{actions}
 use Rattle.periods.specs.Periods.{Party, party1, party2}
 use Rattle.layout.specs.Rows.{Row, never, initial, attempt, negation, conjunction, disjunction, previous, Fits, namesRows}
-use Rattle.layout.proofs.Images.{Writable}
+use Rattle.layout.proofs.ImageBytes.{Writable}
 use Rattle.contract.specs.Expressions.{any, tries, idle, succeeds, fails, Expression, atom, seq, or, star, holdsEmpty}
 use Rattle.contract.specs.Meaning.{duty, ban, power, Clause, literal, both, then, repair, repeat, when, until}
 use Rattle.reader.specs.Limits.{maxRecords}

@@ -2,7 +2,7 @@
 use Prim.Native.Nat.{ℕ}
 use mathlib.Core.List.{List}
 use mathlib.Core.Path.{_≡_}
-use Rattle.layout.proofs.Images.{imageTest-imageBytes, imageOf-imageBytes, rowCount-imageBytes}
+use Rattle.layout.proofs.ImageBytes.{imageTest-imageBytes, imageOf-imageBytes, rowCount-imageBytes}
 use Rattle.states.proofs.Fresh.{fresh-read}
 use Rattle.contract.specs.Meaning.{Clause}
 use Rattle.reader.specs.Reader.{taken, read}

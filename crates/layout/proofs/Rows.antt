@@ -11,7 +11,7 @@ use mathlib.Core.Option.{Option, none, some}
 use lib.Dec.{eqb, ltb, leb, lit<}
 use lib.ListN.{length, take, drop, getD}
 use lib.Seq.{getD-drop, drop-drop, drop-at, drop-cons, take-add}
-use borrow.Author.Tests.{ne-eqb, lt-ltb, le-leb, lt-leb, eqb-true}
+use borrow.Author.Tests.{ne-eqb, lt-ltb, le-leb, lt-leb, eqb-true, ltb-true}
 use Rattle.records.specs.Fields.{AllBytes, bytes, field}
 use Rattle.records.specs.Marks.{rowMark, marked}
 use Rattle.records.proofs.Numbers.{lt-or-le}
@@ -75,6 +75,30 @@ module _ (k n : ℕ) where
 
     pub good-other : (j : ℕ) → 6 < j → goodRow k n (rowOf j x y) ≡ false
     good-other j h = rw (other-kind j x y h)
+
+-- ---- the rows that a row names
+
+pub both-below : (n x y : ℕ) → (ltb x n && ltb y n) ≡ true → (x < n) × (y < n)
+both-below n x y h =
+    let b = and-eq-true-iff (ltb x n) (ltb y n) .0 h in
+    (ltb-true x n (b .0), ltb-true y n (b .1))
+
+pub names-any : (k n : ℕ) (r : Row) → k ≤ n → namesRows k n r ≡ true → namesRows n n r ≡ true
+names-any k n never h e = refl
+names-any k n initial h e = refl
+names-any k n (attempt p a) h e = refl
+names-any k n (negation x) h e = let i : x < k = ltb-true x k e in lt-ltb x n (omega arith)
+names-any k n (conjunction x y) h e =
+    let b = both-below k x y e in
+    let i : x < n = omega arith in
+    let j : y < n = omega arith in
+    rw (lt-ltb x n i) (lt-ltb y n j)
+names-any k n (disjunction x y) h e =
+    let b = both-below k x y e in
+    let i : x < n = omega arith in
+    let j : y < n = omega arith in
+    rw (lt-ltb x n i) (lt-ltb y n j)
+names-any k n (previous x) h e = e
 
 -- ---- the row of a kind and two fields
 

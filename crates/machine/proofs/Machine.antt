@@ -14,7 +14,8 @@ use Rattle.layout.specs.Rows.{Row}
 use Rattle.layout.specs.Images.{Image}
 use Rattle.states.specs.States.{State, allAtMost}
 use Rattle.states.specs.Premises.{SoundHead, undecided, satisfied, violated}
-use Rattle.states.proofs.States.{at-allAtMost, Sound, values≤}
+use Rattle.states.proofs.Values.{at-allAtMost}
+use Rattle.states.proofs.Soundness.{Sound, values≤}
 use Rattle.machine.specs.Machine.{byteOf, isTrue, newValues, valuesAfter, outcomeOf, blameOf, computed, counted, afterPeriod, afterPeriods}
 
 -- ---- row values

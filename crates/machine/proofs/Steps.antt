@@ -18,7 +18,8 @@ use Rattle.states.specs.Limits.{headBytes, maxPeriods}
 use Rattle.states.specs.States.{State, stateOf, stateBytes, allAtMost}
 use Rattle.states.specs.Premises.{Answering}
 use Rattle.states.proofs.Refusals.{state-passed}
-use Rattle.states.proofs.States.{Sound, decision≤, stateBytes-stateOf, read-back, sound-passes, part-rest, length-stateBytes}
+use Rattle.states.proofs.Soundness.{Sound, decision≤}
+use Rattle.states.proofs.States.{stateBytes-stateOf, read-back, sound-passes, part-rest, length-stateBytes}
 use Rattle.machine.specs.Machine.{byteOf, isTrue, valuesAfter, outcomeOf, blameOf, computed, counted, afterPeriod, afterPeriods}
 use Rattle.machine.specs.Computing.{firstBits, valuesIn, trimmed, packed, newBits, RowValues, withDecision, decidedBytes, Working, Advanced}
 use Rattle.machine.specs.Premises.{Ready}
@@ -173,10 +174,6 @@ module _ (image l : List ℕ) (w : Working image l 1) where
 module _ (image l : List ℕ) (n : ℕ) (h : Ready image l n) where
   pub ready-long : length l ≡ headBytes + rowCount image
   ready-long = state-passed (rowCount image) l (h .sound) .0
-
-  pub ready-room : field l 2 4 + n ≤ maxPeriods
-  unfolding stateOf
-  ready-room = h .room
 
 -- ---- the states that follow
 

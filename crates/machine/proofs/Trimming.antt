@@ -1,14 +1,14 @@
 -- A state whose rows' bytes hold two values each, and the state that it stands for.
-use Prim.Native.Nat.{ℕ, _+_, _-_, _%_, _≤_, _<_}
+use Prim.Native.Nat.{ℕ, zero, suc, _+_, _-_, _%_, _≤_, _<_}
 use native.Mathlib.Nat.{mod-eq-of-lt, le-refl}
 use native.Mathlib.Omega.{arith}
 use mathlib.Core.Bool.{true, and-eq-true-iff}
-use mathlib.Core.List.{List, [], _∷_, _++_, append-nil}
+use mathlib.Core.List.{List, [], _∷_, _++_, map, append-nil}
 use mathlib.Core.Path.{_≡_, refl, sym, ap, _∙_}
 use borrow.Author.Tests.{leb-true}
 use borrow.Rule.Slice.PartMut.{putMid}
 use lib.Dec.{leb}
-use lib.ListN.{length, getD, take, drop, length-append, length-drop, length-map, take-append-drop, drop-of-length-le, List·getD-append}
+use lib.ListN.{length, getD, set, take, drop, length-append, length-drop, length-map, take-append-drop, drop-of-length-le, List·getD-append}
 use lib.Seq.{take-append-le, take-take, getD-take, drop-at, length-take-le}
 use Rattle.records.specs.Fields.{value, bytes, field}
 use Rattle.records.specs.declared.Test.the-variants.{Passed}
@@ -17,8 +17,30 @@ use Rattle.states.specs.Limits.{headBytes}
 use Rattle.states.specs.States.{State, stateOf, stateBytes, allAtMost}
 use Rattle.states.specs.Refusals.{stateTest}
 use Rattle.states.proofs.Refusals.{state-passed}
-use Rattle.states.proofs.States.{allAtMost-mono, Sound, sound-facts, values≤, part-rest}
+use Rattle.states.proofs.Values.{allAtMost-mono}
+use Rattle.states.proofs.Soundness.{Sound, sound-facts, values≤}
+use Rattle.states.proofs.States.{part-rest}
 use Rattle.machine.specs.Computing.{firstBits, trimmed}
+
+-- ---- a function put to a list's first k elements, one after the other
+
+abbrev pub mapFirst : (ℕ → ℕ) → ℕ → List ℕ → List ℕ
+mapFirst f zero d = d
+mapFirst f (suc k) [] = []
+mapFirst f (suc k) (v ∷ d) = f v ∷ mapFirst f k d
+
+module _ (f : ℕ → ℕ) where
+  pub mapFirst-next : (k : ℕ) (d : List ℕ) → set (mapFirst f k d) k (f (getD (mapFirst f k d) k 0)) ≡ mapFirst f (suc k) d
+  mapFirst-next zero [] = refl
+  mapFirst-next zero (v ∷ d) = refl
+  mapFirst-next (suc k) [] = refl
+  mapFirst-next (suc k) (v ∷ d) = ap (λ (l : List ℕ). f v ∷ l) (mapFirst-next k d)
+
+  pub mapFirst-all : (d : List ℕ) → mapFirst f (length d) d ≡ map f d
+  mapFirst-all [] = refl
+  mapFirst-all (v ∷ d) = ap (λ (l : List ℕ). f v ∷ l) (mapFirst-all d)
+
+-- ---- the first bits alone
 
 pub length-firstBits : (l : List ℕ) → length (firstBits l) ≡ length l
 unfolding firstBits

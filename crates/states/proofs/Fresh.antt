@@ -8,7 +8,8 @@ use Rattle.records.specs.Fields.{bytes}
 use Rattle.states.specs.Limits.{headBytes}
 use Rattle.states.specs.States.{State, stateOf, stateBytes, allAtMost}
 use Rattle.states.specs.Premises.{undecided}
-use Rattle.states.proofs.States.{Sound, read-back}
+use Rattle.states.proofs.Soundness.{Sound}
+use Rattle.states.proofs.States.{read-back}
 
 -- the state of no periods for an image of n rows
 abbrev pub freshState : ℕ → State

@@ -5,7 +5,7 @@ use mathlib.Core.Logic.{_↔_, ⊎-elim}
 use mathlib.Core.Path.{_≡_, _∙_}
 use lib.Dec.{eqb, ltb, leb}
 use borrow.Author.Tests.{eq-eqb, ne-eqb, lt-ltb, le-ltb}
-use Rattle.states.proofs.States.{undecided-iff, satisfied-iff, violated-iff, outcome≤}
+use Rattle.states.proofs.Soundness.{undecided-iff, satisfied-iff, violated-iff, outcome≤}
 use Rattle.states.proofs.sound_head.Statement.{statement}
 use Rattle.states.proofs.sound_head.Tie as tie
 use Rattle.states.proofs.sound_head.Reads as reads
