@@ -10,7 +10,9 @@ pub mod Reports
 pub mod Tested
 pub mod Handing
 pub mod When
-pub mod Ending
+pub mod Stopping
+pub mod Both
+pub mod Until
 pub mod Literals
 pub mod Repeating
 pub mod Clauses

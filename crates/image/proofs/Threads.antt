@@ -101,6 +101,10 @@ abbrev pub is : Option ℕ → ℕ → Bool
 is none n = false
 is (some k) n = eqb k n
 
+abbrev pub isSome : Option ℕ → Bool
+isSome none = false
+isSome (some k) = true
+
 -- it happens in the last period of what has been read
 abbrev pub happens : (List Period → Option ℕ) → Option (List Period) → Bool
 happens f none = false
