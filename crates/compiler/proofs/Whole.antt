@@ -21,7 +21,7 @@ use Rattle.image.specs.Widths.{firstRow, laterRow, fixedRows, afterClause}
 use Rattle.image.specs.Blocks.{clauseRows}
 use Rattle.image.specs.Images as Images
 use Rattle.image.specs.Images.{rowsFor, imageFor}
-use Rattle.image.proofs.Goodness.{rows-allowed}
+use Rattle.image.proofs.Sizes.{rows-allowed}
 use Rattle.emitter.specs.declared.Block.{Block}
 use Rattle.emitter.specs.Plans.{numbersOf, numbersBytes, writtenRows, blockOf, EndsWith, Emitted, Emits, Writes}
 use Rattle.emitter.proofs.Writing.{numbers-bytes, length-written, written-after}

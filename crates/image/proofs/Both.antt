@@ -1,18 +1,17 @@
 -- `both` behaves. Its halves read until the whole has decided, and a half that is satisfied before the other is remembered.
-use Prim.Native.Nat.{ℕ, suc, _≤_, _<_}
+use Prim.Native.Nat.{ℕ, suc, _≤_}
 use native.Mathlib.Omega.{arith}
 use mathlib.Core.Bool.{Bool, true, false, _&&_, _||_, cond, or-false, false≢true}
 use mathlib.Core.List.{List, [], _∷_, _++_}
-use mathlib.Core.Logic.{_⊎_, inl, inr, ⊎-elim}
+use mathlib.Core.Logic.{⊎-elim}
 use mathlib.Core.Option.{Option, none, some}
 use mathlib.Core.Path.{_≡_, refl, sym, ap, _∙_}
-use borrow.Author.Tests.{lt-ltb, le-ltb, eq-eqb}
+use borrow.Author.Tests.{le-ltb, eq-eqb}
 use lib.Dec.{eqb}
 use lib.ListN.{length}
-use Rattle.records.proofs.Numbers.{lt-or-le}
 use Rattle.periods.specs.Periods.{Party, party1, party2, Period}
 use Rattle.contract.specs.Meaning.{Clause, both, Blame, only, bothParties, unite, Decision, undecided, satisfied, violated, bothMeaning, meaning, EmptyFree}
-use Rattle.contract.proofs.Meaning.{Within, within}
+use Rattle.contract.proofs.Meaning.{Within, within, Order, left-first, right-first, together, order}
 use Rattle.image.proofs.Signals.{Signal, at, _≐_, nothing, met, broken, blames, isBroken, reportOf, Says, UntilDone, Remembers}
 use Rattle.image.proofs.Threads.{isSome, Exclusive, exclusive-until-done, extend, thread, Once, happens, length-snoc, none-yet}
 use Rattle.image.proofs.Reports.{decidedAt, satisfiedAt, violatedAt, once-satisfied, unbroken, now, said, saidBy, NotBefore, timely, met-happens, Behaves}
@@ -66,12 +65,12 @@ both-parts n (satisfied j) (satisfied k) h = (tt, tt)
 both-parts n (satisfied j) (violated k c) h = (tt, h)
 both-parts n (violated j b) undecided h = (h, tt)
 both-parts n (violated j b) (satisfied k) h = (h, tt)
-both-parts n (violated j b) (violated k c) h = go (lt-or-le j k) (lt-or-le k j)
+both-parts n (violated j b) (violated k c) h = go (order j k b c) h
   where
-    go : (j < k) ⊎ (k ≤ j) → (k < j) ⊎ (j ≤ k) → (n ≤ j) × (n ≤ k)
-    go (inl l) s = let e : n ≤ j = rw (lt-ltb j k l) at h in omega arith
-    go (inr l) (inl m) = let e : n ≤ k = rw (le-ltb j k l, lt-ltb k j m) at h in omega arith
-    go (inr l) (inr m) = let e : n ≤ j = rw (le-ltb j k l, le-ltb k j m) at h in omega arith
+    go : {d : Decision} → Order j k b c d → NotBefore n (decidedAt d) → (n ≤ j) × (n ≤ k)
+    go (left-first l) i = omega arith
+    go (right-first l) i = omega arith
+    go (together l) i = omega arith
 
 -- what a half blames in period n: a satisfied one nobody, whenever that was
 blamed : (q : Party) (n : ℕ) (d : Decision) → Within n d → NotBefore n (violatedAt d) → isBroken q (now n d) ≡ isBroken q (reportOf d)
@@ -82,14 +81,14 @@ blamed q n (violated k b) p h = ap (isBroken q) (timely n (violated k b) p h)
 left-alone : (b : Blame) → Says false (blames party1 b || false) (blames party2 b || false) (broken b)
 left-alone b = rw (or-false (blames party1 b), or-false (blames party2 b)) (exactly (broken b))
 
-together : (b c : Blame) → Says false (blames party1 b || blames party1 c) (blames party2 b || blames party2 c) (broken (unite b c))
-together (only party1) (only party1) = exactly _
-together (only party1) (only party2) = exactly _
-together (only party2) (only party1) = exactly _
-together (only party2) (only party2) = exactly _
-together (only party1) bothParties = exactly _
-together (only party2) bothParties = exactly _
-together bothParties c = exactly _
+united : (b c : Blame) → Says false (blames party1 b || blames party1 c) (blames party2 b || blames party2 c) (broken (unite b c))
+united (only party1) (only party1) = exactly _
+united (only party1) (only party2) = exactly _
+united (only party2) (only party1) = exactly _
+united (only party2) (only party2) = exactly _
+united (only party1) bothParties = exactly _
+united (only party2) bothParties = exactly _
+united bothParties c = exactly _
 
 both-report : (n : ℕ) (a b : Decision) → Within n a → Within n b → NotBefore n (violatedAt a) → NotBefore n (violatedAt b)
     → Says (isSome (satisfiedAt a) && isSome (satisfiedAt b)) (isBroken party1 (reportOf a) || isBroken party1 (reportOf b))
@@ -102,7 +101,7 @@ both-report n (satisfied j) (satisfied k) p q s t = exactly met
 both-report n (satisfied j) (violated k c) p q s t = exactly (broken c)
 both-report n (violated j b) undecided p q s t = left-alone b
 both-report n (violated j b) (satisfied k) p q s t = left-alone b
-both-report n (violated j b) (violated k c) p q s t = rw (le-ltb j k (omega arith), le-ltb k j (omega arith)) (together b c)
+both-report n (violated j b) (violated k c) p q s t = rw (le-ltb j k (omega arith), le-ltb k j (omega arith)) (united b c)
 
 both-said : (l r : Clause) → EmptyFree (both l r) → (v : Option (List Period)) → Unfinished (both l r) v
     → Says (happened (λ w. satisfiedAt (meaning l w)) v && happened (λ w. satisfiedAt (meaning r w)) v)

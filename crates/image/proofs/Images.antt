@@ -8,7 +8,8 @@ use Rattle.contract.specs.Meaning.{Clause}
 use Rattle.reader.specs.Reader.{taken, read}
 use Rattle.reader.proofs.Reader.{taken-spells, taken-count}
 use Rattle.image.specs.Images.{image, imageFor, RightFor, SizedFor}
-use Rattle.image.proofs.Goodness.{length-rows, rows-most, rows-allowed, writable}
+use Rattle.image.proofs.Sizes.{length-rows, rows-most, rows-allowed}
+use Rattle.image.proofs.Goodness.{writable}
 use Rattle.image.proofs.Root.{shows}
 
 pub right-for : (contract : List ℕ) (c : Clause) → read contract ≡ taken c → RightFor c (imageFor contract)

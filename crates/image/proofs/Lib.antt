@@ -1,6 +1,7 @@
 -- Why the image of a contract monitors it, layer by layer.
 pub mod Signals
 pub mod RowLaws
+pub mod Sizes
 pub mod Goodness
 pub mod Wiring
 pub mod Threads
