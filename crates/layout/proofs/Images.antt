@@ -45,12 +45,8 @@ module _ (l : List ℕ) where
   length-facts : goodLength l ≡ true → (length l % rowBytes ≡ 0) × (rowBytes * 2 ≤ length l) × (length l ≤ rowBytes * (maxRows + 1))
   unfolding goodLength
   length-facts e =
-      let a = eqb (length l % rowBytes) 0 in
-      let b = leb (rowBytes * 2) (length l) in
-      let c = leb (length l) (rowBytes * (maxRows + 1)) in
-      let w = and-eq-true-iff (a && b) c .0 e in
-      let v = and-eq-true-iff a b .0 (w .0) in
-      (eqb-true (length l % rowBytes) 0 (v .0), leb-true (rowBytes * 2) (length l) (v .1), leb-true (length l) (rowBytes * (maxRows + 1)) (w .1))
+      let w = simp and-eq-true-iff at e in
+      (eqb-true (length l % rowBytes) 0 (w .0 .0), leb-true (rowBytes * 2) (length l) (w .0 .1), leb-true (length l) (rowBytes * (maxRows + 1)) (w .1))
 
 -- ---- bytes that are an image
 
@@ -140,14 +136,8 @@ module _ (l : List ℕ) (g : GoodImage l) where
   end-facts =
       let n = rowCount l in
       let at = rowBytes * n in
-      let m = marked l at endMark in
-      let s = ltb (field l (at + 2) 2) n in
-      let v = ltb (field l (at + 4) 2) n in
-      let w = ltb (field l (at + 6) 2) n in
-      let p = and-eq-true-iff (m && s && v) w .0 (g .ends) in
-      let q = and-eq-true-iff (m && s) v .0 (p .0) in
-      let r = and-eq-true-iff m s .0 (q .0) in
-      (ltb-true (field l (at + 2) 2) n (r .1), ltb-true (field l (at + 4) 2) n (q .1), ltb-true (field l (at + 6) 2) n (p .1))
+      let e = simp and-eq-true-iff at (g .ends) in
+      (ltb-true (field l (at + 2) 2) n (e .0 .0 .1), ltb-true (field l (at + 4) 2) n (e .0 .1), ltb-true (field l (at + 6) 2) n (e .1))
 
   pub good-S : imageOf l .S < rowCount l
   good-S = end-facts .0

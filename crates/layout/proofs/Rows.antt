@@ -88,16 +88,8 @@ names-any k n never h e = refl
 names-any k n initial h e = refl
 names-any k n (attempt p a) h e = refl
 names-any k n (negation x) h e = let i : x < k = ltb-true x k e in lt-ltb x n (omega arith)
-names-any k n (conjunction x y) h e =
-    let b = both-below k x y e in
-    let i : x < n = omega arith in
-    let j : y < n = omega arith in
-    rw (lt-ltb x n i) (lt-ltb y n j)
-names-any k n (disjunction x y) h e =
-    let b = both-below k x y e in
-    let i : x < n = omega arith in
-    let j : y < n = omega arith in
-    rw (lt-ltb x n i) (lt-ltb y n j)
+names-any k n (conjunction x y) h e = let b = both-below k x y e in rw (lt-ltb x n (omega arith)) (lt-ltb y n (omega arith))
+names-any k n (disjunction x y) h e = let b = both-below k x y e in rw (lt-ltb x n (omega arith)) (lt-ltb y n (omega arith))
 names-any k n (previous x) h e = e
 
 -- ---- the row of a kind and two fields

@@ -1,5 +1,5 @@
 -- Which states are sound, by the three cases of their heads. Document 01, "Image and row machine", from "A state is sound".
-use Prim.Native.Nat.{ℕ, zero, suc, _≤_}
+use Prim.Native.Nat.{ℕ, zero, suc, _≤_, _<_}
 use native.Mathlib.Omega.{arith}
 use mathlib.Core.Path.{_≡_, refl, sym, _∙_}
 use mathlib.Core.Bool.{Bool, true, false, _&&_, Bool·beq, cond, and-eq-true-iff, and-true, not-eq-not}
@@ -16,40 +16,35 @@ use Rattle.states.proofs.Values.{allAtMost-mono}
 
 -- ---- the head of a sound state
 
+eqb-iff : (a b : ℕ) → (eqb a b ≡ true) ↔ (a ≡ b)
+eqb-iff a b = (eqb-true a b, eq-eqb a b)
+
+ltb-iff : (a b : ℕ) → (ltb a b ≡ true) ↔ (a < b)
+ltb-iff a b = (ltb-true a b, lt-ltb a b)
+
+leb-iff : (a b : ℕ) → (leb a b ≡ true) ↔ (a ≤ b)
+leb-iff a b = (leb-true a b, le-leb a b)
+
+ruleset tests = (and-eq-true-iff, eqb-iff, ltb-iff, leb-iff)
+
 -- outcome by outcome, the tests that tell it
 pub undecided-iff : (b p d : ℕ) → (eqb b 0 && eqb d 0 ≡ true) ↔ SoundHead 0 b p d
-undecided-iff b p d = (there, back)
+undecided-iff b p d = simp tests (λ e. rw (e .0, e .1) undecided, back)
   where
-    there : eqb b 0 && eqb d 0 ≡ true → SoundHead 0 b p d
-    there h = let e = and-eq-true-iff (eqb b 0) (eqb d 0) .0 h in rw (eqb-true b 0 (e .0), eqb-true d 0 (e .1)) undecided
-
-    back : {b d : ℕ} → SoundHead 0 b p d → eqb b 0 && eqb d 0 ≡ true
-    back undecided = refl
+    back : {b d : ℕ} → SoundHead 0 b p d → (b ≡ 0) × (d ≡ 0)
+    back undecided = (refl, refl)
 
 pub satisfied-iff : (b p d : ℕ) → (eqb b 0 && ltb 0 d && leb d p ≡ true) ↔ SoundHead 1 b p d
-satisfied-iff b p d = (there, back)
+satisfied-iff b p d = simp tests (λ e. rw (e .0 .0) (satisfied (e .0 .1) (e .1)), back)
   where
-    there : eqb b 0 && ltb 0 d && leb d p ≡ true → SoundHead 1 b p d
-    there h =
-        let e = and-eq-true-iff (eqb b 0 && ltb 0 d) (leb d p) .0 h in
-        let f = and-eq-true-iff (eqb b 0) (ltb 0 d) .0 (e .0) in
-        rw (eqb-true b 0 (f .0)) (satisfied (ltb-true 0 d (f .1)) (leb-true d p (e .1)))
-
-    back : {b : ℕ} → SoundHead 1 b p d → eqb b 0 && ltb 0 d && leb d p ≡ true
-    back (satisfied h k) = rw (lt-ltb 0 d h, le-leb d p k)
+    back : {b : ℕ} → SoundHead 1 b p d → ((b ≡ 0) × (0 < d)) × (d ≤ p)
+    back (satisfied h k) = ((refl, h), k)
 
 pub violated-iff : (b p d : ℕ) → (ltb 0 b && leb b 3 && ltb 0 d && leb d p ≡ true) ↔ SoundHead 2 b p d
-violated-iff b p d = (there, back)
+violated-iff b p d = simp tests (λ e. violated (e .0 .0 .0) (e .0 .0 .1) (e .0 .1) (e .1), back)
   where
-    there : ltb 0 b && leb b 3 && ltb 0 d && leb d p ≡ true → SoundHead 2 b p d
-    there h =
-        let e = and-eq-true-iff (ltb 0 b && leb b 3 && ltb 0 d) (leb d p) .0 h in
-        let f = and-eq-true-iff (ltb 0 b && leb b 3) (ltb 0 d) .0 (e .0) in
-        let g = and-eq-true-iff (ltb 0 b) (leb b 3) .0 (f .0) in
-        violated (ltb-true 0 b (g .0)) (leb-true b 3 (g .1)) (ltb-true 0 d (f .1)) (leb-true d p (e .1))
-
-    back : SoundHead 2 b p d → ltb 0 b && leb b 3 && ltb 0 d && leb d p ≡ true
-    back (violated g h i k) = rw (lt-ltb 0 b g, le-leb b 3 h, lt-ltb 0 d i, le-leb d p k)
+    back : SoundHead 2 b p d → (((0 < b) × (b ≤ 3)) × (0 < d)) × (d ≤ p)
+    back (violated g h i k) = (((g, h), i), k)
 
 pub outcome≤ : {o b p d : ℕ} → SoundHead o b p d → o ≤ 2
 outcome≤ undecided = omega arith
@@ -102,31 +97,22 @@ beq-false true h = sym h
 beq-false false h = refl
 
 -- the tests that `sound` makes of the head
-tests-head : (o b p d : ℕ) → leb o 2 ≡ true → cond (eqb o 2) (leb 1 b && leb b 3) (eqb b 0) ≡ true
-    → Bool·beq (eqb d 0) (eqb o 0) ≡ true → leb d p ≡ true → SoundHead o b p d
+tests-head : (o b p d : ℕ) → o ≤ 2 → cond (eqb o 2) (leb 1 b && leb b 3) (eqb b 0) ≡ true → Bool·beq (eqb d 0) (eqb o 0) ≡ true → d ≤ p → SoundHead o b p d
 tests-head zero b p d i j k l = rw (eqb-true b 0 j, eqb-true d 0 (beq-true (eqb d 0) k)) undecided
 tests-head (suc zero) b p d i j k l =
     let n = eqb-false d 0 (beq-false (eqb d 0) k) in
-    rw (eqb-true b 0 j) (satisfied {decision = d} (omega arith) (leb-true d p l))
+    rw (eqb-true b 0 j) (satisfied {decision = d} (omega arith) l)
 tests-head (suc (suc zero)) b p d i j k l =
-    let e = and-eq-true-iff (leb 1 b) (leb b 3) .0 j in
+    let e = simp tests at j in
     let n = eqb-false d 0 (beq-false (eqb d 0) k) in
-    violated {decision = d} (leb-true 1 b (e .0)) (leb-true b 3 (e .1)) (omega arith) (leb-true d p l)
-tests-head (suc (suc (suc o))) b p d i j k l = absurd (omega (arith, leb-true (suc (suc (suc o))) 2 i))
+    violated {decision = d} (e .0) (e .1) (omega arith) l
+tests-head (suc (suc (suc o))) b p d i j k l = absurd (omega arith)
 
 pub sound-head : (s : State) → sound s ≡ true → SoundHead (s .outcome) (s .blame) (s .periods) (s .decision)
 unfolding sound
 sound-head s h =
-    let t1 = leb (s .outcome) 2 in
-    let t2 = allAtMost 1 (s .values) in
-    let t3 = cond (eqb (s .outcome) 2) (leb 1 (s .blame) && leb (s .blame) 3) (eqb (s .blame) 0) in
-    let t4 = Bool·beq (eqb (s .decision) 0) (eqb (s .outcome) 0) in
-    let t5 = leb (s .decision) (s .periods) in
-    let e5 = and-eq-true-iff (t1 && t2 && t3 && t4 && t5) (cond (eqb (s .periods) 0) (allZero s) true) .0 h .0 in
-    let e4 = and-eq-true-iff (t1 && t2 && t3 && t4) t5 .0 e5 in
-    let e3 = and-eq-true-iff (t1 && t2 && t3) t4 .0 (e4 .0) in
-    let e2 = and-eq-true-iff (t1 && t2) t3 .0 (e3 .0) in
-    tests-head (s .outcome) (s .blame) (s .periods) (s .decision) (and-eq-true-iff t1 t2 .0 (e2 .0) .0) (e2 .1) (e3 .1) (e4 .1)
+    let e = simp tests at h in
+    tests-head (s .outcome) (s .blame) (s .periods) (s .decision) (e .0 .0 .0 .0 .0) (e .0 .0 .0 .1) (e .0 .0 .1) (e .0 .1)
 
 module _ (n : ℕ) (s : State) where
   pub sound-facts : sound s ≡ true → length (s .values) ≡ n → Sound n s
