@@ -7,12 +7,12 @@ use mathlib.Core.Bool.{true, false, _&&_, and-false, and-eq-true-iff, false≢tr
 use mathlib.Core.Logic.{⊎-elim}
 use mathlib.Core.Option.{Option, none, some, Option·getD}
 use mathlib.Core.List.{List, [], _∷_}
-use lib.Dec.{eqb, ltb, leb}
+use lib.Dec.{eqb}
 use lib.ListN.{length, getD, length-append, List·getD-append}
 use lib.Seq.{getD-at}
 use borrow.Author.Tests.{eq-eqb, ne-eqb, le-leb, lt-leb, eqb-true, leb-true, ltb-true}
 use Rattle.records.specs.Fields.{field}
-use Rattle.records.specs.Marks.{rowMark, endMark, marked}
+use Rattle.records.specs.Marks.{rowMark, marked}
 use Rattle.records.specs.declared.Test.the-variants.{Passed, BadImage}
 use Rattle.records.specs.Refusals.{require, firstFailing}
 use Rattle.records.proofs.Numbers.{lt-or-le}

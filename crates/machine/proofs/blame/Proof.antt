@@ -1,4 +1,3 @@
--- `machine::blame` meets its contract.
 use native.Mathlib.Omega.{arith}
 use borrow.Author.Needs.{needs}
 use Rattle.machine.proofs.Deciding.{blame-of, blame-small}
