@@ -11,7 +11,7 @@ use Rattle.records.proofs.Written.{sets-append}
 use Rattle.layout.specs.Limits.{rowBytes}
 use Rattle.layout.specs.Rows.{never, initial, negation, rowRecord}
 use Rattle.layout.specs.Images.{rowsBytes, endRecord, endBytes, imageBytes, rowCount}
-use Rattle.layout.proofs.Images.{length-rowsBytes, rowCount-imageBytes}
+use Rattle.layout.proofs.ImageBytes.{length-rowsBytes, rowCount-imageBytes}
 use Rattle.contract.specs.Meaning.{Clause}
 use Rattle.reader.specs.Limits.{recordBytes}
 use Rattle.reader.specs.Table.{clause}
@@ -20,7 +20,7 @@ use Rattle.image.specs.Widths.{firstRow, laterRow, fixedRows, afterClause}
 use Rattle.image.specs.Blocks.{clauseRows}
 use Rattle.image.specs.Images as Images
 use Rattle.image.specs.Images.{rowsFor, imageFor}
-use Rattle.image.proofs.Goodness.{rows-allowed}
+use Rattle.image.proofs.Sizes.{rows-allowed}
 use Rattle.emitter.specs.declared.Block.{Block}
 use Rattle.emitter.specs.Plans.{numbersOf, numbersBytes, writtenRows, blockOf, EndsWith, Emitted, Emits, Writes}
 use Rattle.emitter.proofs.Writing.{numbers-bytes, length-written, written-after}

@@ -144,19 +144,19 @@ star-join (more {u = u} {v = t} p s) q = rw append-assoc (more p (star-join s q)
 pub star-one : {e : Expression} {w : List Period} → Holds e w → Holds (star e) w
 star-one {w = w} p = rw append-nil at (more p none)
 
--- two ways to cut one list: one of the fronts goes on from the other
+-- two ways to cut one list: the second cut falls in the front of the first, or in its rest
 pub data Cuts (s t u v : List Period) : Type 0 where
-  within : (m : List Period) → s ≡ u ++ m → Cuts s t u v
-  past : (m : List Period) → u ≡ s ++ m → t ≡ m ++ v → Cuts s t u v
+  in-front : (m : List Period) → s ≡ u ++ m → Cuts s t u v
+  in-rest : (m : List Period) → u ≡ s ++ m → t ≡ m ++ v → Cuts s t u v
 
 pub cuts : (s t u v : List Period) → s ++ t ≡ u ++ v → Cuts s t u v
-cuts s t [] v h = within s refl
-cuts [] t (y ∷ u) v h = past (y ∷ u) refl h
+cuts s t [] v h = in-front s refl
+cuts [] t (y ∷ u) v h = in-rest (y ∷ u) refl h
 cuts (x ∷ s) t (y ∷ u) v h = longer (cuts s t u v (cc))
   where
     longer : Cuts s t u v → Cuts (x ∷ s) t (y ∷ u) v
-    longer (within m e) = within m (cc)
-    longer (past m e f) = past m (cc) f
+    longer (in-front m e) = in-front m (cc)
+    longer (in-rest m e f) = in-rest m (cc) f
 
 begins-sound : (e : Expression) (w : List Period) → begins e w ≡ true → (v : List Period) × Holds e (w ++ v)
 unfolding begins
@@ -209,8 +209,8 @@ begins-seq : (l r : Expression) → ((w v : List Period) → Holds l (w ++ v) �
 begins-seq l r complete-l complete-r w v h = go (cuts (h .front) (h .rest) w v (sym (h .whole)))
   where
     go : Cuts (h .front) (h .rest) w v → begins l w || splits (member l) (begins r) w ≡ true
-    go (within m k) = or-true (begins l w) _ .1 (inl (complete-l w m (rw k at (h .held))))
-    go (past m j k) =
+    go (in-front m k) = or-true (begins l w) _ .1 (inl (complete-l w m (rw k at (h .held))))
+    go (in-rest m j k) =
         or-true (begins l w) _ .1
         (inr (rw j (splits-at (member l) (begins r) (h .front) m (member-complete (h .held)) (complete-r m v (rw k at (h .held-rest))))))
 
@@ -223,8 +223,8 @@ begins-star e complete (more {u = s} {v = t} p q) w v h = go (cuts s t w v h) (�
   where
     go : Cuts s t w v → ((w v : List Period) → t ≡ w ++ v → splits (member (star e)) (begins e) w ≡ true)
         → splits (member (star e)) (begins e) w ≡ true
-    go (within m k) further = splits-at (member (star e)) (begins e) [] w (member-complete none) (complete w m (rw k at p))
-    go (past m j k) further =
+    go (in-front m k) further = splits-at (member (star e)) (begins e) [] w (member-complete none) (complete w m (rw k at p))
+    go (in-rest m j k) further =
         let c = split (member (star e)) (begins e) m (further m v k) in
         let held : Holds (star e) (s ++ c .front) = more p (member-sound (star e) (c .front) (c .passes)) in
         rw (j, ← c .whole, ← append-assoc s) (splits-at (member (star e)) (begins e) (s ++ c .front) (c .rest) (member-complete held) (c .passes-rest))

@@ -165,12 +165,12 @@ within-period n (satisfied k) p = p .1
 within-period n (violated k b) p = p .1
 
 -- of two violations, the one that comes first
-data Order (j k : ℕ) (b c : Blame) : Decision → Type 0 where
+pub data Order (j k : ℕ) (b c : Blame) : Decision → Type 0 where
   left-first : j < k → Order j k b c (violated j b)
   right-first : k < j → Order j k b c (violated k c)
   together : j ≡ k → Order j k b c (violated j (unite b c))
 
-order : (j k : ℕ) (b c : Blame) → Order j k b c (earlier j b k c)
+pub order : (j k : ℕ) (b c : Blame) → Order j k b c (earlier j b k c)
 order j k b c = go (lt-or-le j k) (lt-or-le k j)
   where
     go : (j < k) ⊎ (k ≤ j) → (k < j) ⊎ (j ≤ k) → Order j k b c (earlier j b k c)

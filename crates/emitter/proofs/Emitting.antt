@@ -20,7 +20,7 @@ use Rattle.reader.proofs.Table.{kind-number}
 use Rattle.reader.proofs.Codes.{few-operands}
 use Rattle.reader.proofs.Spelling.{spellTrees, treesRecords, partyByte, actionByte, recordWith, spell-node, records-node, length-tree, length-spellTrees, on-tree}
 use Rattle.image.specs.Widths.{width, inside}
-use Rattle.image.proofs.Goodness.{⊹-plus}
+use Rattle.image.proofs.Sizes.{⊹-plus}
 use Rattle.emitter.specs.declared.Block.{Block}
 use Rattle.emitter.specs.declared.Plan.{Plan}
 use Rattle.emitter.specs.declared.Wires.{Wires}

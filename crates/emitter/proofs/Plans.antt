@@ -24,7 +24,7 @@ use Rattle.reader.proofs.Codes.{is-empty}
 use Rattle.reader.proofs.Spelling.{partyByte, actionByte}
 use Rattle.image.specs.Widths.{inside, afterExpression, afterClause, width}
 use Rattle.image.specs.Blocks.{endRow, liveRow, expressionRows, blaming, outputsOf, clauseRows}
-use Rattle.image.proofs.Goodness.{after-expression, after-clause, length-expression, length-clause, inside-expression, inside-clause}
+use Rattle.image.proofs.Sizes.{after-expression, after-clause, length-expression, length-clause, inside-expression, inside-clause}
 use Rattle.emitter.specs.declared.Block.{Block}
 use Rattle.emitter.specs.declared.Wires.{Wires}
 use Rattle.emitter.specs.Plans.{RowNumbers, numbersOf, planOf, noBlock, basesOf, leafRows, rowTable, tableRows, recordBlock, wiresOf, treeRows, afterTree, blockOf}

@@ -7,7 +7,8 @@ use Rattle.image.proofs.Expressions.{reads-alone}
 use Rattle.image.proofs.Literals.{behaves-literal}
 use Rattle.image.proofs.Handing.{behaves-then, behaves-repair}
 use Rattle.image.proofs.When.{behaves-when}
-use Rattle.image.proofs.Ending.{behaves-both, behaves-until}
+use Rattle.image.proofs.Both.{behaves-both}
+use Rattle.image.proofs.Until.{behaves-until}
 use Rattle.image.proofs.Repeating.{exclusive-repeat, behaves-repeat}
 
 pub behaves : {c : Clause} {S K sat one two : Signal} → EmptyFree c → Exclusive S K → WiredClause c S K sat one two → Behaves c S K sat one two

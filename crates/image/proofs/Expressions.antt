@@ -10,7 +10,7 @@ use Rattle.contract.specs.Expressions
 use Rattle.contract.specs.Expressions.{Atom, holds, Expression, atom, seq, or, star, Holds, one, left, right, member, begins, holdsEmpty}
 use Rattle.contract.proofs.Expressions.{Concat, or-true, member-iff, begins-iff, empty-iff, held-or}
 use Rattle.image.proofs.Signals.{Signal, at, _≐_, at-or, JoinsOn, whereEmpty, WiredExpression, wired-atom, wired-seq, wired-or, wired-star}
-use Rattle.image.proofs.Threads.{Active, begun, kept, Exclusive, thread, thread-active}
+use Rattle.image.proofs.Threads.{Active, started, kept, Exclusive, thread, thread-active}
 use Rattle.image.proofs.Languages.{Language, NonEmpty, Before, GoesOn, concat-before, concat-empty, begins-or, concat-begin, atom-single, seq-iff, seq-goes, star-iff, star-goes}
 
 or-iff : (a b : Bool) {A B : Type 0} → ((a ≡ true) ↔ A) → ((b ≡ true) ↔ B) → (a || b ≡ true) ↔ (A ⊎ B)
@@ -35,7 +35,7 @@ abbrev Read : (S K : Signal) → List Period → Language → Type 0
 Read S K h L = (w : List Period) × (Active S K h w × L w)
 
 not-empty : {S K : Signal} {h w : List Period} → Active S K h w → (h ≢ []) × (w ≢ [])
-not-empty (begun {p = p} {h = h} s) = (cons-ne-nil p h, cons-ne-nil p [])
+not-empty (started {p = p} {h = h} s) = (cons-ne-nil p h, cons-ne-nil p [])
 not-empty (kept {p = p} {h = h} {w = w} k a) = (cons-ne-nil p h, λ z. cons-ne-nil p [] (append-eq-nil-iff {p = w} .0 z .1))
 
 read-iff : {S K : Signal} {L M : Language} (h : List Period) → ((w : List Period) → w ≢ [] → L w ↔ M w) → Read S K h L ↔ Read S K h M
@@ -63,21 +63,21 @@ rest-step : (L : Language) (S K start : Signal) (p : Period) (h : List Period)
 rest-step L S K start p h starts rest M = (λ r. there (r .1 .0) (r .1 .1), λ r. back (r .1 .0) (r .1 .1))
   where
     there : {w : List Period} → Active start K (p ∷ h) w → M w → Read S K (p ∷ h) (Concat L (NonEmpty M))
-    there (begun s) m =
+    there (started s) m =
         ⊎-elim (λ (k, (u, (a, l))). (u ++ (p ∷ []), (kept k a, concat-before L M u p .1 (inl (l, m)))))
-        (λ (l, b). (p ∷ [], (begun b, concat-before L M [] p .1 (inl (l, m)))))
+        (λ (l, b). (p ∷ [], (started b, concat-before L M [] p .1 (inl (l, m)))))
         (starts .0 s)
     there (kept {w = w} k a) m =
         let (v, (b, c)) = rest (Before p M) .0 (w, (a, m)) in
         (v ++ (p ∷ []), (kept k b, concat-before L M v p .1 (inr c)))
 
     back : {w : List Period} → Active S K (p ∷ h) w → Concat L (NonEmpty M) w → Read start K (p ∷ h) M
-    back (begun s) c =
-        ⊎-elim (λ (l, m). (p ∷ [], (begun (starts .1 (inr (l, s))), m)))
+    back (started s) c =
+        ⊎-elim (λ (l, m). (p ∷ [], (started (starts .1 (inr (l, s))), m)))
         (λ d. absurd (d .held-rest .0 (append-eq-nil-iff {p = d .front} .0 (sym (d .whole)) .1)))
         (concat-before L M [] p .0 c)
     back (kept {w = w} k a) c =
-        ⊎-elim (λ (l, m). (p ∷ [], (begun (starts .1 (inl (k, (w, (a, l))))), m)))
+        ⊎-elim (λ (l, m). (p ∷ [], (started (starts .1 (inl (k, (w, (a, l))))), m)))
         (λ d. let (v, (b, m)) = rest (Before p M) .1 (w, (a, d)) in (v ++ (p ∷ []), (kept k b, m)))
         (concat-before L M w p .0 c)
 
@@ -97,11 +97,11 @@ going-on L S {ended} {S₀} {K} {start} j empty tells (p ∷ h) M =
 -- ---- the blocks of expressions
 
 -- with threads that may overlap
-record Reads (e : Expression) (S K end live : Signal) : Type 0 where
+record ReadsMany (e : Expression) (S K end live : Signal) : Type 0 where
   ends : (h : List Period) → (at end h ≡ true) ↔ Read S K h (Holds e)
   lives : (h : List Period) → (at live h ≡ true) ↔ Read S K h (GoesOn (Holds e))
 
-reads-atom : {a : Atom} {S K end live : Signal} → (end ≐ λ p h. S p h && holds a p) → (live ≐ λ p h. false) → Reads (atom a) S K end live
+reads-atom : {a : Atom} {S K end live : Signal} → (end ≐ λ p h. S p h && holds a p) → (live ≐ λ p h. false) → ReadsMany (atom a) S K end live
 unfolding member
 reads-atom {a} {S} {K} {end} {live} e v = record { ends = ends; lives = λ h. (λ t. absurd (false≢true (sym (never h) ∙ t)), longer) }
   where
@@ -116,22 +116,22 @@ reads-atom {a} {S} {K} {end} {live} e v = record { ends = ends; lives = λ h. (�
     ends [] = (λ t. absurd (false≢true t), λ r. absurd (not-empty (r .1 .0) .0 refl))
     ends (p ∷ h) =
         rw (e p h) (
-          λ t. let b = and-eq-true-iff (S p h) (holds a p) .0 t in (p ∷ [], (begun (b .0), one (b .1))),
+          λ t. let b = and-eq-true-iff (S p h) (holds a p) .0 t in (p ∷ [], (started (b .0), one (b .1))),
           λ r. back (r .1 .0) (r .1 .1),
         )
       where
         back : {w : List Period} → Active S K (p ∷ h) w → Holds (atom a) w → (S p h && holds a p) ≡ true
-        back (begun s) o = and-eq-true-iff (S p h) (holds a p) .1 (s, member-iff (atom a) (p ∷ []) .1 o)
+        back (started s) o = and-eq-true-iff (S p h) (holds a p) .1 (s, member-iff (atom a) (p ∷ []) .1 o)
         back (kept {w = w} k b) o = longer (w, (b, (p, ([], o))))
 
 -- a list of L has just ended, or what follows it may go on
 lives-after : (L : Language) {r : Expression} {S K start end live : Signal} (h : List Period) (ended : Bool) → ReadsRest L S K start h
-    → ((ended ≡ true) ↔ Read S K h L) → Reads r start K end live → (at live h || ended ≡ true) ↔ Read S K h (Concat L (GoesOn (Holds r)))
+    → ((ended ≡ true) ↔ Read S K h L) → ReadsMany r start K end live → (at live h || ended ≡ true) ↔ Read S K h (Concat L (GoesOn (Holds r)))
 lives-after L {r} h ended rest tells part = read-or h _ ended (Iff·trans (part .lives h) (rest (GoesOn (Holds r)))) tells (concat-begin L r)
 
 reads-seq : {l r : Expression} {S K start endL liveL endR liveR end live : Signal}
-    → Reads l S K endL liveL → Reads r start K endR liveR → JoinsOn endL (whereEmpty l S) K start
-    → (end ≐ λ p h. endR p h || whereEmpty r endL p h) → (live ≐ λ p h. liveL p h || liveR p h || endL p h) → Reads (seq l r) S K end live
+    → ReadsMany l S K endL liveL → ReadsMany r start K endR liveR → JoinsOn endL (whereEmpty l S) K start
+    → (end ≐ λ p h. endR p h || whereEmpty r endL p h) → (live ≐ λ p h. liveL p h || liveR p h || endL p h) → ReadsMany (seq l r) S K end live
 reads-seq {l} {r} {S} {K} {start} {endL} {liveL} {endR} {liveR} {end} {live} a b j e v = record {
   ends = λ h. rw (at-or end endR (whereEmpty r endL) e h)
       (read-or h _ _ (Iff·trans (b .ends h) (rest h (Holds r))) (empty h) (λ w. Iff·trans (seq-iff l r w) (concat-empty (Holds l) (Holds r) w)));
@@ -155,8 +155,8 @@ reads-seq {l} {r} {S} {K} {start} {endL} {liveL} {endR} {liveR} {end} {live} a b
     one-of-three [] = refl
     one-of-three (p ∷ h) = v p h ∙ or-assoc (liveL p h) (liveR p h) (endL p h)
 
-reads-or : {l r : Expression} {S K endL liveL endR liveR end live : Signal} → Reads l S K endL liveL → Reads r S K endR liveR
-    → (end ≐ λ p h. endL p h || endR p h) → (live ≐ λ p h. liveL p h || liveR p h) → Reads (or l r) S K end live
+reads-or : {l r : Expression} {S K endL liveL endR liveR end live : Signal} → ReadsMany l S K endL liveL → ReadsMany r S K endR liveR
+    → (end ≐ λ p h. endL p h || endR p h) → (live ≐ λ p h. liveL p h || liveR p h) → ReadsMany (or l r) S K end live
 reads-or {l} {r} {endL = endL} {liveL = liveL} {endR = endR} {liveR = liveR} {end = end} {live = live} a b e v = record {
   ends = λ h. rw (at-or end endL endR e h) (read-or h _ _ (a .ends h) (b .ends h) (λ w. (held-or, ⊎-elim left right)));
   lives = λ h. rw (at-or live liveL liveR v h) (read-or h _ _ (a .lives h) (b .lives h) goes);
@@ -169,8 +169,8 @@ reads-or {l} {r} {endL = endL} {liveL = liveL} {endR = endR} {liveR = liveR} {en
     )
 
 -- here the list that has ended is one of the whole star
-reads-star : {e : Expression} {S K start end liveE live : Signal} → Reads e start K end liveE → JoinsOn end S K start
-    → (live ≐ λ p h. liveE p h || end p h) → Reads (star e) S K end live
+reads-star : {e : Expression} {S K start end liveE live : Signal} → ReadsMany e start K end liveE → JoinsOn end S K start
+    → (live ≐ λ p h. liveE p h || end p h) → ReadsMany (star e) S K end live
 reads-star {e} {S} {K} {start} {end} {liveE} {live} a j v = record {
   ends = λ h. tells h (rest h);
   lives = λ h. rw (at-or live liveE end v h)
@@ -183,25 +183,25 @@ reads-star {e} {S} {K} {start} {end} {liveE} {live} a j v = record {
     rest : (h : List Period) → ReadsRest (Holds (star e)) S K start h
     rest = going-on (Holds (star e)) S j (λ p h. (λ s. (Expressions.none, s), λ b. b .1)) tells
 
-reads : {e : Expression} {S K end live : Signal} → WiredExpression e S K end live → Reads e S K end live
-reads (wired-atom e v) = reads-atom e v
-reads (wired-seq l r j e v) = reads-seq (reads l) (reads r) j e v
-reads (wired-or l r e v) = reads-or (reads l) (reads r) e v
-reads (wired-star r j v) = reads-star (reads r) j v
+reads-many : {e : Expression} {S K end live : Signal} → WiredExpression e S K end live → ReadsMany e S K end live
+reads-many (wired-atom e v) = reads-atom e v
+reads-many (wired-seq l r j e v) = reads-seq (reads-many l) (reads-many r) j e v
+reads-many (wired-or l r e v) = reads-or (reads-many l) (reads-many r) e v
+reads-many (wired-star r j v) = reads-star (reads-many r) j v
 
 -- what has been read is in the set; some list that begins with it is
 abbrev pub heldBy : Expression → Option (List Period) → Bool
 heldBy e none = false
 heldBy e (some w) = member e w
 
-abbrev pub begunBy : Expression → Option (List Period) → Bool
-begunBy e none = false
-begunBy e (some w) = begins e w
+abbrev pub beginsBy : Expression → Option (List Period) → Bool
+beginsBy e none = false
+beginsBy e (some w) = begins e w
 
 -- with one thread at a time
 pub record ReadsAlone (e : Expression) (S K end live : Signal) : Type 0 where
   pub ends : (h : List Period) → at end h ≡ heldBy e (thread S K h)
-  pub goes-on : (h : List Period) → (at end h || at live h) ≡ begunBy e (thread S K h)
+  pub goes-on : (h : List Period) → (at end h || at live h) ≡ beginsBy e (thread S K h)
 
 -- the test f, which the lists of L pass, on the one thread
 read-alone : {S K : Signal} (L : Language) (h : List Period) (a : Bool) → Exclusive S K → ((a ≡ true) ↔ Read S K h L)
@@ -217,7 +217,7 @@ read-alone {S} {K} L h a x r f n s = same a (f (thread S K h)) (Iff·trans r (th
 
 pub reads-alone : {e : Expression} {S K end live : Signal} → Exclusive S K → WiredExpression e S K end live → ReadsAlone e S K end live
 reads-alone {e} x w = record {
-  ends = λ h. read-alone (Holds e) h _ x (reads w .ends h) (heldBy e) refl (member-iff e);
+  ends = λ h. read-alone (Holds e) h _ x (reads-many w .ends h) (heldBy e) refl (member-iff e);
   goes-on = λ h. read-alone (λ u. (v : List Period) × Holds e (u ++ v)) h _ x
-      (read-or h _ _ (reads w .ends h) (reads w .lives h) (begins-or (Holds e))) (begunBy e) refl (begins-iff e);
+      (read-or h _ _ (reads-many w .ends h) (reads-many w .lives h) (begins-or (Holds e))) (beginsBy e) refl (begins-iff e);
 }

@@ -2,13 +2,14 @@
 use Prim.Native.Nat.{ℕ}
 use mathlib.Core.List.{List}
 use mathlib.Core.Path.{_≡_}
-use Rattle.layout.proofs.Images.{imageTest-imageBytes, imageOf-imageBytes, rowCount-imageBytes}
+use Rattle.layout.proofs.ImageBytes.{imageTest-imageBytes, imageOf-imageBytes, rowCount-imageBytes}
 use Rattle.states.proofs.Fresh.{fresh-read}
 use Rattle.contract.specs.Meaning.{Clause}
 use Rattle.reader.specs.Reader.{taken, read}
 use Rattle.reader.proofs.Reader.{taken-spells, taken-count}
 use Rattle.image.specs.Images.{image, imageFor, RightFor, SizedFor}
-use Rattle.image.proofs.Goodness.{length-rows, rows-most, rows-allowed, writable}
+use Rattle.image.proofs.Sizes.{length-rows, rows-most, rows-allowed}
+use Rattle.image.proofs.Goodness.{writable}
 use Rattle.image.proofs.Root.{shows}
 
 pub right-for : (contract : List ℕ) (c : Clause) → read contract ≡ taken c → RightFor c (imageFor contract)

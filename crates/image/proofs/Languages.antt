@@ -6,7 +6,7 @@ use mathlib.Core.Path.{_≡_, refl, sym, _∙_, subst}
 use Rattle.periods.specs.Periods.{Period}
 use Rattle.contract.specs.Expressions
 use Rattle.contract.specs.Expressions.{Atom, Expression, atom, seq, or, star, Holds, one, join, left, more, member, begins}
-use Rattle.contract.proofs.Expressions.{Concat, held-seq, Split, split, member-iff, begins-iff, some-list, star-join, star-one, Cuts, within, past, cuts}
+use Rattle.contract.proofs.Expressions.{Concat, held-seq, Split, split, member-iff, begins-iff, some-list, star-join, star-one, Cuts, in-front, in-rest, cuts}
 
 abbrev pub Language : Type 1
 Language = List Period → Type 0
@@ -115,9 +115,9 @@ seq-goes l r w = (λ (p, (u, h)). apart p u (seq-iff l r _ .0 h), ⊎-elim in-le
     apart p u c = go (cuts (c .front) (c .rest) w (p ∷ u) (sym (c .whole)))
       where
         go : Cuts (c .front) (c .rest) w (p ∷ u) → GoesOn (Holds l) w ⊎ Concat (Holds l) (GoesOn (Holds r)) w
-        go (within [] e) = inr (concat-begin (Holds l) r w .1 (inr (rw (e, append-nil) at (c .held))))
-        go (within (q ∷ m) e) = inl (q, (m, rw e at (c .held)))
-        go (past m e f) = inr (record { front = c .front; rest = m; whole = e; held = c .held; held-rest = (p, (u, rw f at (c .held-rest))) })
+        go (in-front [] e) = inr (concat-begin (Holds l) r w .1 (inr (rw (e, append-nil) at (c .held))))
+        go (in-front (q ∷ m) e) = inl (q, (m, rw e at (c .held)))
+        go (in-rest m e f) = inr (record { front = c .front; rest = m; whole = e; held = c .held; held-rest = (p, (u, rw f at (c .held-rest))) })
 
     in-left : GoesOn (Holds l) w → GoesOn (Holds (seq l r)) w
     in-left (p, (u, h)) = (p, (u ++ some-list r .0, rw (append-assoc w) at (join h (some-list r .1))))

@@ -1,6 +1,7 @@
 -- Why the image of a contract monitors it, layer by layer.
 pub mod Signals
 pub mod RowLaws
+pub mod Sizes
 pub mod Goodness
 pub mod Wiring
 pub mod Threads
@@ -10,7 +11,9 @@ pub mod Reports
 pub mod Tested
 pub mod Handing
 pub mod When
-pub mod Ending
+pub mod Stopping
+pub mod Both
+pub mod Until
 pub mod Literals
 pub mod Repeating
 pub mod Clauses

@@ -12,7 +12,7 @@ use Rattle.contract.specs.Meaning.{Literal, literal, Decision, undecided, satis
 use Rattle.contract.proofs.Meaning.{Within, within, within-period}
 use Rattle.image.proofs.Signals.{Signal, at, Report, nothing, isMet, isBroken, reportOf, Says}
 use Rattle.image.proofs.Threads.{extend, thread, length-snoc}
-use Rattle.image.proofs.Reports.{decidedAt, said, saidBy, NotBefore, timely, past, Behaves}
+use Rattle.image.proofs.Reports.{decidedAt, said, saidBy, NotBefore, timely, silent-past, Behaves}
 
 -- a decision in period 1 is not before it
 not-before-first : (d : Decision) → Within 1 d → NotBefore 1 (decidedAt d)
@@ -21,16 +21,16 @@ not-before-first (satisfied k) b = b .0
 not-before-first (violated k x) b = b .0
 
 -- what has been read is not empty
-abbrev Begun : Option (List Period) → Type 0
-Begun none = Unit {0}
-Begun (some w) = 1 ≤ length w
+abbrev AtLeastOne : Option (List Period) → Type 0
+AtLeastOne none = Unit {0}
+AtLeastOne (some w) = 1 ≤ length w
 
-thread-begun : (S K : Signal) (h : List Period) → Begun (thread S K h)
+thread-at-least-one : (S K : Signal) (h : List Period) → AtLeastOne (thread S K h)
 unfolding thread
-thread-begun S K [] = tt
-thread-begun S K (p ∷ h) = go (S p h) (K p h) (thread S K h)
+thread-at-least-one S K [] = tt
+thread-at-least-one S K (p ∷ h) = go (S p h) (K p h) (thread S K h)
   where
-    go : (s k : Bool) (t : Option (List Period)) → Begun (cond s (some (p ∷ [])) (cond k (extend p t) none))
+    go : (s k : Bool) (t : Option (List Period)) → AtLeastOne (cond s (some (p ∷ [])) (cond k (extend p t) none))
     go true k t = le-refl 1
     go false false t = tt
     go false true none = tt
@@ -44,16 +44,16 @@ module _ (l : Literal) (q : Party) (a : ℕ) where
   said-by-literal : (S K : Signal) (p : Period) (h : List Period)
       → saidBy (literal l q a) (thread S K (p ∷ h)) ≡ cond (S p h) (reportOf (meaning (literal l q a) (p ∷ []))) nothing
   unfolding thread said meaning
-  said-by-literal S K p h = go (S p h) (K p h) (thread S K h) (thread-begun S K h)
+  said-by-literal S K p h = go (S p h) (K p h) (thread S K h) (thread-at-least-one S K h)
     where
-      go : (s k : Bool) (t : Option (List Period)) → Begun t
+      go : (s k : Bool) (t : Option (List Period)) → AtLeastOne t
           → saidBy (literal l q a) (cond s (some (p ∷ [])) (cond k (extend p t) none)) ≡ cond s (reportOf (meaning (literal l q a) (p ∷ []))) nothing
       go true k t b = timely 1 (meaning (literal l q a) (p ∷ [])) (one-period p) (not-before-first (meaning (literal l q a) (p ∷ [])) (one-period p))
       go false false t b = refl
       go false true none b = refl
       go false true (some []) b = absurd (omega arith)
       go false true (some (x ∷ w)) b =
-          past (suc (length (w ++ (p ∷ [])))) (meaning (literal l q a) (x ∷ []))
+          silent-past (suc (length (w ++ (p ∷ [])))) (meaning (literal l q a) (x ∷ []))
           (omega (arith, length-snoc w p, within-period 1 (meaning (literal l q a) (x ∷ [])) (one-period x)))
 
 says-if : (b : Bool) (s : Report) → Says (b && isMet s) (b && isBroken party1 s) (b && isBroken party2 s) (cond b s nothing)

@@ -90,10 +90,10 @@ timely n undecided p q = refl
 timely n (satisfied k) p q = rw (eq-eqb k n (omega arith))
 timely n (violated k b) p q = rw (eq-eqb k n (omega arith))
 
-pub past : (n : ℕ) (d : Decision) → decisionPeriod d < n → now n d ≡ nothing
-past n undecided l = refl
-past n (satisfied k) l = rw (ne-eqb k n (λ e. omega arith))
-past n (violated k b) l = rw (ne-eqb k n (λ e. omega arith))
+pub silent-past : (n : ℕ) (d : Decision) → decisionPeriod d < n → now n d ≡ nothing
+silent-past n undecided l = refl
+silent-past n (satisfied k) l = rw (ne-eqb k n (λ e. omega arith))
+silent-past n (violated k b) l = rw (ne-eqb k n (λ e. omega arith))
 
 -- ---- what happens once
 
@@ -139,13 +139,13 @@ between-if n k true h = h
 between-if n k false h = tt
 
 module _ {test : Report → Bool} {tell : Decision → Option ℕ} (t : Tells test tell) where
-  told : (d : Decision) → tell d ≡ cond (test (reportOf d)) (some (decisionPeriod d)) none
-  told undecided = rw (t .of-undecided, t .silent)
-  told (satisfied k) = t .of-satisfied k
-  told (violated k b) = t .of-violated k b
+  tell-is : (d : Decision) → tell d ≡ cond (test (reportOf d)) (some (decisionPeriod d)) none
+  tell-is undecided = rw (t .of-undecided, t .silent)
+  tell-is (satisfied k) = t .of-satisfied k
+  tell-is (violated k b) = t .of-violated k b
 
-  told-by : (n : ℕ) (d : Decision) → tell (decidedBy n d) ≡ by n (tell d)
-  told-by n d = go (lt-or-le n (decisionPeriod d)) (test (reportOf d)) (told d)
+  tell-by : (n : ℕ) (d : Decision) → tell (decidedBy n d) ≡ by n (tell d)
+  tell-by n d = go (lt-or-le n (decisionPeriod d)) (test (reportOf d)) (tell-is d)
     where
       go : (n < decisionPeriod d) ⊎ (decisionPeriod d ≤ n) → (b : Bool) → tell d ≡ cond b (some (decisionPeriod d)) none
           → tell (decidedBy n d) ≡ by n (tell d)
@@ -154,15 +154,15 @@ module _ {test : Report → Bool} {tell : Decision → Option ℕ} (t : Tells te
       go (inr l) true e = rw (by-now n d l, e, le-ltb n (decisionPeriod d) l)
       go (inr l) false e = rw (by-now n d l, e)
 
-  told-between : (n : ℕ) (d : Decision) → Within n d → Between n (tell d)
-  told-between n undecided b = rw (t .of-undecided) tt
-  told-between n (satisfied k) b = rw (t .of-satisfied k) (between-if n k (test met) b)
-  told-between n (violated k x) b = rw (t .of-violated k x) (between-if n k (test (broken x)) b)
+  tell-between : (n : ℕ) (d : Decision) → Within n d → Between n (tell d)
+  tell-between n undecided b = rw (t .of-undecided) tt
+  tell-between n (satisfied k) b = rw (t .of-satisfied k) (between-if n k (test met) b)
+  tell-between n (violated k x) b = rw (t .of-violated k x) (between-if n k (test (broken x)) b)
 
-  once-told : (c : Clause) → EmptyFree c → Once (λ w. tell (meaning c w))
-  once-told c g =
-      once-by (λ w. tell (meaning c w)) (λ n w. rw (stable c g n w) (told-by n (meaning c w)))
-      (λ w. told-between (length w) (meaning c w) (within c g w))
+  tell-once : (c : Clause) → EmptyFree c → Once (λ w. tell (meaning c w))
+  tell-once c g =
+      once-by (λ w. tell (meaning c w)) (λ n w. rw (stable c g n w) (tell-by n (meaning c w)))
+      (λ w. tell-between (length w) (meaning c w) (within c g w))
 
   -- a report in its own period
   in-period : (s : Report) (k n : ℕ) → test (cond (eqb k n) s nothing) ≡ is (cond (test s) (some k) none) n
@@ -174,15 +174,15 @@ module _ {test : Report → Bool} {tell : Decision → Option ℕ} (t : Tells te
       go false i true j = t .silent ∙ sym i
       go false i false j = t .silent
 
-  told-now : (n : ℕ) (d : Decision) → test (now n d) ≡ is (tell d) n
-  told-now n undecided = rw (t .of-undecided) (t .silent)
-  told-now n (satisfied k) = rw (t .of-satisfied k) (in-period met k n)
-  told-now n (violated k x) = rw (t .of-violated k x) (in-period (broken x) k n)
+  tell-now : (n : ℕ) (d : Decision) → test (now n d) ≡ is (tell d) n
+  tell-now n undecided = rw (t .of-undecided) (t .silent)
+  tell-now n (satisfied k) = rw (t .of-satisfied k) (in-period met k n)
+  tell-now n (violated k x) = rw (t .of-violated k x) (in-period (broken x) k n)
 
-  happens-told : (c : Clause) (l : Option (List Period)) → test (saidBy c l) ≡ happens (λ w. tell (meaning c w)) l
+  tell-happens : (c : Clause) (l : Option (List Period)) → test (saidBy c l) ≡ happens (λ w. tell (meaning c w)) l
   unfolding said
-  happens-told c none = t .silent
-  happens-told c (some w) = told-now (length w) (meaning c w)
+  tell-happens c none = t .silent
+  tell-happens c (some w) = tell-now (length w) (meaning c w)
 
 abbrev isBlaming : Report → Bool
 isBlaming s = isBroken party1 s || isBroken party2 s
@@ -202,25 +202,25 @@ tells-decided : Tells (λ s. isMet s || isBlaming s) decidedAt
 tells-decided = record { silent = refl; of-undecided = refl; of-satisfied = λ k. refl; of-violated = λ k b. rw (someone-blamed b) }
 
 pub once-satisfied : (c : Clause) → EmptyFree c → Once (λ w. satisfiedAt (meaning c w))
-once-satisfied = once-told tells-satisfied
+once-satisfied = tell-once tells-satisfied
 
 pub once-violated : (c : Clause) → EmptyFree c → Once (λ w. violatedAt (meaning c w))
-once-violated = once-told tells-violated
+once-violated = tell-once tells-violated
 
 pub once-decided : (c : Clause) → EmptyFree c → Once (λ w. decidedAt (meaning c w))
-once-decided = once-told tells-decided
+once-decided = tell-once tells-decided
 
 -- the clause says that it is satisfied, that it is violated, that it is one of the two, when that happens
 pub met-happens : (c : Clause) (t : Option (List Period)) → isMet (saidBy c t) ≡ happens (λ w. satisfiedAt (meaning c w)) t
-met-happens = happens-told tells-satisfied
+met-happens = tell-happens tells-satisfied
 
 pub broken-happens : (c : Clause) (t : Option (List Period))
     → (isBroken party1 (saidBy c t) || isBroken party2 (saidBy c t)) ≡ happens (λ w. violatedAt (meaning c w)) t
-broken-happens = happens-told tells-violated
+broken-happens = tell-happens tells-violated
 
 pub decided-happens : (c : Clause) (t : Option (List Period))
     → (isMet (saidBy c t) || (isBroken party1 (saidBy c t) || isBroken party2 (saidBy c t))) ≡ happens (λ w. decidedAt (meaning c w)) t
-decided-happens = happens-told tells-decided
+decided-happens = tell-happens tells-decided
 
 by-accepted : (n : ℕ) (r : Reading) → acceptedAt (readingBy n r) ≡ by n (acceptedAt r)
 by-accepted n pending = refl

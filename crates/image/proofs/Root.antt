@@ -2,7 +2,7 @@
 use Prim.Native.Nat.{ℕ, zero, suc, _+_, _≤_}
 use native.Mathlib.Numerals.{add-one}
 use native.Mathlib.Omega.{arith}
-use mathlib.Core.Bool.{Bool, true, false, not, _&&_, _||_, cond}
+use mathlib.Core.Bool.{Bool, true, not, _||_, cond, and-not-self}
 use mathlib.Core.List.{List, [], _∷_, _++_, map}
 use mathlib.Core.Logic.{_⊎_, inl, inr, ⊎-elim}
 use mathlib.Core.Option.{Option, none, some}
@@ -40,19 +40,19 @@ inOrder (p ∷ h) = inOrder h ++ (p ∷ [])
 
 -- every list is the periods of some history
 record History (w : List Period) : Type 0 where
-  past : List Period
-  is : inOrder past ≡ w
+  latest-first : List Period
+  is : inOrder latest-first ≡ w
 
-earlier : (p : Period) (h : List Period) → (past : List Period) × (inOrder past ≡ p ∷ inOrder h)
+earlier : (p : Period) (h : List Period) → (latest-first : List Period) × (inOrder latest-first ≡ p ∷ inOrder h)
 earlier p [] = (p ∷ [], refl)
 earlier p (q ∷ h) = let e = earlier p h in (q ∷ e .0, ap (λ (w : List Period). w ++ (q ∷ [])) (e .1))
 
 history : (w : List Period) → History w
-history [] = record { past = []; is = refl }
+history [] = record { latest-first = []; is = refl }
 history (p ∷ w) =
     let r = history w in
-    let e = earlier p (r .past) in
-    record { past = e .0; is = e .1 ∙ ap (λ (v : List Period). p ∷ v) (r .is) }
+    let e = earlier p (r .latest-first) in
+    record { latest-first = e .0; is = e .1 ∙ ap (λ (v : List Period). p ∷ v) (r .is) }
 
 -- ---- the root's signals: the clause begins to read in period 1 and goes on ever after
 
@@ -62,11 +62,7 @@ whole (p ∷ h) = some (inOrder (p ∷ h))
 
 module _ (S K : Signal) (first : S ≐ λ p h. isFirst h) (others : K ≐ λ p h. not (S p h)) where
   exclusive : Exclusive S K
-  exclusive = record { never-both = λ p h. rw (others p h) (clash (S p h)) }
-    where
-      clash : (t : Bool) → (t && not t) ≡ false
-      clash true = refl
-      clash false = refl
+  exclusive = record { never-both = λ p h. rw (others p h) (and-not-self (S p h)) }
 
   reads-all : (h : List Period) → thread S K h ≡ whole h
   unfolding thread
@@ -216,4 +212,4 @@ module _ (c : Clause) (r : InRange c) (g : EmptyFree c) (n : records c ≤ maxRe
 
   -- the machine, started fresh, shows after every list of periods what the clause means on it
   pub shows : (w : List Period) → Shows (meaning c w) (afterPeriods (image c) fresh w)
-  shows w = let h = history w in rw (h .is) at (after (h .past) .shown)
+  shows w = let h = history w in rw (h .is) at (after (h .latest-first) .shown)

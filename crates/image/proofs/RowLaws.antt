@@ -2,7 +2,7 @@
 use Prim.Native.Nat.{ℕ, zero, suc, _+_, _<_}
 use native.Mathlib.Nat.{add-zero, zero-add}
 use native.Mathlib.Omega.{arith}
-use mathlib.Core.Bool.{Bool, true, false, _&&_, and-eq-true-iff}
+use mathlib.Core.Bool.{Bool, true, false}
 use mathlib.Core.List.{List, [], _∷_}
 use mathlib.Core.Path.{_≡_, refl, sym, subst, _∙_}
 use borrow.Author.Tests.{ltb-true, ltb-false}
@@ -13,6 +13,7 @@ use Rattle.periods.specs.Periods.{Period}
 use Rattle.layout.specs.Rows.{Row, never, initial, attempt, negation, conjunction, disjunction, previous, namesRows}
 use Rattle.machine.specs.Machine.{value, newValues}
 use Rattle.machine.proofs.Machine.{length-newValues}
+use Rattle.machine.proofs.Computing.{value-by}
 use Rattle.image.proofs.Signals.{Signal, isFirst, rowSignal, _≐_, Obeys}
 
 -- the values of the rows in the last period of a history, the latest period first; none where there is no period
@@ -34,10 +35,10 @@ module _ (first : Bool) (p : Period) (old : List Bool) (rows : List Row) where
   new n = newValues first p old rows n
 
   -- row x has the value that the rows below it give, however many are computed after it
-  settled : (n x : ℕ) → x < n → getD (new n) x false ≡ value first p old (new x) (getD rows x never)
+  row-stays : (n x : ℕ) → x < n → getD (new n) x false ≡ value first p old (new x) (getD rows x never)
   unfolding newValues
-  settled zero x i = absurd (omega arith)
-  settled (suc n) x i = go (ltb x n) refl (settled n x)
+  row-stays zero x i = absurd (omega arith)
+  row-stays (suc n) x i = go (ltb x n) refl (row-stays n x)
     where
       last : getD (new (suc n)) n false ≡ value first p old (new n) (getD rows n never)
       last = getD-at (new n) (value first p old (new n) (getD rows n never)) [] false n (length-newValues first p old rows n)
@@ -53,22 +54,8 @@ module _ (first : Bool) (p : Period) (old : List Bool) (rows : List Row) where
           subst (λ (k : ℕ). getD (new (suc n)) k false ≡ value first p old (new k) (getD rows k never)) q last
 
   -- so row k has the same value by the rows below it as by all n
-  module _ (k n : ℕ) (i : k < n) where
-    lower : (x : ℕ) → ltb x k ≡ true → getD (new k) x false ≡ getD (new n) x false
-    lower x e = let j = ltb-true x k e in settled k x j ∙ sym (settled n x (omega arith))
-
-    both-lower : (x y : ℕ) → (ltb x k && ltb y k) ≡ true
-        → (getD (new k) x false ≡ getD (new n) x false) × (getD (new k) y false ≡ getD (new n) y false)
-    both-lower x y e = let b = and-eq-true-iff (ltb x k) (ltb y k) .0 e in (lower x (b .0), lower y (b .1))
-
-    by-all : (r : Row) → namesRows k n r ≡ true → value first p old (new k) r ≡ value first p old (new n) r
-    by-all never g = refl
-    by-all initial g = refl
-    by-all (attempt q a) g = refl
-    by-all (negation x) g = rw (lower x g)
-    by-all (conjunction x y) g = let b = both-lower x y g in rw (b .0, b .1)
-    by-all (disjunction x y) g = let b = both-lower x y g in rw (b .0, b .1)
-    by-all (previous x) g = refl
+  by-all : (k n : ℕ) → k < n → (r : Row) → namesRows k n r ≡ true → value first p old (new k) r ≡ value first p old (new n) r
+  by-all k n i r = value-by first p old (new k) (new n) k n (λ x j. row-stays k x j ∙ sym (row-stays n x (omega arith))) r
 
 -- ---- the rows of an image
 
@@ -88,7 +75,7 @@ module _ (rows : List Row) where
   obeys-row : NamesRows rows → (k : ℕ) → k < length rows → signal rows k ≐ rowSignal (signal rows) (getD rows k never)
   unfolding values
   obeys-row g k i p h =
-      settled (isFirst h) p (values rows h) rows (length rows) k i
+      row-stays (isFirst h) p (values rows h) rows (length rows) k i
       ∙ by-all (isFirst h) p (values rows h) rows k (length rows) i (getD rows k never) (g k i)
       ∙ row-value (getD rows k never) p h
 

@@ -17,7 +17,7 @@ use Rattle.contract.proofs.Expressions.{member-iff, begins-iff}
 use Rattle.contract.proofs.Readings.{accepted-iff, rejected-iff}
 use Rattle.image.proofs.Threads.{is, unlessPast}
 use Rattle.image.proofs.Reports.{acceptedAt}
-use Rattle.image.proofs.Expressions.{heldBy, begunBy}
+use Rattle.image.proofs.Expressions.{heldBy, beginsBy}
 
 abbrev pub isPending : Reading → Bool
 isPending pending = true
@@ -25,7 +25,7 @@ isPending (accepted k) = false
 isPending (rejected k) = false
 
 -- what n periods show, and what the two tests tell of them; of what was accepted before its last period they tell nothing
-pub data Tested (n : ℕ) : Reading → (held begun : Bool) → Type 0 where
+pub data Tested (n : ℕ) : Reading → (held begins : Bool) → Type 0 where
   goes-on : Tested n pending false true
   accepted-last : Tested n (accepted n) true true
   accepted-before : {k : ℕ} → k < n → Tested n (accepted k) false false
@@ -55,7 +55,7 @@ still-pending n (rejected k) m b h = absurd (false≢true h)
 module _ (e : Expression) where
   -- the tests of a list that shows r, read as long as it is not accepted
   abbrev pub TestedAs : Reading → List Period → Type 0
-  TestedAs r w = let read = unlessPast (acceptedAt r) w in Tested (length w) r (heldBy e read) (begunBy e read)
+  TestedAs r w = let read = unlessPast (acceptedAt r) w in Tested (length w) r (heldBy e read) (beginsBy e read)
 
   -- what a list shows last is what its tests tell
   last-shown : (w : List Period) → (r : Reading) × (reading e w ≡ first r (judged (member e w) (begins e w) (length w)))

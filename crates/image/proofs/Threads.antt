@@ -21,7 +21,7 @@ use Rattle.image.proofs.Signals.{Signal, at, UntilDone, HandsOver}
 
 -- w has been read up to now by a thread that S began and K kept going ever since
 pub data Active (S K : Signal) : (h w : List Period) → Type 0 where
-  begun : {p : Period} {h : List Period} → S p h ≡ true → Active S K (p ∷ h) (p ∷ [])
+  started : {p : Period} {h : List Period} → S p h ≡ true → Active S K (p ∷ h) (p ∷ [])
   kept : {p : Period} {h w : List Period} → K p h ≡ true → Active S K h w → Active S K (p ∷ h) (w ++ (p ∷ []))
 
 -- never both
@@ -65,7 +65,7 @@ only-kept false k e f = refl
 
 active-thread : {S K : Signal} → Exclusive S K → {h w : List Period} → Active S K h w → thread S K h ≡ some w
 unfolding thread
-active-thread x (begun s) = rw s
+active-thread x (started s) = rw s
 active-thread {S} {K} x (kept {p = p} {h = h} k a) = rw (only-kept (S p h) (K p h) (x .never-both p h) k, k, active-thread x a)
 
 thread-is-active : (S K : Signal) (h w : List Period) → thread S K h ≡ some w → Active S K h w
@@ -76,7 +76,7 @@ thread-is-active S K (p ∷ h) w e = go (S p h) refl (K p h) refl (thread S K h)
     go : (s : Bool) → S p h ≡ s → (k : Bool) → K p h ≡ k
         → (t : Option (List Period)) → ((v : List Period) → t ≡ some v → Active S K h v)
         → cond s (some (p ∷ [])) (cond k (extend p t) none) ≡ some w → Active S K (p ∷ h) w
-    go true s k i t a e = subst (Active S K (p ∷ h)) (Option·some-injective (p ∷ []) w e) (begun s)
+    go true s k i t a e = subst (Active S K (p ∷ h)) (Option·some-injective (p ∷ []) w e) (started s)
     go false s false i t a e = absurd (Option·none-ne-some w e)
     go false s true i none a e = absurd (Option·none-ne-some w e)
     go false s true i (some v) a e = subst (Active S K (p ∷ h)) (Option·some-injective (v ++ (p ∷ [])) w e) (kept i (a v refl))
@@ -100,6 +100,10 @@ pub record Once (f : List Period → Option ℕ) : Type 0 where
 abbrev pub is : Option ℕ → ℕ → Bool
 is none n = false
 is (some k) n = eqb k n
+
+abbrev pub isSome : Option ℕ → Bool
+isSome none = false
+isSome (some k) = true
 
 -- it happens in the last period of what has been read
 abbrev pub happens : (List Period → Option ℕ) → Option (List Period) → Bool

@@ -21,7 +21,7 @@ use Rattle.contract.proofs.Readings.{readingBy, reading-take}
 use Rattle.image.proofs.Signals.{Signal, at, _≐_, isMet, isBroken, Says, HandsOver}
 use Rattle.image.proofs.Threads.{Exclusive, until-fired, extend, thread, happens, length-snoc, cut, cut-off}
 use Rattle.image.proofs.Reports.{unbroken, acceptedAt, once-accepted, now, Behaves}
-use Rattle.image.proofs.Expressions.{heldBy, begunBy, ReadsAlone}
+use Rattle.image.proofs.Expressions.{heldBy, beginsBy, ReadsAlone}
 use Rattle.image.proofs.Tested.{isPending, Tested, goes-on, accepted-last, accepted-before, rejected-by-now, accepted-now, pending-now, tested}
 use Rattle.image.proofs.Handing.{Hands, keeps, passes, nowBy, handing}
 
@@ -58,13 +58,13 @@ module _ (e : Expression) where
   accepted-by none = refl
   accepted-by (some w) = accepted-now (tested e w)
 
-  pending-by : (t : Option (List Period)) → (not (heldBy e (cut acceptance t)) && begunBy e (cut acceptance t)) ≡ pendingBy t
+  pending-by : (t : Option (List Period)) → (not (heldBy e (cut acceptance t)) && beginsBy e (cut acceptance t)) ≡ pendingBy t
   pending-by none = refl
   pending-by (some w) = pending-now (tested e w)
 
   -- one period more
   rejected-next : (w : List Period) (p : Period) → let t = some (w ++ (p ∷ [])) in
-      (isPending (reading e w) && not (begunBy e (cut acceptance t))) ≡ rejectedBy t
+      (isPending (reading e w) && not (beginsBy e (cut acceptance t))) ≡ rejectedBy t
   rejected-next w p =
       let before : reading e w ≡ readingBy (length w) (reading e (w ++ (p ∷ []))) =
       rw (take-append-seam w (p ∷ [])) at (reading-take e (w ++ (p ∷ [])) (length w)) in
@@ -76,7 +76,7 @@ module _ (e : Expression) where
 
   -- by whether reading begins with the period, and whether it goes on
   rejected-by : ¬ Holds e [] → (p : Period) (s k : Bool) (t : Option (List Period)) → let u = cond s (some (p ∷ [])) (cond k (extend p t) none) in
-      ((s || (k && pendingBy t)) && not (begunBy e (cut acceptance u))) ≡ rejectedBy u
+      ((s || (k && pendingBy t)) && not (beginsBy e (cut acceptance u))) ≡ rejectedBy u
   rejected-by g p true k t = rw (pending-first g) at (rejected-next [] p)
   rejected-by g p false true none = refl
   rejected-by g p false true (some w) = rejected-next w p

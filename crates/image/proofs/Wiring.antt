@@ -189,8 +189,8 @@ module _ (v : ℕ → Signal) (never-is : v neverRow ≐ λ p h. false) where
       hand-over o λ hands o₁.
       wire-clause c o₁ λ part o₂.
       wire-expression e o₂ λ reads o₃.
-      let (was, (on, (reading, (begun, (ended, (rejects, (sat, o′))))))) = o₃ .signals in
-      k (wired-when reads hands part (λ p h. reading p h ∙ rw (on p h, was p h)) (λ p h. sat p h ∙ rw (rejects p h, ended p h, begun p h)))
+      let (was, (on, (reading, (either, (ended, (rejects, (sat, o′))))))) = o₃ .signals in
+      k (wired-when reads hands part (λ p h. reading p h ∙ rw (on p h, was p h)) (λ p h. sat p h ∙ rw (rejects p h, ended p h, either p h)))
       (record { signals = o′ })
   wire-clause (until c e) o k =
       until-done o λ stops o₁.

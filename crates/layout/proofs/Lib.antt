@@ -1,3 +1,4 @@
 -- The laws of rows and images.
 pub mod Rows
 pub mod Images
+pub mod ImageBytes

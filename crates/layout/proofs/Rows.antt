@@ -11,7 +11,7 @@ use mathlib.Core.Option.{Option, none, some}
 use lib.Dec.{eqb, ltb, leb, lit<}
 use lib.ListN.{length, take, drop, getD}
 use lib.Seq.{getD-drop, drop-drop, drop-at, drop-cons, take-add}
-use borrow.Author.Tests.{ne-eqb, lt-ltb, le-leb, lt-leb, eqb-true}
+use borrow.Author.Tests.{ne-eqb, lt-ltb, le-leb, lt-leb, eqb-true, ltb-true}
 use Rattle.records.specs.Fields.{AllBytes, bytes, field}
 use Rattle.records.specs.Marks.{rowMark, marked}
 use Rattle.records.proofs.Numbers.{lt-or-le}
@@ -34,10 +34,6 @@ other-kind j x y h =
 -- two kinds in a row
 one-of-two : (a j : ℕ) → a ≤ j → j < 2 + a → (j ≡ a) ⊎ (j ≡ suc a)
 one-of-two a j h i = ⊎-elim (λ l. inl (omega arith)) (λ l. inr (omega arith)) (lt-or-le j (suc a))
-
--- the next kind, past one that it is not
-pub past : {a j : ℕ} → a ≤ j → (j ≡ a → ⊥) → suc a ≤ j
-past h n = omega arith
 
 module _ (k n : ℕ) where
   good-cond : (t : Bool) (r : Row) → goodRow k n (cond t (some r) none) ≡ (t && namesRows k n r)
@@ -80,6 +76,22 @@ module _ (k n : ℕ) where
     pub good-other : (j : ℕ) → 6 < j → goodRow k n (rowOf j x y) ≡ false
     good-other j h = rw (other-kind j x y h)
 
+-- ---- the rows that a row names
+
+pub both-below : (n x y : ℕ) → (ltb x n && ltb y n) ≡ true → (x < n) × (y < n)
+both-below n x y h =
+    let b = and-eq-true-iff (ltb x n) (ltb y n) .0 h in
+    (ltb-true x n (b .0), ltb-true y n (b .1))
+
+pub names-any : (k n : ℕ) (r : Row) → k ≤ n → namesRows k n r ≡ true → namesRows n n r ≡ true
+names-any k n never h e = refl
+names-any k n initial h e = refl
+names-any k n (attempt p a) h e = refl
+names-any k n (negation x) h e = let i : x < k = ltb-true x k e in lt-ltb x n (omega arith)
+names-any k n (conjunction x y) h e = let b = both-below k x y e in rw (lt-ltb x n (omega arith)) (lt-ltb y n (omega arith))
+names-any k n (disjunction x y) h e = let b = both-below k x y e in rw (lt-ltb x n (omega arith)) (lt-ltb y n (omega arith))
+names-any k n (previous x) h e = e
+
 -- ---- the row of a kind and two fields
 
 pub record HasFields (k x y : ℕ) (r : Row) : Type 0 where
@@ -87,7 +99,7 @@ pub record HasFields (k x y : ℕ) (r : Row) : Type 0 where
   pub is-x : x ≡ fieldX r
   pub is-y : y ≡ fieldY r
 
-cond-some : (t : Bool) (o : Option Row) (r : Row) → cond t o none ≡ some r → (t ≡ true) × (o ≡ some r)
+pub cond-some : (t : Bool) (o : Option Row) (r : Row) → cond t o none ≡ some r → (t ≡ true) × (o ≡ some r)
 cond-some true o r e = (refl, e)
 cond-some false o r e = let z : _≡_ {A = ℕ} 0 1 = cc in absurd (omega arith)
 
@@ -175,7 +187,7 @@ kind-small (conjunction x y) = lit< tt
 kind-small (disjunction x y) = lit< tt
 kind-small (previous x) = lit< tt
 
-pub length-encode : (r : Row) → length (encode r) ≡ 8
+pub length-encode : (r : Row) → length (encode r) ≡ rowBytes
 unfolding encode bytes
 length-encode r = refl
 
@@ -208,9 +220,9 @@ decode-encode front r rest at f e = rw (decode-drop, drop-at front (encode r ++ 
 next : (l : List ℕ) (i : ℕ) → i < length l → drop i l ≡ getD l i 0 ∷ drop (i + 1) l
 next l i h = rw add-one (drop-cons l i 0 h)
 
-eight : (l : List ℕ) (at : ℕ) → at + 8 ≤ length l
-    → take 8 (drop at l) ≡ take 2 (drop at l) ++ (getD l (at + 2) 0 ∷ getD l (at + 3) 0 ∷ (take 2 (drop (at + 4) l) ++ take 2 (drop (at + 6) l)))
-eight l at h =
+row-bytes : (l : List ℕ) (at : ℕ) → at + rowBytes ≤ length l
+    → take rowBytes (drop at l) ≡ take 2 (drop at l) ++ (getD l (at + 2) 0 ∷ getD l (at + 3) 0 ∷ (take 2 (drop (at + 4) l) ++ take 2 (drop (at + 6) l)))
+row-bytes l at h =
     rw (take-add 2 6 (drop at l), drop-drop 2 at l, next l (at + 2) (omega arith), add-assoc at 2 1, next l (at + 3) (omega arith), add-assoc at 3 1, take-add 2 2 (drop (at + 4) l), drop-drop 2 (at + 4) l, add-assoc at 4 2)
 
 pub encode-decode : (l : List ℕ) (at : ℕ) (r : Row) → AllBytes l → at + rowBytes ≤ length l → decode l at ≡ some r → take rowBytes (drop at l) ≡ encode r
@@ -219,4 +231,4 @@ encode-decode l at r a h e =
     let w = cond-some (marked l at rowMark && eqb (getD l (at + 3) 0) 0) (rowOf (getD l (at + 2) 0) (field l (at + 4) 2) (field l (at + 6) 2)) r e in
     let m = and-eq-true-iff (marked l at rowMark) (eqb (getD l (at + 3) 0) 0) .0 (w .0) in
     let g = rowOf-some (getD l (at + 2) 0) (field l (at + 4) 2) (field l (at + 6) 2) r (w .1) in
-    rw (eight l at h, of-marked l at 0x54 0x52 (omega arith) (m .0), g .is-kind, eqb-true (getD l (at + 3) 0) 0 (m .1), ← bytes-field l (at + 4) 2 a (omega arith), ← bytes-field l (at + 6) 2 a (omega arith), g .is-x, g .is-y)
+    rw (row-bytes l at h, of-marked l at _ _ (omega arith) (m .0), g .is-kind, eqb-true (getD l (at + 3) 0) 0 (m .1), ← bytes-field l (at + 4) 2 a (omega arith), ← bytes-field l (at + 6) 2 a (omega arith), g .is-x, g .is-y)

@@ -8,13 +8,14 @@ use mathlib.Core.Path.{_≡_, refl, ap, _∙_}
 use borrow.Author.Tests.{ltb-true, le-leb}
 use mir.Val.{boolByte}
 use lib.Bits.{bitAnd, bitOr, and-mask}
-use lib.Dec.{ltb, leb, lit<}
+use lib.Dec.{leb, lit<}
 use lib.ListN.{length, getD, set, List·getD-map}
 use Rattle.periods.specs.Periods.{Period}
 use Rattle.layout.specs.Rows.{Row, never, initial, attempt, negation, conjunction, disjunction, previous, namesRows}
+use Rattle.layout.proofs.Rows.{both-below}
 use Rattle.states.specs.States.{allAtMost}
-use Rattle.states.proofs.States.{allAtMost-at}
-use Rattle.machine.specs.Machine.{byteOf, isTrue, value, newValues, outcomeOf, blameOf}
+use Rattle.states.proofs.Values.{allAtMost-at}
+use Rattle.machine.specs.Machine.{byteOf, isTrue, value, newValues}
 use Rattle.machine.specs.Computing.{firstBits, valuesIn, packed, oldIn}
 use Rattle.machine.proofs.Machine.{byteOf-le, isTrue-byteOf, length-newValues}
 
@@ -130,13 +131,8 @@ over-all (w ∷ vs) (v ∷ new) h = rw (← first-byte w, over-all vs new (omega
 
 -- ---- the rows computed in order
 
-pub both-below : (n x y : ℕ) → (ltb x n && ltb y n) ≡ true → (x < n) × (y < n)
-both-below n x y h =
-    let b = and-eq-true-iff (ltb x n) (ltb y n) .0 h in
-    (ltb-true x n (b .0), ltb-true y n (b .1))
-
 -- a row's value goes by the values of the rows that it names
-value-by : (first : Bool) (p : Period) (old new new′ : List Bool) (k n : ℕ) → ((x : ℕ) → x < k → getD new x false ≡ getD new′ x false)
+pub value-by : (first : Bool) (p : Period) (old new new′ : List Bool) (k n : ℕ) → ((x : ℕ) → x < k → getD new x false ≡ getD new′ x false)
     → (r : Row) → namesRows k n r ≡ true → value first p old new r ≡ value first p old new′ r
 value-by first p old new new′ k n h never g = refl
 value-by first p old new new′ k n h initial g = refl
@@ -185,54 +181,3 @@ module _ (first : Bool) (p : Period) (vs : List ℕ) (rows : List Row) where
 
   pub soFar-all : soFar (length vs) ≡ packed (valuesIn vs) (newValues first p (valuesIn vs) rows (length vs))
   soFar-all = over-all vs (newValues first p (valuesIn vs) rows (length vs)) (length-newValues first p (valuesIn vs) rows (length vs))
-
--- ---- a function put to a list's first k elements, one after the other
-
-abbrev pub mapFirst : (ℕ → ℕ) → ℕ → List ℕ → List ℕ
-mapFirst f zero d = d
-mapFirst f (suc k) [] = []
-mapFirst f (suc k) (v ∷ d) = f v ∷ mapFirst f k d
-
-module _ (f : ℕ → ℕ) where
-  pub mapFirst-next : (k : ℕ) (d : List ℕ) → set (mapFirst f k d) k (f (getD (mapFirst f k d) k 0)) ≡ mapFirst f (suc k) d
-  mapFirst-next zero [] = refl
-  mapFirst-next zero (v ∷ d) = refl
-  mapFirst-next (suc k) [] = refl
-  mapFirst-next (suc k) (v ∷ d) = ap (λ (l : List ℕ). f v ∷ l) (mapFirst-next k d)
-
-  pub mapFirst-all : (d : List ℕ) → mapFirst f (length d) d ≡ map f d
-  mapFirst-all [] = refl
-  mapFirst-all (v ∷ d) = ap (λ (l : List ℕ). f v ∷ l) (mapFirst-all d)
-
--- ---- what S, V1 and V2 decide
-
-pub outcome-sat : (s : Bool) → boolByte s ≡ outcomeOf s false false
-outcome-sat true = refl
-outcome-sat false = refl
-
-pub blame-of : (a b : Bool) → boolByte a + 2 * boolByte b ≡ blameOf a b
-blame-of true true = refl
-blame-of true false = refl
-blame-of false true = refl
-blame-of false false = refl
-
-pub blame-small : (a b : Bool) → boolByte a + 2 * boolByte b ≤ 3
-blame-small true true = omega arith
-blame-small true false = omega arith
-blame-small false true = omega arith
-blame-small false false = omega arith
-
--- a decision period is written where the outcome is not 0
-pub decision-none : (s a b : Bool) (n : ℕ) → outcomeOf s a b ≡ 0 → cond (s || a || b) n 0 ≡ 0
-decision-none true true b n e = absurd (omega arith)
-decision-none true false true n e = absurd (omega arith)
-decision-none true false false n e = absurd (omega arith)
-decision-none false true b n e = absurd (omega arith)
-decision-none false false true n e = absurd (omega arith)
-decision-none false false false n e = refl
-
-pub decision-some : (s a b : Bool) (n : ℕ) → ¬ (outcomeOf s a b ≡ 0) → cond (s || a || b) n 0 ≡ n
-decision-some true a b n e = refl
-decision-some false true b n e = refl
-decision-some false false true n e = refl
-decision-some false false false n e = absurd (e refl)

@@ -2,5 +2,6 @@
 pub mod RowKinds
 pub mod Machine
 pub mod Computing
-pub mod Settling
+pub mod Deciding
+pub mod Trimming
 pub mod Steps

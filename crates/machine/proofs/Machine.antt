@@ -12,8 +12,10 @@ use lib.ListN.{length, getD, length-append, length-map, List·getD-map}
 use Rattle.periods.specs.Periods.{Period}
 use Rattle.layout.specs.Rows.{Row}
 use Rattle.layout.specs.Images.{Image}
-use Rattle.states.specs.States.{State}
-use Rattle.states.proofs.States.{SoundHead, Sound}
+use Rattle.states.specs.States.{State, allAtMost}
+use Rattle.states.specs.Premises.{SoundHead, undecided, satisfied, violated}
+use Rattle.states.proofs.Values.{at-allAtMost}
+use Rattle.states.proofs.Soundness.{Sound, values≤}
 use Rattle.machine.specs.Machine.{byteOf, isTrue, newValues, valuesAfter, outcomeOf, blameOf, computed, counted, afterPeriod, afterPeriods}
 
 -- ---- row values
@@ -57,45 +59,27 @@ module _ (m : Image) (p : Period) (s : State) where
 
 -- ---- soundness is kept
 
-violated-head : (b n : ℕ) → 1 ≤ b → b ≤ 3 → SoundHead 2 b (n + 1) (n + 1)
-violated-head b n h k =
-    record {
-      outcome≤ = omega arith;
-      blame≤ = omega arith;
-      blame≥ = omega arith;
-      decision≥ = omega arith;
-      undecided = λ e. absurd (omega arith);
-      decision≤ = omega arith;
-    }
+violated-now : (b n : ℕ) → 1 ≤ b → b ≤ 3 → SoundHead 2 b (n + 1) (n + 1)
+violated-now b n h k = violated {periods = n + 1} {decision = n + 1} h k (omega arith) (omega arith)
 
 decided-head : (sat v1 v2 : Bool) (n : ℕ) → SoundHead (outcomeOf sat v1 v2) (blameOf v1 v2) (n + 1) (cond (sat || v1 || v2) (n + 1) 0)
-decided-head true true true n = violated-head 3 n (omega arith) (omega arith)
-decided-head true true false n = violated-head 1 n (omega arith) (omega arith)
-decided-head true false true n = violated-head 2 n (omega arith) (omega arith)
-decided-head true false false n =
-    record {
-      outcome≤ = omega arith;
-      blame≤ = omega arith;
-      blame≥ = omega arith;
-      decision≥ = omega arith;
-      undecided = λ e. absurd (omega arith);
-      decision≤ = omega arith;
-    }
-decided-head false true true n = violated-head 3 n (omega arith) (omega arith)
-decided-head false true false n = violated-head 1 n (omega arith) (omega arith)
-decided-head false false true n = violated-head 2 n (omega arith) (omega arith)
-decided-head false false false n =
-    record {
-      outcome≤ = omega arith;
-      blame≤ = omega arith;
-      blame≥ = omega arith;
-      decision≥ = omega arith;
-      undecided = λ e. refl;
-      decision≤ = omega arith;
-    }
+decided-head true true true n = violated-now 3 n (omega arith) (omega arith)
+decided-head true true false n = violated-now 1 n (omega arith) (omega arith)
+decided-head true false true n = violated-now 2 n (omega arith) (omega arith)
+decided-head true false false n = satisfied {periods = n + 1} {decision = n + 1} (omega arith) (omega arith)
+decided-head false true true n = violated-now 3 n (omega arith) (omega arith)
+decided-head false true false n = violated-now 1 n (omega arith) (omega arith)
+decided-head false false true n = violated-now 2 n (omega arith) (omega arith)
+decided-head false false false n = undecided
 
-byte-values : (new : List Bool) (i : ℕ) → getD (map byteOf new) i 0 ≤ 1
-byte-values new i = rw (List·getD-map byteOf new i false) (byteOf-le (getD new i false))
+counted-head : {o b p d : ℕ} → SoundHead o b p d → SoundHead o b (p + 1) d
+counted-head undecided = undecided
+counted-head {p = p} (satisfied h k) = satisfied {periods = p + 1} h (omega arith)
+counted-head {p = p} (violated g h i k) = violated {periods = p + 1} g h i (omega arith)
+
+byte-values : (new : List Bool) → allAtMost 1 (map byteOf new) ≡ true
+byte-values new =
+    at-allAtMost 1 (map byteOf new) (λ i. rw (List·getD-map byteOf new i false) (byteOf-le (getD new i false)))
 
 sound-decided : (m : Image) (new : List Bool) (s : State) → Sound (length new) (computed m new s)
 unfolding computed
@@ -103,26 +87,13 @@ sound-decided m new s =
     record {
       long = length-map new byteOf;
       head = decided-head (getD new (m .S) false) (getD new (m .V1) false) (getD new (m .V2) false) (s .periods);
-      values≤ = byte-values new;
-      zeros = λ e. absurd (omega arith);
+      values-sound = rw (ne-eqb (s .periods + 1) 0 (omega arith)) (byte-values new);
     }
 
 sound-counted : {n : ℕ} (s : State) → Sound n s → Sound n (counted s)
 unfolding counted
-sound-counted s h =
-    record {
-      long = h .long;
-      head = record {
-        outcome≤ = h .head .outcome≤;
-        blame≤ = h .head .blame≤;
-        blame≥ = h .head .blame≥;
-        decision≥ = h .head .decision≥;
-        undecided = h .head .undecided;
-        decision≤ = omega arith;
-      };
-      values≤ = h .values≤;
-      zeros = λ e. absurd (omega arith);
-    }
+sound-counted {n} s h =
+    record { long = h .long; head = counted-head (h .head); values-sound = rw (ne-eqb (s .periods + 1) 0 (omega arith)) (values≤ n s h) }
 
 -- a period leaves a sound state with as many row values
 pub sound-after : (m : Image) (p : Period) (s : State) → Sound (length (m .rows)) s → Sound (length (m .rows)) (afterPeriod m p s)

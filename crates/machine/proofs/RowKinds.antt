@@ -1,33 +1,26 @@
 -- The rows that a kind and its fields make, and how their values are read from row values where the first k rows have new ones.
-use Prim.Native.Nat.{ℕ, zero, suc, _+_, _-_, _*_, _/_, _%_, _≤_, _<_}
+use Prim.Native.Nat.{ℕ, zero, suc, _-_, _/_, _%_, _≤_, _<_}
 use native.Mathlib.Omega.{arith}
 use mathlib.Core.Bool.{Bool, true, false, not, _&&_, cond, false≢true}
 use mathlib.Core.List.{List, [], _∷_, map}
 use mathlib.Core.Option.{Option, none, some, Option·getD}
 use mathlib.Core.Logic.{⊎-elim}
 use mathlib.Core.Path.{_≡_, refl, sym, ap, _∙_}
-use borrow.Author.Tests.{lt-ltb, ltb-true, eqb-true}
+use borrow.Author.Tests.{ltb-true, eqb-true}
 use lib.Bits.{bitAnd, bitOr}
 use lib.Dec.{eqb, ltb}
 use lib.ListN.{length, getD, List·getD-map}
 use mir.Val.{boolByte}
-use Rattle.records.specs.Fields.{field}
-use Rattle.records.specs.Marks.{rowMark, marked}
-use Rattle.records.specs.declared.Test.the-variants.{Passed}
 use Rattle.records.proofs.Numbers.{lt-or-le}
 use Rattle.periods.specs.Limits.{actions}
 use Rattle.periods.specs.Periods.{Period, Party, party1, party2, number, tries}
-use Rattle.layout.specs.Rows.{Row, never, initial, attempt, negation, conjunction, disjunction, previous, attemptOf, rowOf, decode, namesRows, goodRow}
-use Rattle.layout.specs.Limits.{rowBytes}
-use Rattle.layout.specs.Images.{rowCount, imageOf}
-use Rattle.layout.specs.Refusals.{imageTest}
+use Rattle.layout.specs.Rows.{Row, never, initial, attempt, negation, conjunction, disjunction, previous, attemptOf, rowOf, namesRows, goodRow}
 use Rattle.layout.proofs.Rows.{good-other}
-use Rattle.layout.proofs.Images.{passed-good, good-row}
 use Rattle.states.specs.States.{allAtMost}
-use Rattle.states.proofs.States.{allAtMost-at}
+use Rattle.states.proofs.Values.{allAtMost-at}
 use Rattle.machine.specs.Machine.{byteOf, isTrue, value}
 use Rattle.machine.specs.Computing.{firstBits, valuesIn, oldIn, KindRow}
-use Rattle.machine.proofs.Computing.{byteOf-bool, byteOf-not, byte-of, first-bit, first-byte, first-and, first-or, both-below}
+use Rattle.machine.proofs.Computing.{byteOf-bool, byteOf-not, byte-of, first-bit, first-byte, first-and, first-or}
 
 -- r is what bytes hold, and names rows below k, or below n in kind 6
 pub record Is (k n : ℕ) (o : Option Row) (r : Row) : Type 0 where
@@ -164,64 +157,3 @@ module _ (k : ℕ) (values : List ℕ) (x y : ℕ) (first : Bool) (p : Period) w
   value-6 h r e =
       e ∙ rw (row-6 (length values) (length values) x y (h .good) .row)
       (fresh-value first (getD (oldIn k values) x false) (λ q. h .bytes-of-two .fresh q x))
-
--- ---- the rows of a good image
-
-pub names-any : (k n : ℕ) (r : Row) → k ≤ n → namesRows k n r ≡ true → namesRows n n r ≡ true
-names-any k n never h e = refl
-names-any k n initial h e = refl
-names-any k n (attempt p a) h e = refl
-names-any k n (negation x) h e = let i : x < k = ltb-true x k e in lt-ltb x n (omega arith)
-names-any k n (conjunction x y) h e =
-    let b = both-below k x y e in
-    let i : x < n = omega arith in
-    let j : y < n = omega arith in
-    rw (lt-ltb x n i) (lt-ltb y n j)
-names-any k n (disjunction x y) h e =
-    let b = both-below k x y e in
-    let i : x < n = omega arith in
-    let j : y < n = omega arith in
-    rw (lt-ltb x n i) (lt-ltb y n j)
-names-any k n (previous x) h e = e
-
-decoded : (t : Bool) (o : Option Row) (r : Row) → cond t o none ≡ some r → o ≡ some r
-decoded true o r e = e
-decoded false o r e = cc
-
-module _ (l : List ℕ) (h : imageTest l ≡ Passed) (k : ℕ) (i : k < rowCount l) where
-  pub row-fits : rowBytes * k + rowBytes ≤ length l
-  row-fits = let g = passed-good l h in omega arith
-
-  -- what the bytes of row k hold
-  pub row-held : rowOf (getD l (rowBytes * k + 2) 0) (field l (rowBytes * k + 4) 2) (field l (rowBytes * k + 6) 2)
-      ≡ some (getD (imageOf l .rows) k never)
-  unfolding decode
-  row-held =
-      let at = rowBytes * k in
-      decoded (marked l at rowMark && eqb (getD l (at + 3) 0) 0) (rowOf (getD l (at + 2) 0) (field l (at + 4) 2) (field l (at + 6) 2))
-      (getD (imageOf l .rows) k never) (good-row l (passed-good l h) k i .is)
-
-  pub row-good : goodRow (rowCount l) (rowCount l)
-      (rowOf (getD l (rowBytes * k + 2) 0) (field l (rowBytes * k + 4) 2) (field l (rowBytes * k + 6) 2)) ≡ true
-  row-good = rw row-held (names-any k (rowCount l) (getD (imageOf l .rows) k never) (omega arith) (good-row l (passed-good l h) k i .names))
-
--- ---- the end record of a good image, which is its last eight bytes
-
-module _ (l : List ℕ) (h : imageTest l ≡ Passed) where
-  pub end-fits : rowBytes ≤ length l
-  end-fits = let g = passed-good l h in omega arith
-
-  end-at : length l - rowBytes ≡ rowBytes * rowCount l
-  end-at = let g = passed-good l h in omega arith
-
-  pub end-S : field l (length l - rowBytes + 2) 2 ≡ imageOf l .S
-  unfolding imageOf
-  end-S = rw end-at
-
-  pub end-V1 : field l (length l - rowBytes + 4) 2 ≡ imageOf l .V1
-  unfolding imageOf
-  end-V1 = rw end-at
-
-  pub end-V2 : field l (length l - rowBytes + 6) 2 ≡ imageOf l .V2
-  unfolding imageOf
-  end-V2 = rw end-at

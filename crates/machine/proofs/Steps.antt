@@ -1,7 +1,7 @@
 -- What the code of a period leaves in a sound state's bytes is what the row machine says.
 use Prim.Native.Nat.{ℕ, _+_, _-_, _%_, _≤_}
 use native.Mathlib.Omega.{arith}
-use mathlib.Core.Bool.{Bool, true, false, _||_, cond, and-eq-true-iff}
+use mathlib.Core.Bool.{Bool, true, false, _||_, cond}
 use mathlib.Core.List.{List, [], _∷_, _++_, map}
 use mathlib.Core.Path.{_≡_, refl, sym, ap, _∙_}
 use borrow.Rule.Slice.PartMut.{putMid}
@@ -15,14 +15,15 @@ use Rattle.periods.specs.Periods.{Period}
 use Rattle.layout.specs.Images.{Image, rowCount, imageOf}
 use Rattle.layout.proofs.Images.{length-rowsOf}
 use Rattle.states.specs.Limits.{headBytes, maxPeriods}
-use Rattle.states.specs.States.{State, stateOf, stateBytes, allAtMost, sound}
-use Rattle.states.specs.Premises.{soundHead, Answering}
+use Rattle.states.specs.States.{State, stateOf, stateBytes, allAtMost}
+use Rattle.states.specs.Premises.{Answering}
 use Rattle.states.proofs.Refusals.{state-passed}
-use Rattle.states.proofs.States.{Sound, sound-split, stateBytes-stateOf, read-back, sound-passes, part-rest, length-stateBytes}
+use Rattle.states.proofs.Soundness.{Sound, decision≤}
+use Rattle.states.proofs.States.{stateBytes-stateOf, read-back, sound-passes, part-rest, length-stateBytes}
 use Rattle.machine.specs.Machine.{byteOf, isTrue, valuesAfter, outcomeOf, blameOf, computed, counted, afterPeriod, afterPeriods}
-use Rattle.machine.specs.Computing.{firstBits, valuesIn, settled, packed, newBits, RowValues, withDecision, decidedBytes, Working, Advanced}
+use Rattle.machine.specs.Computing.{firstBits, valuesIn, trimmed, packed, newBits, RowValues, withDecision, decidedBytes, Working, Advanced}
 use Rattle.machine.specs.Premises.{Ready}
-use Rattle.machine.proofs.Settling.{length-firstBits, length-settled, put-rest, state-sound, plain, settled-bytes, settled-state}
+use Rattle.machine.proofs.Trimming.{length-firstBits, length-trimmed, put-rest, state-sound, plain, trimmed-bytes, trimmed-state}
 use Rattle.machine.proofs.Computing.{firstBits-packed, packed-small}
 use Rattle.machine.proofs.Machine.{isTrue-byteOf, length-valuesAfter, after-undecided, after-decided, sound-afterPeriods, periods-afterPeriods}
 
@@ -82,10 +83,10 @@ length-valuesIn l = length-map (firstBits l) isTrue ∙ length-firstBits l
 
 module _ (image l : List ℕ) (w : Working image l 1) where
   pub working-long : length l ≡ headBytes + rowCount image
-  working-long = sym (length-settled l) ∙ state-passed (rowCount image) (settled l) (w .ready .sound) .0
+  working-long = sym (length-trimmed l) ∙ state-passed (rowCount image) (trimmed l) (w .ready .sound) .0
 
-  pub working-state : stateOf (settled l) ≡ plain (stateOf l)
-  working-state = settled-state l (rw working-long (omega arith))
+  pub working-state : stateOf (trimmed l) ≡ plain (stateOf l)
+  working-state = trimmed-state l (rw working-long (omega arith))
 
   room : stateOf l .periods + 1 ≤ maxPeriods
   room = rw working-state at (w .ready .room)
@@ -123,14 +124,12 @@ module _ (image l : List ℕ) (w : Working image l 1) where
 
     pub row-values : RowValues image rows (eqb (stateOf l .periods) 0)
     row-values =
-        let s = plain (stateOf l) in
-        let t : sound s ≡ true = rw working-state at (state-passed (rowCount image) (settled l) (w .ready .sound) .1) in
+        let s : Sound (rowCount image) (plain (stateOf l)) = rw working-state at (state-sound (rowCount image) (trimmed l) (w .ready .sound)) in
         record {
           good = w .ready .good;
           long = ap length raised-values ∙ long-values;
           small = rw raised-values small-values;
-          fresh = rw raised-values (and-eq-true-iff (soundHead (s .outcome) (s .blame) (s .periods) (s .decision))
-              (allAtMost (cond (eqb (s .periods) 0) 0 1) (s .values)) .0 (sym (sound-split s) ∙ t) .1);
+          fresh = rw raised-values (s .values-sound);
         }
 
     module _ (a : AllBytes l) (e : n ≡ stateOf l .periods + 1) (p : Period) where
@@ -144,7 +143,7 @@ module _ (image l : List ℕ) (w : Working image l 1) where
       unfolding counted
       period-counted d =
           record {
-            is = rw (working-state, after-decided (imageOf image) p (plain (stateOf l)) d) (ap settled counts ∙ settled-bytes (counted (stateOf l)));
+            is = rw (working-state, after-decided (imageOf image) p (plain (stateOf l)) d) (ap trimmed counts ∙ trimmed-bytes (counted (stateOf l)));
             small = rw raised-rest (w .small);
           }
 
@@ -166,7 +165,7 @@ module _ (image l : List ℕ) (w : Working image l 1) where
           let d : decidedBytes m n (putMid headBytes (length raised - headBytes) raised vs) ≡ stateBytes u =
           rw (put-rest headBytes raised vs, counts, put-values (counted s) vs, e) (put-decided t m new f) in
           record {
-            is = rw (working-state, after-undecided m p (plain s) o) (ap settled d ∙ settled-bytes u ∙ rw f refl);
+            is = rw (working-state, after-undecided m p (plain s) o) (ap trimmed d ∙ trimmed-bytes u ∙ rw f refl);
             small = rw (d, drop-head u, q) (packed-small old new);
           }
 
@@ -175,10 +174,6 @@ module _ (image l : List ℕ) (w : Working image l 1) where
 module _ (image l : List ℕ) (n : ℕ) (h : Ready image l n) where
   pub ready-long : length l ≡ headBytes + rowCount image
   ready-long = state-passed (rowCount image) l (h .sound) .0
-
-  pub ready-room : field l 2 4 + n ≤ maxPeriods
-  unfolding stateOf
-  ready-room = h .room
 
 -- ---- the states that follow
 
@@ -212,7 +207,7 @@ module _ (image l : List ℕ) (n : ℕ) (h : Ready image l n) (w : List Period) 
   later-answering =
       record {
         head = omega (arith, later-long, ready-long image l n h);
-        past = rw later-read (later-sound .head .decision≤);
+        decided-by-now = rw later-read (decision≤ (later-sound .head));
       }
 
 -- the state after one period is read back, and its answer can be given

@@ -26,8 +26,8 @@ unfoldable pub valuesIn : List ℕ → List Bool
 valuesIn l = map isTrue (firstBits l)
 
 -- a state's bytes with the first bits of its rows' bytes alone
-unfoldable pub settled : List ℕ → List ℕ
-settled l = take headBytes l ++ firstBits (drop headBytes l)
+unfoldable pub trimmed : List ℕ → List ℕ
+trimmed l = take headBytes l ++ firstBits (drop headBytes l)
 
 -- the bytes of the rows that have new values
 unfoldable pub packed : (old new : List Bool) → List ℕ
@@ -81,12 +81,12 @@ unfoldable pub decidedBytes : Image → ℕ → List ℕ → List ℕ
 decidedBytes m period l =
     withDecision (isTrue (getD l (headBytes + m .S) 0 % 2)) (isTrue (getD l (headBytes + m .V1) 0 % 2)) (isTrue (getD l (headBytes + m .V2) 0 % 2)) period l
 
--- ready (`Ready`) once it is settled, each row's byte holding two values
+-- ready (`Ready`) once it is trimmed, each row's byte holding two values
 pub record Working (image state : List ℕ) (n : ℕ) : Type 0 where
-  pub ready : Ready image (settled state) n
+  pub ready : Ready image (trimmed state) n
   pub small : allAtMost 3 (drop headBytes state) ≡ true
 
 -- what a period leaves of such a state
 pub record Advanced (image state : List ℕ) (p : Period) (later : List ℕ) : Type 0 where
-  pub is : settled later ≡ stateBytes (afterPeriod (imageOf image) p (stateOf (settled state)))
+  pub is : trimmed later ≡ stateBytes (afterPeriod (imageOf image) p (stateOf (trimmed state)))
   pub small : allAtMost 3 (drop headBytes later) ≡ true

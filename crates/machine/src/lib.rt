@@ -12,7 +12,7 @@ ghost use Rattle.states.specs.Limits.{headBytes};
 ghost use Rattle.states.specs.States.{stateOf, stateBytes, allAtMost};
 ghost use Rattle.machine.specs.Machine.{byteOf, value, outcomeOf, blameOf, afterPeriods};
 ghost use Rattle.machine.specs.Premises.{Ready};
-ghost use Rattle.machine.specs.Computing.{firstBits, valuesIn, settled, packed, oldIn, newBits, KindRow, NextRow, RowValues, HasRows, withDecision, decidedBytes, Working, Advanced};
+ghost use Rattle.machine.specs.Computing.{firstBits, valuesIn, trimmed, packed, oldIn, newBits, KindRow, NextRow, RowValues, HasRows, withDecision, decidedBytes, Working, Advanced};
 use periods::Attempts;
 
 // What row x was in the period before, where the first k rows have new values.
@@ -81,9 +81,9 @@ fn keep_first(values: &mut [u8])
 }
 
 // Leaves each row's value alone in its byte.
-fn settle(state: &mut [u8])
+fn trim(state: &mut [u8])
     requires { ⌜ headBytes ≤ length (now state) ⌝ }
-    ensures { λ _. ⌜ now (state .exit) ≡ settled (now (state .entry)) ⌝ }
+    ensures { λ _. ⌜ now (state .exit) ≡ trimmed (now (state .entry)) ⌝ }
 {
     keep_first(&mut state[states::HEAD_BYTES..]);
 }
@@ -158,5 +158,5 @@ pub fn take_periods(image: &[u8], state: &mut [u8], trace: &[u8], n: usize)
         advance(image, state, periods::read_period(trace, k));
         k += 1;
     }
-    settle(state);
+    trim(state);
 }

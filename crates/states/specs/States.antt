@@ -1,5 +1,5 @@
 -- States, their bytes, and which are sound. Document 01, "Image and row machine", from "State".
-use Prim.Native.Nat.{ℕ, _+_}
+use Prim.Native.Nat.{ℕ}
 use mathlib.Core.Bool.{Bool, true, _&&_, Bool·beq, cond}
 use mathlib.Core.List.{List, [], _∷_, _++_}
 use lib.Dec.{eqb, leb}

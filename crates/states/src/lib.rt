@@ -1,5 +1,7 @@
 // States: their bytes, whether they are sound, and the verdicts that they show. Document 01, "Image and row machine", from "State".
 ghost use mathlib.Core.Path.{_≡_};
+ghost use mathlib.Core.Bool.{true};
+ghost use mathlib.Core.Logic.{_↔_};
 ghost use Prim.Native.Nat.{_^_, _<_, _≤_};
 ghost use lib.ListN.{length};
 ghost use Rattle.records.specs.Verdicts.{verdictNumber};
@@ -7,7 +9,7 @@ ghost use Rattle.states.specs.Limits.{headBytes};
 ghost use Rattle.states.specs.States.{stateOf, allAtMost, sound};
 ghost use Rattle.states.specs.Verdicts.{verdict};
 ghost use Rattle.states.specs.Refusals.{stateTest, countTest};
-ghost use Rattle.states.specs.Premises.{soundHead, Answering};
+ghost use Rattle.states.specs.Premises.{SoundHead, Answering};
 use records::Fault;
 use records::Test;
 
@@ -35,7 +37,7 @@ fn all_at_most(values: &[u8], top: u8) -> bool
 
 // Whether outcome, blame, periods taken and decision period are those of a sound state.
 fn sound_head(outcome: u32, blame: u32, periods: u32, decision: u32) -> bool
-    ensures { λ r. ⌜ r ≡ soundHead outcome blame periods decision ⌝ }
+    ensures { λ r. ⌜ (r ≡ true) ↔ SoundHead outcome blame periods decision ⌝ }
 {
     match outcome {
         0 => blame == 0 && decision == 0,

@@ -4,7 +4,7 @@ use native.Mathlib.Omega.{arith}
 use mathlib.Core.Path.{sym}
 use lib.ListN.{getD}
 use borrow.Author.Needs.{needs}
-use Rattle.image.proofs.Goodness.{⊹-plus}
+use Rattle.image.proofs.Sizes.{⊹-plus}
 use Rattle.emitter.proofs.value_at.Statement.{statement}
 use Rattle.emitter.proofs.value_at.Tie as tie
 

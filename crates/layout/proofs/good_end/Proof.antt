@@ -9,6 +9,7 @@ use lib.Dec.{ltb}
 use Rattle.records.specs.Fields.{field}
 use Rattle.records.proofs.marked.Reads as marked-reads
 use Rattle.records.proofs.get2.Reads as get2-reads
+use Rattle.layout.specs.Limits.{rowBytes}
 use Rattle.layout.specs.Images.{goodEnd}
 use Rattle.layout.proofs.good_end.Statement.{statement}
 use Rattle.layout.proofs.good_end.Tie as tie
@@ -55,7 +56,7 @@ cast-result c = search needs
 -- where the arms of the first two comparisons meet
 first-two : (c : lts.Joined2 (marked-reads.Asked, marked-reads.Learnt, get2-reads.Asked, get2-reads.Learnt) reads.Pre reads.Post)
     → let a = c .before .before .before .before .before .args in
-    c .if2 .if3 ≡ (ltb (c .before .get2 .result) (a .n) && ltb (field (a .image .now) (8 * a .n + 4) 2) (a .n))
+    c .if2 .if3 ≡ (ltb (c .before .get2 .result) (a .n) && ltb (field (a .image .now) (rowBytes * a .n + 4) 2) (a .n))
 first-two c =
     ⊎-elim
     (λ w. rw (lt-ltb _ _ (w .0 .taken), ← w .1 .ensures .is) (w .2))

@@ -1,4 +1,5 @@
 -- `layout::good_row` meets its contract: each arm makes the tests of its kinds.
+use native.Mathlib.Omega.{arith}
 use borrow.Author.Needs.{needs}
 use borrow.Author.Tests.{eq-eqb, ne-eqb, lt-ltb, le-ltb, le-leb, lt-leb}
 use Prim.Native.Nat.{_≤_, _<_}
@@ -7,7 +8,7 @@ use mathlib.Core.Logic.{⊎-elim}
 use mathlib.Core.Bool.{_&&_}
 use lib.Dec.{leb}
 use Rattle.periods.proofs.is_action.Reads as is-action-reads
-use Rattle.layout.proofs.Rows.{good-first, good-attempt, good-negation, good-two, good-previous, good-other, past}
+use Rattle.layout.proofs.Rows.{good-first, good-attempt, good-negation, good-two, good-previous, good-other}
 use Rattle.layout.proofs.good_row.Statement.{statement}
 use Rattle.layout.proofs.good_row.Tie as tie
 use Rattle.layout.proofs.good_row.Reads as reads
@@ -59,21 +60,21 @@ returns-8 c =
 returns-9 : tie.Need-returns-9
 returns-9 c =
     let m = c .before .before .before in
-    let h : 4 ≤ m .before .args .kind = past (past (c .before .before .if5 .left) (m .match .rest .0 .0 .1)) (m .match .rest .0 .1) in
+    let h : 4 ≤ m .before .args .kind = omega (arith, c .before .before .if5 .left, m .match .rest .0 .0 .1, m .match .rest .0 .1) in
     let i = c .before .if7 .taken in
     rw (good-two, lt-ltb _ _ (c .if8 .taken))
 
 returns-10 : tie.Need-returns-10
 returns-10 c =
     let m = c .before .before .before in
-    let h : 4 ≤ m .before .args .kind = past (past (c .before .before .if5 .left) (m .match .rest .0 .0 .1)) (m .match .rest .0 .1) in
+    let h : 4 ≤ m .before .args .kind = omega (arith, c .before .before .if5 .left, m .match .rest .0 .0 .1, m .match .rest .0 .1) in
     let i = c .before .if7 .taken in
     rw (good-two, le-ltb _ _ (c .if8 .left))
 
 returns-11 : tie.Need-returns-11
 returns-11 c =
     let m = c .before .before in
-    let h : 6 < m .before .args .kind = past (c .if7 .left) (m .match .rest .1) in
+    let h : 6 < m .before .args .kind = omega (arith, c .if7 .left, m .match .rest .1) in
     rw good-other
 
 pub good-row-spec : {M : Type 1} → statement M

@@ -1,7 +1,6 @@
--- `machine::blame` meets its contract.
 use native.Mathlib.Omega.{arith}
 use borrow.Author.Needs.{needs}
-use Rattle.machine.proofs.Computing.{blame-of, blame-small}
+use Rattle.machine.proofs.Deciding.{blame-of, blame-small}
 use Rattle.machine.proofs.blame.Statement.{statement}
 use Rattle.machine.proofs.blame.Tie as tie
 

@@ -1,9 +1,8 @@
 -- `machine::decide` meets its contract: the end record's fields name the rows that decide.
 use native.Mathlib.Omega.{arith}
 use mathlib.Core.Path.{_∙_}
-use Rattle.layout.proofs.Images.{passed-good, good-S, good-V1, good-V2}
+use Rattle.layout.proofs.Images.{passed-good, good-S, good-V1, good-V2, end-fits, end-S, end-V1, end-V2}
 use Rattle.machine.specs.Computing.{decidedBytes}
-use Rattle.machine.proofs.RowKinds.{end-fits, end-S, end-V1, end-V2}
 use Rattle.machine.proofs.decide.Statement.{statement}
 use Rattle.machine.proofs.decide.Tie as tie
 use borrow.Author.Needs.{needs}

@@ -6,7 +6,7 @@ use mathlib.Core.Path.{_≡_, refl, _∙_}
 use borrow.Author.Needs.{needs}
 use lib.ListN.{length, length-set}
 use Rattle.machine.specs.Computing.{firstBits}
-use Rattle.machine.proofs.Computing.{mapFirst, mapFirst-next, mapFirst-all}
+use Rattle.machine.proofs.Trimming.{mapFirst, mapFirst-next, mapFirst-all}
 use Rattle.machine.proofs.keep_first.Statement.{statement}
 use Rattle.machine.proofs.keep_first.Tie as tie
 

@@ -6,7 +6,7 @@ use mathlib.Core.Bool.{false}
 use lib.ListN.{length, getD}
 use Rattle.periods.specs.Periods.{periodOf}
 use Rattle.machine.specs.Computing.{valuesIn}
-use Rattle.machine.proofs.Computing.{both-below}
+use Rattle.layout.proofs.Rows.{both-below}
 use Rattle.machine.proofs.Machine.{byteOf-le}
 use Rattle.machine.proofs.RowKinds.{new-first, row-2, row-3, row-4, row-5, row-6, kind-6, value-0, value-1, value-2, value-3, value-4, value-5, value-6}
 use Rattle.machine.proofs.kind_value.Statement.{statement}

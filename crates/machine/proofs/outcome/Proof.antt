@@ -1,6 +1,6 @@
 -- `machine::outcome` meets its contract: V1, then V2, then S.
 use borrow.Author.Needs.{needs}
-use Rattle.machine.proofs.Computing.{outcome-sat}
+use Rattle.machine.proofs.Deciding.{outcome-sat}
 use Rattle.machine.proofs.outcome.Statement.{statement}
 use Rattle.machine.proofs.outcome.Tie as tie
 

@@ -5,7 +5,7 @@ use borrow.Author.Needs.{needs}
 use lib.ListN.{length, length-set}
 use lib.Seq.{length-sets}
 use Rattle.machine.specs.Computing.{withDecision}
-use Rattle.machine.proofs.Computing.{decision-none, decision-some}
+use Rattle.machine.proofs.Deciding.{decision-none, decision-some}
 use Rattle.machine.proofs.put_decision.Statement.{statement}
 use Rattle.machine.proofs.put_decision.Tie as tie
 

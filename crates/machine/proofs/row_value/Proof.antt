@@ -1,6 +1,6 @@
 -- `machine::row_value` meets its contract: the fields of a good image's row are a row's.
 use native.Mathlib.Omega.{arith}
-use Rattle.machine.proofs.RowKinds.{row-fits, row-held, row-good}
+use Rattle.layout.proofs.Images.{row-fits, row-held, row-good}
 use Rattle.machine.proofs.row_value.Statement.{statement}
 use Rattle.machine.proofs.row_value.Tie as tie
 

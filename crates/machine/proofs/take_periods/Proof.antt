@@ -13,9 +13,9 @@ use Rattle.states.specs.Limits.{headBytes}
 use Rattle.states.specs.States.{stateOf, stateBytes, allAtMost}
 use Rattle.states.proofs.States.{stateBytes-stateOf}
 use Rattle.machine.specs.Machine.{afterPeriods}
-use Rattle.machine.specs.Computing.{settled}
+use Rattle.machine.specs.Computing.{trimmed}
 use Rattle.machine.proofs.Machine.{after-snoc}
-use Rattle.machine.proofs.Settling.{settled-plain, plain-small}
+use Rattle.machine.proofs.Trimming.{trimmed-plain, plain-small}
 use Rattle.machine.proofs.Steps.{ready-long, later-read, later-ready}
 use Rattle.machine.proofs.take_periods.Statement.{statement}
 use Rattle.machine.proofs.take_periods.Tie as tie
@@ -23,7 +23,7 @@ use Rattle.machine.proofs.take_periods.Tie as tie
 abbrev Inv-loop : tie.InvT-loop
 Inv-loop image state₀ trace n k₀ state k =
     (k ≤ n) × (length state ≡ length state₀)
-    × (settled state ≡ stateBytes (afterPeriods (imageOf image) (stateOf state₀) (periodsOf trace k)))
+    × (trimmed state ≡ stateBytes (afterPeriods (imageOf image) (stateOf state₀) (periodsOf trace k)))
     × (allAtMost 3 (drop headBytes state) ≡ true)
 
 abbrev μ-loop : tie.MeasureT-loop
@@ -38,7 +38,7 @@ loop-holds c =
     let bytes : AllBytes l = record { below = λ i. c .before .slice-known .given i .fits } in (
       omega arith,
       refl,
-      settled-plain (rowCount (a .image .now)) l (h .sound) ∙ sym (stateBytes-stateOf l bytes (omega (arith, ready-long (a .image .now) l (a .n) h))),
+      trimmed-plain (rowCount (a .image .now)) l (h .sound) ∙ sym (stateBytes-stateOf l bytes (omega (arith, ready-long (a .image .now) l (a .n) h))),
       plain-small (rowCount (a .image .now)) l (h .sound),
     )
 
@@ -77,19 +77,19 @@ loop-again c =
       t .ensures .small,
     )
 
-settle-requires : tie.Need-settle-requires Inv-loop μ-loop
-settle-requires c κs =
+trim-requires : tie.Need-trim-requires Inv-loop μ-loop
+trim-requires c κs =
     let a = c .before .before .before .before .before .before .args in
     omega (arith, c .before .before .loop .inv .1, ready-long (a .image .now) (a .state .now) (a .n) (c .before .before .before .before .before .before .pre .0))
 
 same-length : tie.Need-same-length Inv-loop μ-loop
-same-length c = c .before .before .settle .kept .0 ∙ c .before .before .before .before .before .loop .inv .1
+same-length c = c .before .before .trim .kept .0 ∙ c .before .before .before .before .before .loop .inv .1
 
 returns : tie.Need-returns Inv-loop μ-loop
 returns c =
     let l = c .before .before .before .before .before .loop in
     let e : l .k ≡ c .before .before .before .before .before .before .before .before .before .args .n = omega arith in
-    c .before .before .settle .ensures ∙ rw e at (l .inv .2)
+    c .before .before .trim .ensures ∙ rw e at (l .inv .2)
 
 pub take-periods-spec : {M : Type 1} → statement M
 take-periods-spec =
@@ -103,6 +103,6 @@ take-periods-spec =
     add-k
     loop-less
     loop-again
-    settle-requires
+    trim-requires
     same-length
     returns)

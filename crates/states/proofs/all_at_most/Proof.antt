@@ -5,7 +5,7 @@ use native.Mathlib.Omega.{arith}
 use mathlib.Core.Path.{_≡_, refl, sym, _∙_}
 use lib.ListN.{length, drop}
 use Rattle.states.specs.States.{allAtMost}
-use Rattle.states.proofs.States.{scan-step, scan-fails, scan-ends}
+use Rattle.states.proofs.Values.{scan-step, scan-fails, scan-ends}
 use Rattle.states.proofs.all_at_most.Statement.{statement}
 use Rattle.states.proofs.all_at_most.Tie as tie
 

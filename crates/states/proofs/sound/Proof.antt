@@ -1,11 +1,20 @@
 -- `states::sound` meets its contract: the head's test, and then the values', by whether periods are taken.
 use borrow.Author.Needs.{needs}
+use mathlib.Core.Bool.{true, false≢true}
+use mathlib.Core.Logic.{_↔_}
 use mathlib.Core.Path.{_≡_, sym, _∙_}
 use borrow.Author.Tests.{not-true, not-false}
 use Rattle.records.specs.Fields.{field}
-use Rattle.states.proofs.States.{unsound-head, sound-fresh, sound-begun, part-rest}
+use Rattle.records.proofs.get4.Reads as get4-reads
+use Rattle.records.proofs.wide.Reads as wide-reads
+use Rattle.states.proofs.sound_head.Reads as sound-head-reads
+use Rattle.states.proofs.all_at_most.Reads as all-at-most-reads
+use Rattle.states.proofs.Soundness.{HeadSound, unsound-head, sound-none-taken, sound-some-taken}
+use Rattle.states.proofs.States.{part-rest}
 use Rattle.states.proofs.sound.Statement.{statement}
 use Rattle.states.proofs.sound.Tie as tie
+use Rattle.states.proofs.sound.Reads as reads
+use Rattle.states.proofs.sound.Lts as lts
 
 get4-requires : tie.Need-get4-requires
 get4-requires c κs = search needs
@@ -28,11 +37,18 @@ get4-requires-2 c κs = search needs
 sound-head-requires : tie.Need-sound-head-requires
 sound-head-requires c κs = search needs
 
+-- whether the head is sound
+head-tested : (c : lts.After-sound-head (get4-reads.Asked, get4-reads.Learnt, wide-reads.Asked, wide-reads.Learnt, sound-head-reads.Asked, sound-head-reads.Learnt, all-at-most-reads.Asked, all-at-most-reads.Learnt) reads.Pre reads.Post)
+    → (c .sound-head .result ≡ true) ↔ HeadSound (c .before .before .before .before .before .before .before .before .args .state .now)
+head-tested c =
+    rw (← c .before .before .before .before .wide .ensures .0, ← c .before .before .wide2 .ensures .0, ← c .before .before .before .before .before .before .get4 .ensures .is, ← c .before .get42 .ensures .is)
+    (c .sound-head .ensures)
+
 returns : tie.Need-returns
 returns c =
     let l = c .before .before .before .before .before .before .before .before .before .args .state .now in
     let t = not-true (c .before .sound-head .result) (c .if1 .taken) in
-    sym (unsound-head l (cc))
+    sym (unsound-head l (λ h. false≢true (sym t ∙ head-tested (c .before) .1 h)))
 
 sub-all-at-most : tie.Need-sub-all-at-most
 sub-all-at-most c = search needs
@@ -62,14 +78,14 @@ returns-2 : tie.Need-returns-2
 returns-2 c =
     let l = c .before .before .before .before .before .before .before .before .before .before .before .before .args .state .now in
     let t = not-false (c .before .before .before .before .sound-head .result) (c .before .before .before .if1 .left) in
-    c .all-at-most .ensures ∙ rw part-rest (sym (sound-fresh l (cc) (cc)))
+    c .all-at-most .ensures ∙ rw part-rest (sym (sound-none-taken l (head-tested (c .before .before .before .before) .0 t) (cc)))
 
 returns-3 : tie.Need-returns-3
 returns-3 c =
     let l = c .before .before .before .before .before .before .before .before .before .before .before .before .args .state .now in
     let t = not-false (c .before .before .before .before .sound-head .result) (c .before .before .before .if1 .left) in
     let e : field l 2 4 ≡ 0 → ⊥ = λ z. c .before .before .if2 .left (cc) in
-    c .all-at-most2 .ensures ∙ rw part-rest (sym (sound-begun l (cc) e))
+    c .all-at-most2 .ensures ∙ rw part-rest (sym (sound-some-taken l (head-tested (c .before .before .before .before) .0 t) e))
 
 pub sound-spec : {M : Type 1} → statement M
 sound-spec =

@@ -1,26 +1,29 @@
 -- `states::sound_head` meets its contract: each outcome has its tests, of which the later are made where the earlier hold.
-use mathlib.Core.Bool.{_&&_}
-use mathlib.Core.Logic.{⊎-elim}
+use native.Mathlib.Omega.{arith}
+use mathlib.Core.Bool.{Bool, true, _&&_, false≢true}
+use mathlib.Core.Logic.{_↔_, ⊎-elim}
 use mathlib.Core.Path.{_≡_, _∙_}
 use lib.Dec.{eqb, ltb, leb}
 use borrow.Author.Tests.{eq-eqb, ne-eqb, lt-ltb, le-ltb}
-use Rattle.states.specs.Premises.{soundHead}
+use Rattle.states.proofs.Soundness.{undecided-iff, satisfied-iff, violated-iff, outcome≤}
 use Rattle.states.proofs.sound_head.Statement.{statement}
 use Rattle.states.proofs.sound_head.Tie as tie
 use Rattle.states.proofs.sound_head.Reads as reads
 use Rattle.states.proofs.sound_head.Lts as lts
 
+-- a value that is that of a test
+tells : {A : Type 0} {t r : Bool} → (t ≡ true) ↔ A → r ≡ t → (r ≡ true) ↔ A
+tells h e = rw e h
+
 returns : tie.Need-returns
-unfolding soundHead
 returns c =
     let a = c .before .before .args in
-    rw (c .before .match .keys1, eq-eqb (a .blame) 0 (c .if1 .taken))
+    rw (c .before .match .keys1) (tells (undecided-iff (a .blame) (a .periods) (a .decision)) (rw (eq-eqb (a .blame) 0 (c .if1 .taken))))
 
 returns-2 : tie.Need-returns-2
-unfolding soundHead
 returns-2 c =
     let a = c .before .before .args in
-    rw (c .before .match .keys1, ne-eqb (a .blame) 0 (c .if1 .left))
+    rw (c .before .match .keys1) (tells (undecided-iff (a .blame) (a .periods) (a .decision)) (rw (ne-eqb (a .blame) 0 (c .if1 .left))))
 
 -- the first two tests of outcome 1
 one-joined : (c : lts.Joined2 reads.Pre reads.Post) → c .if2 .if3 ≡ eqb (c .before .before .args .blame) 0 && ltb 0 (c .before .before .args .decision)
@@ -29,12 +32,16 @@ one-joined c =
     ⊎-elim (λ w. rw (eq-eqb b 0 (w .0 .taken)) (w .1)) (λ w. w .1 ∙ rw (ne-eqb b 0 (w .0 .left))) (c .if2 .came)
 
 returns-3 : tie.Need-returns-3
-unfolding soundHead
-returns-3 c = rw (c .before .before .match .keys2, ← one-joined (c .before), c .if3 .taken)
+returns-3 c =
+    let a = c .before .before .before .args in
+    rw (c .before .before .match .keys2)
+    (tells (satisfied-iff (a .blame) (a .periods) (a .decision)) (rw (← one-joined (c .before), c .if3 .taken)))
 
 returns-4 : tie.Need-returns-4
-unfolding soundHead
-returns-4 c = rw (c .before .before .match .keys2, ← one-joined (c .before), c .if3 .left)
+returns-4 c =
+    let a = c .before .before .before .args in
+    rw (c .before .before .match .keys2)
+    (tells (satisfied-iff (a .blame) (a .periods) (a .decision)) (rw (← one-joined (c .before), c .if3 .left)))
 
 -- the first two tests of outcome 2, and the first three
 two-joined : (c : lts.Joined4 reads.Pre reads.Post) → c .if4 .if5 ≡ ltb 0 (c .before .before .args .blame) && leb (c .before .before .args .blame) 3
@@ -47,21 +54,21 @@ three-joined c =
     ⊎-elim (λ w. rw (w .0 .taken) (w .1)) (λ w. w .1 ∙ rw (w .0 .left)) (c .if5 .came)
 
 returns-5 : tie.Need-returns-5
-unfolding soundHead
 returns-5 c =
-    rw (c .before .before .before .match .keys3, ← two-joined (c .before .before), ← three-joined (c .before), c .if6 .taken)
+    let a = c .before .before .before .before .args in
+    rw (c .before .before .before .match .keys3)
+    (tells (violated-iff (a .blame) (a .periods) (a .decision)) (rw (← two-joined (c .before .before), ← three-joined (c .before), c .if6 .taken)))
 
 returns-6 : tie.Need-returns-6
-unfolding soundHead
 returns-6 c =
-    rw (c .before .before .before .match .keys3, ← two-joined (c .before .before), ← three-joined (c .before), c .if6 .left)
+    let a = c .before .before .before .before .args in
+    rw (c .before .before .before .match .keys3)
+    (tells (violated-iff (a .blame) (a .periods) (a .decision)) (rw (← two-joined (c .before .before), ← three-joined (c .before), c .if6 .left)))
 
 returns-7 : tie.Need-returns-7
-unfolding soundHead
 returns-7 c =
-    let o = c .before .args .outcome in
     let r = c .match .rest in
-    rw (ne-eqb o 0 (r .0 .0 .1), ne-eqb o 1 (r .0 .1), ne-eqb o 2 (r .1))
+    (λ z. absurd (false≢true z), λ h. absurd (omega (arith, outcome≤ h, r .0 .0 .1, r .0 .1, r .1)))
 
 pub sound-head-spec : {M : Type 1} → statement M
 sound-head-spec =

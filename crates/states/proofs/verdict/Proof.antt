@@ -27,11 +27,11 @@ get4-requires-2 : tie.Need-get4-requires-2
 get4-requires-2 c κs = search needs
 
 -- the decision period is not above periods taken
-past : (c : lts.After-get42 (get4-reads.Asked, get4-reads.Learnt) reads.Pre reads.Post) → ltb (c .get42 .result) (c .before .get4 .result) ≡ false
+not-ahead : (c : lts.After-get42 (get4-reads.Asked, get4-reads.Learnt) reads.Pre reads.Post) → ltb (c .get42 .result) (c .before .get4 .result) ≡ false
 unfolding stateOf
-past c =
+not-ahead c =
     le-ltb (c .get42 .result) (c .before .get4 .result)
-    (omega (arith, c .get42 .ensures .is, c .before .get4 .ensures .is, c .before .before .before .before .before .pre .past))
+    (omega (arith, c .get42 .ensures .is, c .before .get4 .ensures .is, c .before .before .before .before .before .pre .decided-by-now))
 
 returns-2 : tie.Need-returns-2
 unfolding stateOf
@@ -39,7 +39,7 @@ returns-2 c =
     let g = c .before .before .before .get4 in
     let h = c .before .before .get42 in
     let o = getD (c .before .before .before .before .before .before .before .args .state .now) 0 0 in
-    rw (ne-eqb o 0 (c .before .before .before .before .if1 .left), eq-eqb o 1 (c .if3 .taken), ← g .ensures .is, ← h .ensures .is, past (c .before .before), lt-ltb (g .result) (h .result) (c .before .if2 .taken))
+    rw (ne-eqb o 0 (c .before .before .before .before .if1 .left), eq-eqb o 1 (c .if3 .taken), ← g .ensures .is, ← h .ensures .is, not-ahead (c .before .before), lt-ltb (g .result) (h .result) (c .before .if2 .taken))
 
 returns-3 : tie.Need-returns-3
 unfolding stateOf
@@ -47,7 +47,7 @@ returns-3 c =
     let g = c .before .before .before .get4 in
     let h = c .before .before .get42 in
     let o = getD (c .before .before .before .before .before .before .before .args .state .now) 0 0 in
-    rw (ne-eqb o 0 (c .before .before .before .before .if1 .left), ne-eqb o 1 (c .if3 .left), ← g .ensures .is, ← h .ensures .is, past (c .before .before), lt-ltb (g .result) (h .result) (c .before .if2 .taken))
+    rw (ne-eqb o 0 (c .before .before .before .before .if1 .left), ne-eqb o 1 (c .if3 .left), ← g .ensures .is, ← h .ensures .is, not-ahead (c .before .before), lt-ltb (g .result) (h .result) (c .before .if2 .taken))
 
 returns-4 : tie.Need-returns-4
 unfolding stateOf
@@ -55,7 +55,7 @@ returns-4 c =
     let g = c .before .before .before .get4 in
     let h = c .before .before .get42 in
     let o = getD (c .before .before .before .before .before .before .before .args .state .now) 0 0 in
-    rw (ne-eqb o 0 (c .before .before .before .before .if1 .left), eq-eqb o 1 (c .if4 .taken), ← g .ensures .is, ← h .ensures .is, past (c .before .before), le-ltb (g .result) (h .result) (c .before .if2 .left))
+    rw (ne-eqb o 0 (c .before .before .before .before .if1 .left), eq-eqb o 1 (c .if4 .taken), ← g .ensures .is, ← h .ensures .is, not-ahead (c .before .before), le-ltb (g .result) (h .result) (c .before .if2 .left))
 
 returns-5 : tie.Need-returns-5
 unfolding stateOf
@@ -63,7 +63,7 @@ returns-5 c =
     let g = c .before .before .before .get4 in
     let h = c .before .before .get42 in
     let o = getD (c .before .before .before .before .before .before .before .args .state .now) 0 0 in
-    rw (ne-eqb o 0 (c .before .before .before .before .if1 .left), ne-eqb o 1 (c .if4 .left), ← g .ensures .is, ← h .ensures .is, past (c .before .before), le-ltb (g .result) (h .result) (c .before .if2 .left))
+    rw (ne-eqb o 0 (c .before .before .before .before .if1 .left), ne-eqb o 1 (c .if4 .left), ← g .ensures .is, ← h .ensures .is, not-ahead (c .before .before), le-ltb (g .result) (h .result) (c .before .if2 .left))
 
 pub verdict-spec : {M : Type 1} → statement M
 verdict-spec =

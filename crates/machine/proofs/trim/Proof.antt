@@ -1,8 +1,8 @@
--- `machine::settle` meets its contract: the first bits of the rows' part stand in its place.
+-- `machine::trim` meets its contract: the first bits of the rows' part stand in its place.
 use borrow.Author.Needs.{needs}
-use Rattle.machine.proofs.Settling.{settled-put}
-use Rattle.machine.proofs.settle.Statement.{statement}
-use Rattle.machine.proofs.settle.Tie as tie
+use Rattle.machine.proofs.Trimming.{trimmed-put}
+use Rattle.machine.proofs.trim.Statement.{statement}
+use Rattle.machine.proofs.trim.Tie as tie
 
 sub-keep-first : tie.Need-sub-keep-first
 sub-keep-first c = search needs
@@ -20,10 +20,10 @@ same-length : tie.Need-same-length
 same-length c = search needs
 
 returns : tie.Need-returns
-returns c = settled-put (c .before .before .before .before .before .args .state .now) (c .before .before .keep-first .last .0) (c .before .before .keep-first .ensures)
+returns c = trimmed-put (c .before .before .before .before .before .args .state .now) (c .before .before .keep-first .last .0) (c .before .before .keep-first .ensures)
 
-pub settle-spec : {M : Type 1} → statement M
-settle-spec =
+pub trim-spec : {M : Type 1} → statement M
+trim-spec =
     tie.close
     (tie.spec
     sub-keep-first

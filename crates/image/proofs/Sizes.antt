@@ -1,0 +1,165 @@
+-- How many rows a tree has, and that the rows which its block gives out stand among them.
+use Prim.Native.Nat.{ℕ, zero, suc, _+_, _*_, _≤_, _<_}
+use native.Mathlib.Omega.{arith}
+use mathlib.Core.Bool.{Bool, true, false, cond}
+use mathlib.Core.List.{List}
+use mathlib.Core.Path.{_≡_}
+use lib.ListN.{length}
+use Rattle.periods.specs.Periods.{Party, party1, party2}
+use Rattle.layout.specs.Rows.{Row}
+use Rattle.contract.specs.Expressions.{any, tries, idle, succeeds, fails, Expression, atom, seq, or, star, holdsEmpty}
+use Rattle.contract.specs.Meaning.{duty, ban, power, Clause, literal, both, then, repair, repeat, when, until}
+use Rattle.reader.specs.Table
+use Rattle.reader.specs.Spelling.{expressionRecords, records}
+use Rattle.image.specs.Widths.{size, neverRow, mostRows, allowedRows, _⊹_, inside, expressionSize, clauseSize, fixedRows, afterExpression, afterClause}
+use Rattle.image.specs.Blocks.{joinRow, endRow, liveRow, ifEmpty, expressionRows, Outputs, blaming, outputsOf, clauseRows}
+use Rattle.image.specs.Images.{rowsFor}
+
+-- ---- row numbers
+
+-- the row k rows on from row b
+pub ⊹-plus : (b k : ℕ) → b ⊹ k ≡ b + k
+⊹-plus b zero = omega arith
+⊹-plus b (suc k) = omega (arith, ⊹-plus b k)
+
+-- ---- how many rows
+
+-- the first row after a tree's rows
+pub after-expression : (e : Expression) (b : ℕ) → afterExpression e b ≡ b + expressionSize e
+unfolding afterExpression expressionSize
+after-expression (atom any) b = omega arith
+after-expression (atom (tries p a)) b = omega arith
+after-expression (atom (idle p a)) b = omega arith
+after-expression (atom (succeeds a)) b = omega arith
+after-expression (atom (fails a)) b = omega arith
+after-expression (seq l r) b = rw (after-expression l, after-expression r) (omega arith)
+after-expression (or l r) b = rw (after-expression l, after-expression r) (omega arith)
+after-expression (star e) b = rw (after-expression e) (omega arith)
+
+pub after-clause : (c : Clause) (b : ℕ) → afterClause c b ≡ b + clauseSize c
+unfolding afterClause clauseSize
+after-clause (literal duty p a) b = omega arith
+after-clause (literal ban p a) b = omega arith
+after-clause (literal power p a) b = omega arith
+after-clause (both l r) b = rw (after-clause l, after-clause r) (omega arith)
+after-clause (then l r) b = rw (after-clause l, after-clause r) (omega arith)
+after-clause (repair l r) b = rw (after-clause l, after-clause r) (omega arith)
+after-clause (repeat c) b = rw (after-clause c) (omega arith)
+after-clause (when e c) b = rw (after-expression e, after-clause c) (omega arith)
+after-clause (until c e) b = rw (after-clause c, after-expression e) (omega arith)
+
+-- its rows, with others after them
+pub length-expression : (e : Expression) (b S K : ℕ) (rest : List Row) → length (expressionRows e b S K rest) ≡ expressionSize e + length rest
+unfolding expressionRows expressionSize
+length-expression (atom any) b S K rest = omega arith
+length-expression (atom (tries p a)) b S K rest = omega arith
+length-expression (atom (idle p a)) b S K rest = omega arith
+length-expression (atom (succeeds a)) b S K rest = omega arith
+length-expression (atom (fails a)) b S K rest = omega arith
+length-expression (seq l r) b S K rest = rw (length-expression r, length-expression l) (omega arith)
+length-expression (or l r) b S K rest = rw (length-expression r, length-expression l) (omega arith)
+length-expression (star e) b S K rest = rw (length-expression e) (omega arith)
+
+pub length-clause : (c : Clause) (b S K : ℕ) (rest : List Row) → length (clauseRows c b S K rest) ≡ clauseSize c + length rest
+unfolding clauseRows clauseSize
+length-clause (literal duty p a) b S K rest = omega arith
+length-clause (literal ban p a) b S K rest = omega arith
+length-clause (literal power p a) b S K rest = omega arith
+length-clause (both l r) b S K rest = rw (length-clause r, length-clause l) (omega arith)
+length-clause (then l r) b S K rest = rw (length-clause r, length-clause l) (omega arith)
+length-clause (repair l r) b S K rest = rw (length-clause r, length-clause l) (omega arith)
+length-clause (repeat c) b S K rest = rw (length-clause c) (omega arith)
+length-clause (when e c) b S K rest = rw (length-clause c, length-expression e) (omega arith)
+length-clause (until c e) b S K rest = rw (length-expression e, length-clause c) (omega arith)
+
+pub length-rows : (c : Clause) → length (rowsFor c) ≡ clauseSize c + fixedRows
+unfolding rowsFor
+length-rows c = rw (length-clause c) (omega arith)
+
+-- no kind has more rows than `both`
+expression-most : (e : Expression) → expressionSize e ≤ size Table.both * expressionRecords e
+unfolding expressionSize expressionRecords
+expression-most (atom any) = omega arith
+expression-most (atom (tries p a)) = omega arith
+expression-most (atom (idle p a)) = omega arith
+expression-most (atom (succeeds a)) = omega arith
+expression-most (atom (fails a)) = omega arith
+expression-most (seq l r) = omega (arith, expression-most l, expression-most r)
+expression-most (or l r) = omega (arith, expression-most l, expression-most r)
+expression-most (star e) = omega (arith, expression-most e)
+
+size-most : (c : Clause) → clauseSize c ≤ size Table.both * records c
+unfolding clauseSize records
+size-most (literal duty p a) = omega arith
+size-most (literal ban p a) = omega arith
+size-most (literal power p a) = omega arith
+size-most (both l r) = omega (arith, size-most l, size-most r)
+size-most (then l r) = omega (arith, size-most l, size-most r)
+size-most (repair l r) = omega (arith, size-most l, size-most r)
+size-most (repeat c) = omega (arith, size-most c)
+size-most (when e c) = omega (arith, expression-most e, size-most c)
+size-most (until c e) = omega (arith, size-most c, expression-most e)
+
+pub rows-most : (c : Clause) → length (rowsFor c) ≤ mostRows (records c)
+rows-most c = omega (arith, length-rows c, size-most c)
+
+-- no more than every image buffer has room for
+pub rows-allowed : (c : Clause) → length (rowsFor c) ≤ allowedRows (records c)
+rows-allowed c = omega (arith, rows-most c)
+
+-- ---- the rows that a block gives out stand before its end
+
+pub record ExpressionInside (e : Expression) (b S : ℕ) : Type 0 where
+  pub forward : b ≤ afterExpression e b
+  pub end-inside : endRow e b S < afterExpression e b
+  pub live-inside : liveRow e b < afterExpression e b
+
+pub inside-expression : (e : Expression) (b S : ℕ) → S < b → ExpressionInside e b S
+unfolding endRow liveRow afterExpression
+inside-expression (atom any) b S h = omega arith
+inside-expression (atom (tries p a)) b S h = omega arith
+inside-expression (atom (idle p a)) b S h = omega arith
+inside-expression (atom (succeeds a)) b S h = omega arith
+inside-expression (atom (fails a)) b S h = omega arith
+inside-expression (seq l r) b S h = omega (arith, after-expression l (afterExpression r (inside Table.seq b)), after-expression r (inside Table.seq b))
+inside-expression (or l r) b S h = omega (arith, after-expression l (afterExpression r (inside Table.or b)), after-expression r (inside Table.or b))
+inside-expression (star e) b S h = omega (arith, inside-expression e (inside Table.star b) (joinRow b) (omega arith))
+
+pub inside-ifEmpty : (e : Expression) (x m : ℕ) → x < m → ifEmpty e x < m
+inside-ifEmpty e x m h = each (holdsEmpty e)
+  where
+    each : (t : Bool) → cond t x neverRow < m
+    each true = h
+    each false = omega arith
+
+pub record ClauseInside (c : Clause) (b : ℕ) (o : Outputs) : Type 0 where
+  pub forward : b ≤ afterClause c b
+  pub sat-inside : o .sat < afterClause c b
+  pub one-inside : o .one < afterClause c b
+  pub two-inside : o .two < afterClause c b
+
+inside-literal : (p : Party) {c : Clause} {b s x y : ℕ} → b ≤ afterClause c b
+    → (s < afterClause c b) × (x < afterClause c b) × (y < afterClause c b) → ClauseInside c b (blaming p s x y)
+inside-literal party1 h i = omega arith
+inside-literal party2 h i = omega arith
+
+pub inside-clause : (c : Clause) (b : ℕ) → 0 < b → ClauseInside c b (outputsOf c b)
+unfolding outputsOf afterClause
+inside-clause (literal duty p a) b h = inside-literal p (omega arith) (omega arith)
+inside-clause (literal ban p a) b h = inside-literal p (omega arith) (omega arith)
+inside-clause (literal power p a) b h = inside-literal p (omega arith) (omega arith)
+inside-clause (both l r) b h = omega (arith, after-clause l (afterClause r (inside Table.both b)), after-clause r (inside Table.both b))
+inside-clause (then l r) b h = omega (arith, inside-clause r (inside Table.then b) (omega arith), after-clause l (afterClause r (inside Table.then b)))
+inside-clause (repair l r) b h = omega (arith, inside-clause r (inside Table.repair b) (omega arith), after-clause l (afterClause r (inside Table.repair b)))
+inside-clause (repeat c) b h = omega (arith, inside-clause c (inside Table.repeat b) (omega arith))
+inside-clause (when e c) b h = omega (arith, inside-clause c (inside Table.when b) (omega arith), after-expression e (afterClause c (inside Table.when b)))
+inside-clause (until c e) b h =
+    let p = after-expression e (inside Table.until b) in
+    omega (arith, inside-clause c (afterExpression e (inside Table.until b)) (omega arith))
+
+-- of two clauses, the right one's rows first
+pub inside-two : {A : Type 0} (l r : Clause) (b : ℕ) → 0 < b
+    → (ClauseInside r b (outputsOf r b) → ClauseInside l (afterClause r b) (outputsOf l (afterClause r b)) → A) → A
+inside-two l r b h k =
+    let inR = inside-clause r b h in
+    k inR (inside-clause l (afterClause r b) (omega arith))
