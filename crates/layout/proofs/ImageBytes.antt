@@ -1,6 +1,5 @@
 -- The bytes of an image are a good one, and are read back as it.
 use Prim.Native.Nat.{ℕ, zero, suc, _+_, _*_, _≤_, _<_}
-use native.Mathlib.Nat.{add-zero}
 use native.Mathlib.Omega.{arith}
 use mathlib.Core.Path.{_≡_, refl, ap, _∙_}
 use mathlib.Core.Bool.{true}
@@ -8,12 +7,13 @@ use mathlib.Core.Option.{Option, some, Option·getD}
 use mathlib.Core.List.{List, [], _∷_, _++_, append-assoc}
 use lib.Dec.{lit<}
 use lib.ListN.{length, take, drop, getD, length-append}
-use lib.Seq.{length-take-le, drop-at, drop-drop, getD-drop, ext-getD}
+use lib.Seq.{length-take-le, drop-at, ext-getD}
 use borrow.Author.Tests.{lt-ltb}
 use Rattle.records.specs.Fields.{AllBytes, bytes, field}
 use Rattle.records.specs.Marks.{endMark, marked}
 use Rattle.records.specs.declared.Test.the-variants.{Passed}
-use Rattle.records.proofs.Fields.{allBytes-nil, allBytes-cons, allBytes-append, allBytes-bytes, value-bytes-lt}
+use Rattle.records.proofs.Fields.{allBytes-nil, allBytes-cons, allBytes-append, allBytes-bytes, value-bytes-lt, field-drop}
+use Rattle.records.proofs.Marks.{marked-drop}
 use Rattle.layout.specs.Limits.{rowBytes, maxRows}
 use Rattle.layout.specs.Rows.{Row, never, Fits, encode, decode, namesRows}
 use Rattle.layout.specs.Images.{Image, rowsBytes, endBytes, imageBytes, rowCount, rowsOf, imageOf, goodRowAt, goodEnd}
@@ -48,15 +48,6 @@ decode-row rs rest k h f =
     let front : List ℕ = rowsBytes (take k rs) in
     let e : length front ≡ rowBytes * k = rw (length-rowsBytes, length-take-le k rs (omega arith)) in
     rw (rows-split rs rest k h) (decode-encode front (getD rs k never) (rowsBytes (drop (suc k) rs) ++ rest) (rowBytes * k) f e)
-
-module _ (l : List ℕ) (at : ℕ) where
-  marked-drop : (mark : List ℕ) → marked l at mark ≡ marked (drop at l) 0 mark
-  unfolding marked
-  marked-drop mark = simp (getD-drop, add-zero)
-
-  field-drop : (i w : ℕ) → field l (at + i) w ≡ field (drop at l) i w
-  unfolding field
-  field-drop i w = rw drop-drop
 
 -- an image that has bytes: 1 to the most rows, whose fields fit and name rows of the image, as the end record does
 pub record Writable (m : Image) : Type 0 where

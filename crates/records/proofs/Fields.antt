@@ -8,7 +8,7 @@ use lib.Arith.{mod-mul, digits-lt}
 use lib.Pow.{pow-add}
 use lib.Dec.{lit<}
 use lib.ListN.{length, take, drop, getD, length-take, length-drop}
-use lib.Seq.{length-take-le, take-nil, getD-drop}
+use lib.Seq.{length-take-le, take-nil, getD-drop, drop-drop}
 use Rattle.records.specs.Fields.{AllBytes, value, bytes, field, HoldsField}
 
 -- ---- lists of bytes
@@ -104,6 +104,11 @@ pub field-add : (l : List ℕ) (at v w : ℕ) → field l at (v + w) ≡ field l
 field-add l at zero w = simp (zero-add, add-zero, one-mul, field-zero)
 field-add l at (suc v) w =
     simp (suc-add, field-suc l at, field-add l (suc at) v w, mul-add, pow-succ', mul-assoc, add-assoc, add-suc)
+
+-- a field in the bytes from a place on
+pub field-drop : (l : List ℕ) (at i w : ℕ) → field l (at + i) w ≡ field (drop at l) i w
+unfolding field
+field-drop l at i w = rw drop-drop
 
 pub field-lt : (l : List ℕ) (at w : ℕ) → AllBytes l → field l at w < 256 ^ w
 unfolding field

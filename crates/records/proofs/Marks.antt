@@ -36,6 +36,11 @@ module _ (l : List ℕ) (at : ℕ) (m : List ℕ) (h : marked l at m ≡ true) w
   unfolding marked
   marked-as m′ = rw (first, second)
 
+-- a mark in the bytes from a place on
+pub marked-drop : (l : List ℕ) (at : ℕ) (mark : List ℕ) → marked l at mark ≡ marked (drop at l) 0 mark
+unfolding marked
+marked-drop l at mark = simp (getD-drop, add-zero)
+
 -- a mark stands where its two bytes do
 pub marked-of : (l : List ℕ) (at a b : ℕ) → take 2 (drop at l) ≡ a ∷ b ∷ [] → marked l at (a ∷ b ∷ []) ≡ true
 unfolding marked

@@ -18,7 +18,7 @@ use Rattle.records.specs.Refusals.{numberOf}
 use Rattle.records.proofs.Numbers.{lt-or-le}
 use Rattle.records.proofs.Fields.{field-lt}
 use Rattle.records.proofs.Refusals.{failing-is, all-pass, first-refused}
-use Rattle.records.specs.Replies.{fieldsBytes, After}
+use Rattle.records.specs.Replies.{fieldsBytes, After, written}
 use Rattle.records.proofs.Replies.{call-no-room, call-passed, call-refused}
 use Rattle.periods.specs.Forms.{periodBytes, formOf}
 use Rattle.periods.specs.Traces.{periodRecords, periodAt, markedAt, marksTest, recordTest, traceTest, periodsOf, recordAt}
@@ -131,13 +131,19 @@ module _ (image state trace reply : List ℕ) (n : ℕ) (h : Ready image state n
 -- ---- a run
 
 module _ (image state trace reply : List ℕ) (b : AllBytes state) (r : stepReplyBytes ≤ length reply) where
+  run-written : runTest image state trace ≡ Passed
+      → let later = afterPeriods (imageOf image) (stateOf state) (periodsOf trace (periodRecords trace)) in
+      run image state trace reply ≡ written (stateBytes later) reply (answer later)
+  unfolding run
+  run-written t = call-passed (runTest image state trace) _ _ state _ reply r t
+
   -- an accepted run ends as the steps of its records do
   pub run-ends : runTest image state trace ≡ Passed → EndsAsSteps image state trace reply
-  unfolding run periodsOf afterPeriods
+  unfolding periodsOf afterPeriods
   run-ends t =
       let n = periodRecords trace in
       let h = run-ready image state trace t in
-      let left = call-passed (runTest image state trace) _ _ state _ reply r t in
+      let left = run-written t in
       let each = accepts image state trace reply n h b r n (omega arith) (omega arith) (run-marks image state trace t) in
       record {
         all = each .all;

@@ -1,7 +1,6 @@
 -- `runner::put_answer` meets its contract: verdict, blame and decision period are those that are read of the state.
 use borrow.Author.Needs.{needs}
 use Rattle.states.specs.States.{stateOf}
-use Rattle.runner.specs.Calls.{answer}
 use Rattle.runner.proofs.put_answer.Statement.{statement}
 use Rattle.runner.proofs.put_answer.Tie as tie
 
@@ -24,7 +23,7 @@ same-length : tie.Need-same-length
 same-length c = search needs
 
 returns : tie.Need-returns
-unfolding answer stateOf
+unfolding stateOf
 returns c = cc
 
 pub put-answer-spec : {M : Type 1} → statement M
