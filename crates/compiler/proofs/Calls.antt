@@ -21,14 +21,14 @@ use Rattle.reader.specs.declared.Answer.{Answer}
 use Rattle.reader.specs.declared.Answer.the-variants.{Refused, Taken}
 use Rattle.reader.specs.Limits.{maxRecords}
 use Rattle.reader.specs.Reader.{taken, read, faultNumber, recordCount, answer, numberOf, placeOf}
-use Rattle.reader.specs.Codes.{Contract}
+use Rattle.reader.specs.Taken.{Contract}
 use Rattle.reader.proofs.Reader.{taken-count}
 use Rattle.reader.proofs.Answers.{answer-refused, answer-taken}
-use Rattle.image.specs.Widths.{bufferBytes}
+use Rattle.image.specs.Limits.{bufferBytes}
 use Rattle.image.specs.Images.{imageFor}
 use Rattle.image.proofs.Images.{right-for, sized-for}
 use Rattle.image.proofs.Monitors.{monitors}
-use Rattle.emitter.specs.Plans.{Writes}
+use Rattle.emitter.specs.Premises.{Writes}
 use Rattle.compiler.specs.Calls.{compileReply, compileReplyBytes, shortBuffer, After, unwritten, refusal, accepted, compile, Usable, Compiles}
 
 recordCount-is : (contract : List ℕ) (n : ℕ) (k : Contract contract n) → recordCount contract ≡ n

@@ -6,9 +6,9 @@ use Rattle.periods.specs.Traces.{recordCount}
 use Rattle.layout.specs.Rows.{encode}
 use Rattle.layout.specs.Images.{imageBytes, rowsBytes, endBytes, rowCount, goodLength}
 use Rattle.reader.specs.Table.{numbered, kindOf}
-use Rattle.reader.specs.Trees.{node}
+use Rattle.reader.specs.Trees.{goodFields, node}
 use Rattle.reader.specs.Reader as Reader
-use Rattle.reader.specs.Reader.{fieldsOf, operandsOf, readRecord, readRecords, read}
+use Rattle.reader.specs.Reader.{operandsOf, readRecord, readRecords, read}
 use Rattle.image.specs.Blocks.{outputsOf, clauseRows}
 use Rattle.image.specs.Images.{rowsFor, image, imageFor}
 use Rattle.compiler.specs.Examples.{CompileVectors}
@@ -16,6 +16,6 @@ use Rattle.compiler.specs.Calls.{compileReply, compile}
 
 pub compile-vectors : CompileVectors
 unfolding
-    compile compileReply read Reader.goodLength Reader.recordCount readRecords readRecord numbered kindOf fieldsOf operandsOf node imageFor image
+    compile compileReply read Reader.goodLength Reader.recordCount readRecords readRecord numbered kindOf goodFields operandsOf node imageFor image
     rowsFor clauseRows outputsOf imageBytes rowsBytes endBytes encode rowCount marked bytes
 compile-vectors = record { taken = refl; short = refl; clause-first = refl; no-room = refl }

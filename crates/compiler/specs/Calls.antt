@@ -14,7 +14,7 @@ use Rattle.layout.specs.Images.{rowCount, imageBytes}
 use Rattle.layout.specs.Refusals.{imageTest}
 use Rattle.contract.specs.Meaning.{Clause}
 use Rattle.reader.specs.Reader.{Result, refused, taken, faultNumber, read, recordCount}
-use Rattle.image.specs.Widths.{allowedRows, bufferBytes}
+use Rattle.image.specs.Limits.{allowedRows, bufferBytes}
 use Rattle.image.specs.Images.{image}
 use Rattle.image.specs.Monitors.{Monitors}
 

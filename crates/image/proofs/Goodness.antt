@@ -6,8 +6,9 @@ use native.Mathlib.Omega.{arith}
 use mathlib.Core.Bool.{Bool, true, false, cond}
 use mathlib.Core.List.{List, [], _∷_}
 use mathlib.Core.Path.{_≡_, refl}
+use lib.Dec.{leb}
 use lib.ListN.{length, getD}
-use borrow.Author.Tests.{lt-ltb}
+use borrow.Author.Tests.{lt-ltb, leb-true}
 use Rattle.periods.specs.Limits.{actions}
 use Rattle.periods.specs.Periods.{Party, party1, party2}
 use Rattle.layout.specs.Rows.{Row, never, initial, attempt, negation, conjunction, disjunction, previous, Fits, namesRows}
@@ -16,9 +17,12 @@ use Rattle.contract.specs.Expressions.{any, tries, idle, succeeds, fails, Expre
 use Rattle.contract.specs.Meaning.{duty, ban, power, Clause, literal, both, then, repair, repeat, when, until}
 use Rattle.reader.specs.Limits.{maxRecords}
 use Rattle.reader.specs.Table
-use Rattle.reader.specs.Table.{Kind}
-use Rattle.reader.specs.Spelling.{expressionRecords, records, ExpressionInRange, InRange}
-use Rattle.image.specs.Widths.{width, neverRow, mostRows, allowedRows, _⊹_, inside, expressionSize, clauseSize, fixedRows, afterExpression, afterClause}
+use Rattle.reader.specs.Trees.{Record}
+use Rattle.reader.specs.Spelling.{operator, atomRecord, literalRecord, expressionRecords, records, ExpressionInRange, InRange}
+use Rattle.reader.proofs.Table.{of-all}
+use Rattle.reader.proofs.Nodes.{allowed-action}
+use Rattle.image.specs.Limits.{allowedRows}
+use Rattle.image.specs.Widths.{width, size, maxSize, neverRow, maxRowsFor, _⊹_, inside, afterRecord, expressionSize, clauseSize, fixedRows, afterExpression, afterClause}
 use Rattle.image.specs.Blocks.{joinRow, endRow, liveRow, ifEmpty, expressionRows, Outputs, blaming, outputsOf, clauseRows}
 use Rattle.image.specs.Images.{rowsFor, image}
 
@@ -31,23 +35,20 @@ pub ⊹-plus : (b k : ℕ) → b ⊹ k ≡ b + k
 
 -- ---- how many rows
 
--- the first row after a tree's rows
+-- the first row after a record without operands, and after a tree's rows
+after-record : (r : Record) (b : ℕ) → afterRecord r (λ n. n) b ≡ b + size r
+after-record r b = rw (⊹-plus, ⊹-plus) (omega arith)
+
 pub after-expression : (e : Expression) (b : ℕ) → afterExpression e b ≡ b + expressionSize e
 unfolding afterExpression expressionSize
-after-expression (atom any) b = omega arith
-after-expression (atom (tries p a)) b = omega arith
-after-expression (atom (idle p a)) b = omega arith
-after-expression (atom (succeeds a)) b = omega arith
-after-expression (atom (fails a)) b = omega arith
+after-expression (atom x) b = after-record (atomRecord x) b
 after-expression (seq l r) b = rw (after-expression l, after-expression r) (omega arith)
 after-expression (or l r) b = rw (after-expression l, after-expression r) (omega arith)
 after-expression (star e) b = rw (after-expression e) (omega arith)
 
 pub after-clause : (c : Clause) (b : ℕ) → afterClause c b ≡ b + clauseSize c
 unfolding afterClause clauseSize
-after-clause (literal duty p a) b = omega arith
-after-clause (literal ban p a) b = omega arith
-after-clause (literal power p a) b = omega arith
+after-clause (literal l p a) b = after-record (literalRecord l p a) b
 after-clause (both l r) b = rw (after-clause l, after-clause r) (omega arith)
 after-clause (then l r) b = rw (after-clause l, after-clause r) (omega arith)
 after-clause (repair l r) b = rw (after-clause l, after-clause r) (omega arith)
@@ -83,41 +84,39 @@ pub length-rows : (c : Clause) → length (rowsFor c) ≡ clauseSize c + fixedRo
 unfolding rowsFor
 length-rows c = rw (length-clause c) (omega arith)
 
--- no kind has more than 14 rows
-expression-most : (e : Expression) → expressionSize e ≤ 14 * expressionRecords e
+-- no record has more rows than the widest
+size-max : (r : Record) → size r ≤ maxSize
+size-max r =
+    leb-true (size r) maxSize (of-all (λ J. leb (size record { kind = J; fields = r .fields }) maxSize) refl (r .kind))
+
+expression-max : (e : Expression) → expressionSize e ≤ maxSize * expressionRecords e
 unfolding expressionSize expressionRecords
-expression-most (atom any) = omega arith
-expression-most (atom (tries p a)) = omega arith
-expression-most (atom (idle p a)) = omega arith
-expression-most (atom (succeeds a)) = omega arith
-expression-most (atom (fails a)) = omega arith
-expression-most (seq l r) = omega (arith, expression-most l, expression-most r)
-expression-most (or l r) = omega (arith, expression-most l, expression-most r)
-expression-most (star e) = omega (arith, expression-most e)
+expression-max (atom x) = size-max (atomRecord x)
+expression-max (seq l r) = omega (arith, expression-max l, expression-max r)
+expression-max (or l r) = omega (arith, expression-max l, expression-max r)
+expression-max (star e) = omega (arith, expression-max e)
 
-size-most : (c : Clause) → clauseSize c ≤ 14 * records c
+clause-max : (c : Clause) → clauseSize c ≤ maxSize * records c
 unfolding clauseSize records
-size-most (literal duty p a) = omega arith
-size-most (literal ban p a) = omega arith
-size-most (literal power p a) = omega arith
-size-most (both l r) = omega (arith, size-most l, size-most r)
-size-most (then l r) = omega (arith, size-most l, size-most r)
-size-most (repair l r) = omega (arith, size-most l, size-most r)
-size-most (repeat c) = omega (arith, size-most c)
-size-most (when e c) = omega (arith, expression-most e, size-most c)
-size-most (until c e) = omega (arith, size-most c, expression-most e)
+clause-max (literal l p a) = size-max (literalRecord l p a)
+clause-max (both l r) = omega (arith, clause-max l, clause-max r)
+clause-max (then l r) = omega (arith, clause-max l, clause-max r)
+clause-max (repair l r) = omega (arith, clause-max l, clause-max r)
+clause-max (repeat c) = omega (arith, clause-max c)
+clause-max (when e c) = omega (arith, expression-max e, clause-max c)
+clause-max (until c e) = omega (arith, clause-max c, expression-max e)
 
-pub rows-most : (c : Clause) → length (rowsFor c) ≤ mostRows (records c)
-rows-most c = omega (arith, length-rows c, size-most c)
+pub rows-max : (c : Clause) → length (rowsFor c) ≤ maxRowsFor (records c)
+rows-max c = omega (arith, length-rows c, clause-max c)
 
 -- no more than every image buffer has room for
 pub rows-allowed : (c : Clause) → length (rowsFor c) ≤ allowedRows (records c)
-rows-allowed c = omega (arith, rows-most c)
+rows-allowed c = omega (arith, rows-max c)
 
 -- ---- the rows that a block gives out stand before its end
 
 pub record ExpressionInside (e : Expression) (b S : ℕ) : Type 0 where
-  pub past : b ≤ afterExpression e b
+  pub not-before : b ≤ afterExpression e b
   pub end-inside : endRow e b S < afterExpression e b
   pub live-inside : liveRow e b < afterExpression e b
 
@@ -140,7 +139,7 @@ inside-ifEmpty e x m h = each (holdsEmpty e)
     each false = omega arith
 
 pub record ClauseInside (c : Clause) (b : ℕ) (o : Outputs) : Type 0 where
-  pub past : b ≤ afterClause c b
+  pub not-before : b ≤ afterClause c b
   pub sat-inside : o .sat < afterClause c b
   pub one-inside : o .one < afterClause c b
   pub two-inside : o .two < afterClause c b
@@ -230,11 +229,11 @@ first {rs = []} (suc m) f g = end
 first {rs = r ∷ rs} (suc m) f g = next (f .0) (first m (f .1) g)
 
 -- a record's own rows, before and after those of its operands
-before : (k : Kind) {n b : ℕ} {rs : List Row} → First n b (width k .before) rs → Rest n b (width k .before) rs → GoodFrom n b rs
-before k = first (width k .before)
+before : (r : Record) {n b : ℕ} {rs : List Row} → First n b (width r .before) rs → Rest n b (width r .before) rs → GoodFrom n b rs
+before r = first (width r .before)
 
-after : (k : Kind) {n b : ℕ} {rs : List Row} → First n b (width k .after) rs → Rest n b (width k .after) rs → GoodFrom n b rs
-after k = first (width k .after)
+after : (r : Record) {n b : ℕ} {rs : List Row} → First n b (width r .after) rs → Rest n b (width r .after) rs → GoodFrom n b rs
+after r = first (width r .after)
 
 -- the rows that tell a block when it reads stand before it, and the block stands in the image
 record Within (n b S K after : ℕ) : Type 0 where
@@ -247,51 +246,65 @@ module _ (n : ℕ) where
       → GoodFrom n (afterExpression e b) rest → GoodFrom n b (expressionRows e b S K rest)
   unfolding ExpressionInRange afterExpression endRow expressionRows
   good-expression (atom any) i h g = g
-  good-expression (atom (tries p a)) i h g = before Table.tries (omega arith) g
-  good-expression (atom (idle p a)) i h g = before Table.idle (omega arith) g
-  good-expression (atom (succeeds a)) i h g = before Table.succeeds (omega arith) g
-  good-expression (atom (fails a)) i h g = before Table.fails (omega arith) g
+  good-expression (atom (tries p a)) i h g =
+      let j = allowed-action (atomRecord (tries p a)) i in
+      before (atomRecord (tries p a)) (omega arith) g
+  good-expression (atom (idle p a)) i h g =
+      let j = allowed-action (atomRecord (idle p a)) i in
+      before (atomRecord (idle p a)) (omega arith) g
+  good-expression (atom (succeeds a)) i h g =
+      let j = allowed-action (atomRecord (succeeds a)) i in
+      before (atomRecord (succeeds a)) (omega arith) g
+  good-expression (atom (fails a)) i h g =
+      let j = allowed-action (atomRecord (fails a)) i in
+      before (atomRecord (fails a)) (omega arith) g
   good-expression (seq l r) {b} {S} i h g =
       let inR = inside-expression r (inside Table.seq b) (joinRow b) (omega arith) in
       let inL = inside-expression l (afterExpression r (inside Table.seq b)) S (omega arith) in
       let whole = inside-ifEmpty l S b (h .begins) in
       let ended = inside-ifEmpty r _ _ (inL .end-inside) in
-      before Table.seq (omega arith) (good-expression r (i .1) (omega arith) (good-expression l (i .0) (omega arith) (after Table.seq (omega arith) g)))
+      before (operator Table.seq) (omega arith) (good-expression r (i .1) (omega arith) (good-expression l (i .0) (omega arith) (after (operator Table.seq) (omega arith) g)))
   good-expression (or l r) {b} {S} i h g =
       let inR = inside-expression r (inside Table.or b) S (h .begins) in
       let inL = inside-expression l (afterExpression r (inside Table.or b)) S (omega arith) in
-      good-expression r (i .1) (omega arith) (good-expression l (i .0) (omega arith) (after Table.or (omega arith) g))
+      good-expression r (i .1) (omega arith) (good-expression l (i .0) (omega arith) (after (operator Table.or) (omega arith) g))
   good-expression (star e) {b} i h g =
       let parts = inside-expression e (inside Table.star b) (joinRow b) (omega arith) in
-      before Table.star (omega arith) (good-expression e i (omega arith) (after Table.star (omega arith) g))
+      before (operator Table.star) (omega arith) (good-expression e i (omega arith) (after (operator Table.star) (omega arith) g))
 
   good-clause : (c : Clause) {b S K : ℕ} {rest : List Row} → InRange c → Within n b S K (afterClause c b)
       → GoodFrom n (afterClause c b) rest → GoodFrom n b (clauseRows c b S K rest)
   unfolding InRange afterClause outputsOf clauseRows
-  good-clause (literal duty p a) i h g = before Table.duty (omega arith) g
-  good-clause (literal ban p a) i h g = before Table.ban (omega arith) g
-  good-clause (literal power p a) i h g = before Table.power (omega arith) g
+  good-clause (literal duty p a) i h g =
+      let j = allowed-action (literalRecord duty p a) i in
+      before (literalRecord duty p a) (omega arith) g
+  good-clause (literal ban p a) i h g =
+      let j = allowed-action (literalRecord ban p a) i in
+      before (literalRecord ban p a) (omega arith) g
+  good-clause (literal power p a) i h g =
+      let j = allowed-action (literalRecord power p a) i in
+      before (literalRecord power p a) (omega arith) g
   good-clause (both l r) {b} i h g =
       inside-two l r (inside Table.both b) (omega arith) (λ inR inL.
-      before Table.both (omega arith) (good-clause r (i .1) (omega arith) (good-clause l (i .0) (omega arith) (after Table.both (omega arith) g))))
+      before (operator Table.both) (omega arith) (good-clause r (i .1) (omega arith) (good-clause l (i .0) (omega arith) (after (operator Table.both) (omega arith) g))))
   good-clause (then l r) {b} i h g =
       inside-two l r (inside Table.then b) (omega arith) (λ inR inL.
-      before Table.then (omega arith) (good-clause r (i .1) (omega arith) (good-clause l (i .0) (omega arith) (after Table.then (omega arith) g))))
+      before (operator Table.then) (omega arith) (good-clause r (i .1) (omega arith) (good-clause l (i .0) (omega arith) (after (operator Table.then) (omega arith) g))))
   good-clause (repair l r) {b} i h g =
       inside-two l r (inside Table.repair b) (omega arith) (λ inR inL.
-      before Table.repair (omega arith) (good-clause r (i .1) (omega arith) (good-clause l (i .0) (omega arith) (after Table.repair (omega arith) g))))
+      before (operator Table.repair) (omega arith) (good-clause r (i .1) (omega arith) (good-clause l (i .0) (omega arith) (after (operator Table.repair) (omega arith) g))))
   good-clause (repeat c) {b} i h g =
       let parts = inside-clause c (inside Table.repeat b) (omega arith) in
-      before Table.repeat (omega arith) (good-clause c i (omega arith) g)
+      before (operator Table.repeat) (omega arith) (good-clause c i (omega arith) g)
   good-clause (when e c) {b} {S} i h g =
       let inR = inside-clause c (inside Table.when b) (omega arith) in
       let inL = inside-expression e (afterClause c (inside Table.when b)) S (omega arith) in
-      before Table.when (omega arith) (good-clause c (i .1) (omega arith) (good-expression e (i .0) (omega arith) (after Table.when (omega arith) g)))
+      before (operator Table.when) (omega arith) (good-clause c (i .1) (omega arith) (good-expression e (i .0) (omega arith) (after (operator Table.when) (omega arith) g)))
   good-clause (until c e) {b} {S} i h g =
       let inR = inside-expression e (inside Table.until b) S (omega arith) in
       let inL = inside-clause c (afterExpression e (inside Table.until b)) (omega arith) in
-      before Table.until (omega arith)
-      (good-expression e (i .1) (omega arith) (good-clause c (i .0) (omega arith) (after Table.until (omega arith) g)))
+      before (operator Table.until) (omega arith)
+      (good-expression e (i .1) (omega arith) (good-clause c (i .0) (omega arith) (after (operator Table.until) (omega arith) g)))
 
 -- ---- the image
 
@@ -310,7 +323,7 @@ module _ (c : Clause) (i : InRange c) where
   unfolding image
   writable h =
       let l = length-rows c in
-      let m = rows-most c in
+      let m = rows-max c in
       let a = after-clause c fixedRows in
       let o = inside-clause c fixedRows (omega arith) in
       record {

@@ -1,5 +1,4 @@
 -- What a caller of the reader knows by its answer: a contract is taken exactly when its bytes spell one clause, with that clause's records.
--- Assumes nothing.
 use Prim.Native.Nat.{ℕ}
 use native.Mathlib.Omega.{arith}
 use mathlib.Core.List.{List}
@@ -9,7 +8,7 @@ use Rattle.reader.specs.declared.Fault.{Fault}
 use Rattle.reader.specs.declared.Answer.the-variants.{Refused, Taken}
 use Rattle.reader.specs.Spelling.{records, Spells}
 use Rattle.reader.specs.Reader.{Result, refused, taken, read, recordCount, answer}
-use Rattle.reader.specs.Codes.{Contract}
+use Rattle.reader.specs.Taken.{Contract}
 use Rattle.reader.proofs.Reader.{taken-spells, taken-count, spells-taken}
 
 module _ (l : List ℕ) where

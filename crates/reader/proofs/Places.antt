@@ -1,5 +1,4 @@
 -- The place of a refusal: the first record at fault, the record count where the end is at fault, and 0 where the length is.
--- Assumes nothing.
 use Prim.Native.Nat.{ℕ, zero, suc, _+_, _*_, _-_, _≤_, _<_}
 use native.Mathlib.Nat.{le-of-suc-le-suc, not-suc-le-zero, le-refl}
 use native.Mathlib.Omega.{arith}
@@ -16,8 +15,8 @@ use Rattle.reader.specs.declared.Fault.{Fault}
 use Rattle.reader.specs.declared.Fault.the-variants.{BadLength, BadMark, UnknownKind, BadField, BadOperands, NotOneClause, EmptyList}
 use Rattle.reader.specs.Limits.{maxRecords, recordBytes}
 use Rattle.reader.specs.Table.{clause, expression, kindOf, line}
-use Rattle.reader.specs.Trees.{node}
-use Rattle.reader.specs.Reader.{Result, refused, taken, next, require, demand, fieldsOf, Operand, operand, operandsOf, holdsEmptyUnder, readRecord, readRecords, justOne, recordCount, goodLength, read, ofRecord, Faultless, FirstFault}
+use Rattle.reader.specs.Trees.{goodFields, node}
+use Rattle.reader.specs.Reader.{Result, refused, taken, next, require, demand, fieldsIn, Operand, operand, operandsOf, holdsEmptyUnder, readRecord, readRecords, justOne, recordCount, goodLength, read, ofRecord, Faultless, FirstFault}
 use Rattle.reader.proofs.Nodes.{refused-taken, followed}
 use Rattle.reader.proofs.Reader.{WholeRecords, good-length}
 
@@ -46,9 +45,9 @@ unfolding readRecord
 record-at k st l =
     require-at (marked l 0 contractMark) BadMark k _ refl
     (demand-at (kindOf (getD l 2 0)) UnknownKind k _ refl
-    (λ kind. demand-at (fieldsOf kind (getD l 3 0) (getD l 4 0) (getD l 5 0)) BadField k _ refl
-    (λ f. demand-at (operandsOf (line kind .operands) st) BadOperands k _ refl
-    (λ os. require-at (not (holdsEmptyUnder (line kind .completes) (node kind f (os .trees)))) EmptyList k _ refl (taken-at k _)))))
+    (λ kind. require-at (goodFields (line kind) (fieldsIn l)) BadField k _ refl
+    (demand-at (operandsOf (line kind .operands) st) BadOperands k _ refl
+    (λ os. require-at (not (holdsEmptyUnder (line kind .completes) (node kind (fieldsIn l) (os .trees)))) EmptyList k _ refl (taken-at k _)))))
 
 -- ---- the first record that is refused
 

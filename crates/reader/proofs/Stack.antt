@@ -1,6 +1,5 @@
 -- The stack of the reader's loop: its codes from `top` on are those of the operands that the records so far leave. There are never more of
 -- them than records were read.
--- Assumes nothing.
 use Prim.Native.Nat.{ℕ, suc, _+_, _*_, _-_, _≤_, _<_}
 use native.Mathlib.Nat.{add-zero, sub-zero}
 use native.Mathlib.Numerals.{add-one}
@@ -18,8 +17,9 @@ use Rattle.reader.specs.declared.Fault.the-variants.{NotOneClause}
 use Rattle.reader.specs.declared.Step.{Step}
 use Rattle.reader.specs.declared.Step.the-variants.{Bad, Completed}
 use Rattle.reader.specs.Limits.{maxRecords, recordBytes}
+use Rattle.reader.specs.Table.{clause}
 use Rattle.reader.specs.Reader.{Operand, refused, taken, next, readRecord, readRecords, justOne, answerOf}
-use Rattle.reader.specs.Codes.{codeOf, codeAt, stepOf}
+use Rattle.reader.specs.Codes.{sortNumber, codeOf, codeAt, stepOf}
 use Rattle.reader.proofs.Codes.{Pushed, step-bad, step-completed, just-one, not-one, not-clause}
 
 -- after k of n records
@@ -123,22 +123,22 @@ module _ {l : List ℕ} {n : ℕ} {stack : List ℕ} {top k : ℕ} (r : Read l n
     ended : answerOf n (next (readRecords 0 n [] l) (justOne n)) ≡ answerOf n (justOne n (r .operands))
     ended = rw read-all
 
-    one : top ≡ 63 → length (r .operands) ≡ 1
+    one : top ≡ maxRecords - 1 → length (r .operands) ≡ 1
     one e = operand-count ∙ ap (λ (t : ℕ). maxRecords - t) e
 
     code : getD stack top 0 ≡ codeAt (r .operands) 0
     code = rw add-zero at (code-at 0)
 
-    pub ends-taken : top ≡ 63 → not (eqb (getD stack top 0) 1) ≡ false → answerOf n (next (readRecords 0 n [] l) (justOne n)) ≡ Taken n
+    pub ends-taken : top ≡ maxRecords - 1 → not (eqb (getD stack top 0) (sortNumber clause)) ≡ false → answerOf n (next (readRecords 0 n [] l) (justOne n)) ≡ Taken n
     ends-taken e c =
-        ended ∙ just-one n (r .operands) (one e) (sym code ∙ eqb-true (getD stack top 0) 1 (not-false _ c))
+        ended ∙ just-one n (r .operands) (one e) (sym code ∙ eqb-true (getD stack top 0) (sortNumber clause) (not-false _ c))
 
-    pub ends-many : ¬ (top ≡ 63) → answerOf n (next (readRecords 0 n [] l) (justOne n)) ≡ Refused NotOneClause n
+    pub ends-many : ¬ (top ≡ maxRecords - 1) → answerOf n (next (readRecords 0 n [] l) (justOne n)) ≡ Refused NotOneClause n
     ends-many e =
         let count : length (r .operands) ≡ maxRecords - top = operand-count in
         ended ∙ not-one n (r .operands) (λ i. e (omega (arith, r .inside)))
 
-    pub ends-unmet : top ≡ 63 → not (eqb (getD stack top 0) 1) ≡ true
+    pub ends-unmet : top ≡ maxRecords - 1 → not (eqb (getD stack top 0) (sortNumber clause)) ≡ true
         → answerOf n (next (readRecords 0 n [] l) (justOne n)) ≡ Refused NotOneClause n
     ends-unmet e c =
-        ended ∙ not-clause n (r .operands) (one e) (λ i. eqb-false (getD stack top 0) 1 (not-true _ c) (code ∙ i))
+        ended ∙ not-clause n (r .operands) (one e) (λ i. eqb-false (getD stack top 0) (sortNumber clause) (not-true _ c) (code ∙ i))

@@ -8,8 +8,6 @@ use mathlib.Core.Path.{_≡_}
 use lib.Dec.{eqb, ltb, leb}
 use lib.ListN.{length, take, drop, getD}
 use Rattle.records.specs.Marks.{contractMark, marked}
-use Rattle.periods.specs.Limits.{actions}
-use Rattle.periods.specs.Periods.{Party, partyOf}
 use Rattle.contract.specs.Expressions.{holdsEmpty}
 use Rattle.contract.specs.Meaning.{Clause, literal, both, then, repair, repeat, when, until}
 use Rattle.reader.specs.declared.Fault.{Fault}
@@ -18,7 +16,7 @@ use Rattle.reader.specs.declared.Answer.{Answer}
 use Rattle.reader.specs.declared.Answer.the-variants.{Refused, Taken}
 use Rattle.reader.specs.Limits.{maxRecords, recordBytes}
 use Rattle.reader.specs.Table.{Sort, clause, expression, Kind, kindOf, line}
-use Rattle.reader.specs.Trees.{Tree, Trees, Used, Fields, node}
+use Rattle.reader.specs.Trees.{Tree, Trees, Fields, goodFields, node}
 
 -- a fault's number among the refusals
 abbrev pub faultNumber : Fault → ℕ
@@ -51,24 +49,9 @@ demand (some x) f k g = g x
 
 -- ---- 4: the fields
 
--- "party (1 or 2)", and 0 where it is not used
-abbrev pub partyField : (used : Bool) → ℕ → Option (Used used Party)
-partyField true n = partyOf n
-partyField false n = cond (eqb n 0) (some tt) none
-
--- "action (0 to 15)", and 0 where it is not used
-abbrev pub actionField : (used : Bool) → ℕ → Option (Used used ℕ)
-actionField true n = cond (ltb n actions) (some n) none
-actionField false n = cond (eqb n 0) (some tt) none
-
-abbrev pub fieldsFrom : (k : Kind) → Option (Used (line k .usesParty) Party) → Option (Used (line k .usesAction) ℕ) → Option (Fields k)
-fieldsFrom k none a = none
-fieldsFrom k (some p) none = none
-fieldsFrom k (some p) (some a) = some (record { party = p; action = a })
-
--- a record's fields; the last byte is 0, since no kind uses it
-unfoldable pub fieldsOf : (k : Kind) → (party action last : ℕ) → Option (Fields k)
-fieldsOf k p a z = cond (eqb z 0) (fieldsFrom k (partyField (line k .usesParty) p) (actionField (line k .usesAction) a)) none
+-- those of the record that stands first in the bytes
+abbrev pub fieldsIn : List ℕ → Fields
+fieldsIn l = record { party = getD l 3 0; action = getD l 4 0; last = getD l 5 0 }
 
 -- ---- 5: the operands
 
@@ -125,9 +108,9 @@ unfoldable pub readRecord : (k : ℕ) → List Operand → List ℕ → Result (
 readRecord k st l =
     require (marked l 0 contractMark) BadMark k
     (demand (kindOf (getD l 2 0)) UnknownKind k
-    (λ kind. demand (fieldsOf kind (getD l 3 0) (getD l 4 0) (getD l 5 0)) BadField k
-    (λ fields. demand (operandsOf (line kind .operands) st) BadOperands k
-    (λ os. push k (line kind .completes) (node kind fields (os .trees)) (os .rest)))))
+    (λ kind. require (goodFields (line kind) (fieldsIn l)) BadField k
+    (demand (operandsOf (line kind .operands) st) BadOperands k
+    (λ os. push k (line kind .completes) (node kind (fieldsIn l) (os .trees)) (os .rest)))))
 
 -- the stack after n records, the first of which is record k
 unfoldable pub readRecords : (k n : ℕ) → List Operand → List ℕ → Result (List Operand)

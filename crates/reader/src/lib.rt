@@ -4,9 +4,9 @@ ghost use mathlib.Core.List.{[]};
 ghost use Prim.Native.Nat.{_+_, _≤_};
 ghost use lib.ListN.{length, drop, getD};
 ghost use Rattle.reader.specs.Limits.{recordBytes};
-ghost use Rattle.reader.specs.Table.{kindOf};
+ghost use Rattle.reader.specs.Table.{within, kindOf};
 ghost use Rattle.reader.specs.Reader.{faultNumber, numberOf, placeOf, next, readRecords, justOne, answerOf, answer};
-ghost use Rattle.reader.specs.Codes.{lookupOf, operandCount, goodParty, goodAction, goodFields, expressionCode, sortOf, goodOperands, emptyUnder, completed, stepOf, HasRecords};
+ghost use Rattle.reader.specs.Codes.{named, lookupOf, operandCount, inRanges, expressionCode, sortOf, goodOperands, emptyUnder, completed, stepOf, HasRecords};
 
 // The most records of a contract.
 pub const MAX_RECORDS: usize = 64;
@@ -78,30 +78,78 @@ const EXPRESSION: u8 = 2;
 // The code of an expression that holds the empty list.
 pub const EMPTY: u8 = 3;
 
-// A line of the table: how many operands, the sorts of the first and the second in the order in which they are read, whether the party is
-// used, and whether the action is.
-pub struct Entry(pub u8, pub u8, pub u8, pub bool, pub bool);
+// What a field may be: a number from the least to the greatest.
+pub struct Range {
+    pub least: u8,
+    pub greatest: u8,
+}
+
+// A field that a kind does not use, a party, an action.
+const UNUSED: Range = Range {
+    least: 0,
+    greatest: 0,
+};
+
+const PARTY: Range = Range {
+    least: 1,
+    greatest: 2,
+};
+
+const ACTION: Range = Range {
+    least: 0,
+    greatest: periods::ACTIONS as u8 - 1,
+};
+
+// A line of the table, in the order of an entry's fields.
+pub struct EntryLine(pub u8, pub u8, pub u8, pub Range, pub Range, pub Range);
 
 // A line for each of the kinds 1 to 9, then 16 to 23.
-const TABLE: [Entry; 17] = [
-    Entry(0, NONE, NONE, true, true), // 1 duty
-    Entry(0, NONE, NONE, true, true), // 2 ban
-    Entry(0, NONE, NONE, true, true), // 3 power
-    Entry(2, CLAUSE, CLAUSE, false, false), // 4 both
-    Entry(2, CLAUSE, CLAUSE, false, false), // 5 then
-    Entry(2, CLAUSE, CLAUSE, false, false), // 6 repair
-    Entry(1, CLAUSE, NONE, false, false), // 7 repeat
-    Entry(2, EXPRESSION, CLAUSE, false, false), // 8 when
-    Entry(2, CLAUSE, EXPRESSION, false, false), // 9 until
-    Entry(0, NONE, NONE, false, false), // 16 any
-    Entry(0, NONE, NONE, true, true), // 17 tries
-    Entry(0, NONE, NONE, true, true), // 18 idle
-    Entry(0, NONE, NONE, false, true), // 19 succeeds
-    Entry(0, NONE, NONE, false, true), // 20 fails
-    Entry(2, EXPRESSION, EXPRESSION, false, false), // 21 seq
-    Entry(2, EXPRESSION, EXPRESSION, false, false), // 22 or
-    Entry(1, EXPRESSION, NONE, false, false), // 23 star
+const TABLE: [EntryLine; 17] = [
+    EntryLine(0, NONE, NONE, PARTY, ACTION, UNUSED), // 1 duty
+    EntryLine(0, NONE, NONE, PARTY, ACTION, UNUSED), // 2 ban
+    EntryLine(0, NONE, NONE, PARTY, ACTION, UNUSED), // 3 power
+    EntryLine(2, CLAUSE, CLAUSE, UNUSED, UNUSED, UNUSED), // 4 both
+    EntryLine(2, CLAUSE, CLAUSE, UNUSED, UNUSED, UNUSED), // 5 then
+    EntryLine(2, CLAUSE, CLAUSE, UNUSED, UNUSED, UNUSED), // 6 repair
+    EntryLine(1, CLAUSE, NONE, UNUSED, UNUSED, UNUSED), // 7 repeat
+    EntryLine(2, EXPRESSION, CLAUSE, UNUSED, UNUSED, UNUSED), // 8 when
+    EntryLine(2, CLAUSE, EXPRESSION, UNUSED, UNUSED, UNUSED), // 9 until
+    EntryLine(0, NONE, NONE, UNUSED, UNUSED, UNUSED), // 16 any
+    EntryLine(0, NONE, NONE, PARTY, ACTION, UNUSED), // 17 tries
+    EntryLine(0, NONE, NONE, PARTY, ACTION, UNUSED), // 18 idle
+    EntryLine(0, NONE, NONE, UNUSED, ACTION, UNUSED), // 19 succeeds
+    EntryLine(0, NONE, NONE, UNUSED, ACTION, UNUSED), // 20 fails
+    EntryLine(2, EXPRESSION, EXPRESSION, UNUSED, UNUSED, UNUSED), // 21 seq
+    EntryLine(2, EXPRESSION, EXPRESSION, UNUSED, UNUSED, UNUSED), // 22 or
+    EntryLine(1, EXPRESSION, NONE, UNUSED, UNUSED, UNUSED), // 23 star
 ];
+
+// What a line says of its kind: how many operands, the sorts of the first and the second in the order in which they are read, and the ranges
+// of the party, the action and the last byte.
+pub struct Entry {
+    pub operands: u8,
+    pub first: u8,
+    pub second: u8,
+    pub party: Range,
+    pub action: Range,
+    pub last: Range,
+}
+
+fn named(l: EntryLine) -> Entry
+    ensures { λ r. ⌜ r ≡ named l ⌝ }
+{
+    let party = l.3;
+    let action = l.4;
+    let last = l.5;
+    Entry {
+        operands: l.0,
+        first: l.1,
+        second: l.2,
+        party: party,
+        action: action,
+        last: last,
+    }
+}
 
 // What the table has for a kind's number.
 pub enum Lookup {
@@ -113,8 +161,8 @@ fn entry_of(kind: u8) -> Lookup
     ensures { λ r. ⌜ r ≡ lookupOf (kindOf kind) ⌝ }
 {
     match kind {
-        1..=9 => Lookup::Found(TABLE[kind as usize - 1]),
-        16..=23 => Lookup::Found(TABLE[kind as usize - 7]),
+        1..=9 => Lookup::Found(named(TABLE[kind as usize - 1])),
+        16..=23 => Lookup::Found(named(TABLE[kind as usize - 7])),
         _ => Lookup::Unknown,
     }
 }
@@ -125,44 +173,30 @@ pub fn operands(kind: u8) -> u8
 {
     let found = entry_of(kind);
     match found {
-        Lookup::Found(e) => e.0,
+        Lookup::Found(e) => e.operands,
         Lookup::Unknown => 0,
     }
 }
 
 // ---- a record
 
-fn good_party(used: bool, party: u8) -> bool
-    ensures { λ r. ⌜ r ≡ goodParty used party ⌝ }
+fn within(range: Range, x: u8) -> bool
+    ensures { λ r. ⌜ r ≡ within range x ⌝ }
 {
-    match party {
-        0 => !used,
-        1..=2 => used,
-        _ => false,
-    }
+    range.least <= x && x <= range.greatest
 }
 
-fn good_action(used: bool, action: u8) -> bool
-    ensures { λ r. ⌜ r ≡ goodAction used action ⌝ }
-{
-    if used {
-        periods::is_action(records::wide(action))
-    } else {
-        action == 0
-    }
-}
-
-// Whether the fields that a kind uses are in range, and the others 0.
+// Whether each field is one that the kind allows.
 fn good_fields(e: Entry, party: u8, action: u8, last: u8) -> bool
-    ensures { λ r. ⌜ r ≡ goodFields e party action last ⌝ }
+    ensures { λ r. ⌜ r ≡ inRanges e party action last ⌝ }
 {
-    if !good_party(e.3, party) {
+    if !within(e.party, party) {
         return false;
     }
-    if !good_action(e.4, action) {
+    if !within(e.action, action) {
         return false;
     }
-    last == 0
+    within(e.last, last)
 }
 
 // The sort of an operand's code.
@@ -176,11 +210,11 @@ fn sort(code: u8) -> u8
 fn good_operands(e: Entry, below: u8, top: u8) -> bool
     ensures { λ r. ⌜ r ≡ goodOperands e below top ⌝ }
 {
-    let operands = e.0;
+    let operands = e.operands;
     match operands {
         0 => true,
-        1 => sort(top) == e.1,
-        _ => sort(below) == e.1 && sort(top) == e.2,
+        1 => sort(top) == e.first,
+        _ => sort(below) == e.first && sort(top) == e.second,
     }
 }
 
@@ -243,7 +277,7 @@ fn read_record(contract: &[u8], at: usize, below: u8, top: u8) -> Step
     if empty_under(kind, below, top) {
         return Step::Bad(Fault::EmptyList);
     }
-    Step::Completed(e.0, completed(kind, below, top))
+    Step::Completed(e.operands, completed(kind, below, top))
 }
 
 // ---- the contract

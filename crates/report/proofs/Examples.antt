@@ -7,9 +7,9 @@ use Rattle.periods.specs.Periods.{tries, bit, periodAt}
 use Rattle.periods.specs.Traces.{recordCount, marksTest, traceTest, periodsOf}
 use Rattle.contract.specs.Meaning.{meaning, repeatMeaning}
 use Rattle.reader.specs.Table.{numbered, kindOf}
-use Rattle.reader.specs.Trees.{node}
+use Rattle.reader.specs.Trees.{goodFields, node}
 use Rattle.reader.specs.Reader as Reader
-use Rattle.reader.specs.Reader.{fieldsOf, operandsOf, readRecord, readRecords, read}
+use Rattle.reader.specs.Reader.{operandsOf, readRecord, readRecords, read}
 use Rattle.report.specs.Texts.{digits, decimal, periodLine, decidedLine, refusedLine}
 use Rattle.report.specs.Split.{firstPeriod, contractLength}
 use Rattle.report.specs.Reports.{meantLine, periodLines, lines, onTrace, report}
@@ -19,7 +19,7 @@ use Rattle.report.proofs.Reports.{longer}
 pub report-vectors : ReportVectors
 unfolding
     report contractLength firstPeriod firstFailing recordCount marked read Reader.goodLength Reader.recordCount readRecords readRecord numbered
-    kindOf fieldsOf operandsOf node onTrace traceTest marksTest lines periodLines meantLine periodsOf periodAt field value meaning repeatMeaning
+    kindOf goodFields operandsOf node onTrace traceTest marksTest lines periodLines meantLine periodsOf periodAt field value meaning repeatMeaning
     tries bit periodLine decidedLine refusedLine decimal digits
 report-vectors =
     record {

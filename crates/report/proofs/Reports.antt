@@ -36,7 +36,7 @@ use Rattle.reader.specs.Reader as Reader
 use Rattle.reader.specs.Reader.{Result, refused, taken, faultNumber, read}
 use Rattle.reader.proofs.Reader.{taken-count, taken-spells}
 use Rattle.reader.proofs.Places.{place-most}
-use Rattle.image.specs.Widths.{bufferBytes}
+use Rattle.image.specs.Limits.{bufferBytes}
 use Rattle.image.specs.Images.{image}
 use Rattle.image.specs.Monitors.{Monitors}
 use Rattle.compiler.specs.Calls.{compileReply, compileReplyBytes, compile, Usable}

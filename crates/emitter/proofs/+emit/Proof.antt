@@ -1,23 +1,22 @@
 -- `emitter::emit` meets its contract: with the rows of the operands written, the record's own rows round them are the tree's.
 -- The measure is the number of records.
--- Assumes nothing.
 use Prim.Native.Nat.{ℕ, _+_, _*_, _-_, _<_}
 use native.Mathlib.Omega.{arith}
 use mathlib.Core.Path.{_≡_, refl, _∙_}
-use lib.ListN.{getD, length}
+use lib.ListN.{length}
 use borrow.Author.Needs.{needs}
 use borrow.Fn.Kinds.{In}
 use borrow.Fn.PlainCycle.{Measures, is, falls, and}
-use Rattle.records.proofs.wide.Reads as wide-reads
-use Rattle.reader.specs.Limits.{recordBytes}
 use Rattle.reader.specs.Table.{kindOf}
 use Rattle.reader.proofs.Codes.{operandCount-most}
 use Rattle.reader.proofs.operands.Reads as operands-reads
-use Rattle.emitter.specs.Plans.{wiresOf, Emitted}
+use Rattle.emitter.specs.Blocks.{wiresOf, Emitted}
 use Rattle.emitter.proofs.emit.Reads as emit
 use Rattle.emitter.proofs.emit.Kinds as emit-kinds
-use Rattle.emitter.proofs.Emitting.{Reads, Written, some-record, few-inside, wires-small, right-emits, left-emits, record-rows, written-no, written-one, written-two, emitted}
+use Rattle.emitter.proofs.Emitting.{Reads, Written, written-no, written-one, written-two, emitted}
+use Rattle.emitter.proofs.Room.{some-record, few-inside, wires-small, right-emits, left-emits, record-rows}
 use Rattle.emitter.proofs.+emit.Lts-emit as emit-lts
+use Rattle.emitter.proofs.last_record.Reads as last-record-reads
 use Rattle.emitter.proofs.no_block.Reads as no-block-reads
 use Rattle.emitter.proofs.plan_of.Reads as plan-of-reads
 use Rattle.emitter.proofs.put_record.Reads as put-record-reads
@@ -37,8 +36,8 @@ emit-below t = and 2 emit-kinds.ps (falls 2 emit-kinds.ps _<_ μ-emit t) emit.Pr
 -- what is known of the functions that it calls
 abbrev callees : ℕ → emit-lts.Claims
 callees t = (
-  wide-reads.Asked,
-  wide-reads.Learnt,
+  last-record-reads.Asked,
+  last-record-reads.Learnt,
   plan-of-reads.Asked,
   plan-of-reads.Learnt,
   operands-reads.Asked,
@@ -53,67 +52,31 @@ callees t = (
   emit.Post,
 )
 
--- what the record holds, its plan and how many operands it has
+-- the last record, its plan and how many operands it has
 reads : (t : ℕ) (c : emit-lts.After-struct-known (callees t) (emit-at t) emit.Post)
-    → let a = c .before .before .before .before .before .before .before .before .before .before .args in
-    Reads (a .contract .now) (a .n) (getD (a .contract .now) (recordBytes * (a .n - 1) + 2) 0) (c .before .before .before .before .before .wide .result)
-    (c .before .before .before .wide2 .result) (c .before .operands .result) (c .before .before .plan-of .result)
+    → let a = c .before .before .before .before .before .before .args in
+    let last = c .before .before .before .last-record .result in
+    Reads (a .contract .now) (a .n) last (c .before .operands .result) (c .before .before .plan-of .result)
 reads t c =
     record {
-      kind-is = refl;
-      party-is = c .before .before .before .before .before .wide .ensures .0;
-      action-is = c .before .before .before .wide2 .ensures .0;
+      bytes-are = c .before .before .before .last-record .ensures;
       plan-is = c .before .before .plan-of .ensures;
       count-is = c .before .operands .ensures;
     }
 
-emit-sub-last : (t : ℕ) → emit-lts.Need-sub-last (callees t) (emit-at t) emit.Post
-emit-sub-last t c = some-record (c .before .before .pre .1) .0
+-- its party and action are bytes
+byte-fields : (t : ℕ) (c : emit-lts.After-struct-known (callees t) (emit-at t) emit.Post)
+    → let last = c .before .before .before .last-record .result in
+    (last .party < 256) × (last .action < 256)
+byte-fields t c =
+    let ok = c .before .before .before .last-record .ok in
+    (omega arith, omega arith)
 
-emit-mul-start : (t : ℕ) → emit-lts.Need-mul-start (callees t) (emit-at t) emit.Post
-emit-mul-start t c =
-    let h = some-record (c .before .before .pre .1) in
-    let g = c .before .before .good .0 in
-    record { fits = omega arith }
+emit-last-record-requires : (t : ℕ) → emit-lts.Need-last-record-requires (callees t) (emit-at t) emit.Post
+emit-last-record-requires t c κs = some-record (c .before .before .pre .1)
 
-emit-add-kind : (t : ℕ) → emit-lts.Need-add-kind (callees t) (emit-at t) emit.Post
-emit-add-kind t c =
-    let h = some-record (c .before .before .pre .1) in
-    let g = c .before .before .good .0 in
-    record { fits = omega arith }
-
-emit-shared-slice-read-kind : (t : ℕ) → emit-lts.Need-shared-slice-read-kind (callees t) (emit-at t) emit.Post
-emit-shared-slice-read-kind t c =
-    let h = some-record (c .before .before .before .pre .1) in
-    omega arith
-
-emit-add-wide : (t : ℕ) → emit-lts.Need-add-wide (callees t) (emit-at t) emit.Post
-emit-add-wide t c =
-    let h = some-record (c .before .before .before .pre .1) in
-    let g = c .before .before .before .good .0 in
-    record { fits = omega arith }
-
-emit-shared-slice-read-wide : (t : ℕ) → emit-lts.Need-shared-slice-read-wide (callees t) (emit-at t) emit.Post
-emit-shared-slice-read-wide t c =
-    let h = some-record (c .before .before .before .before .pre .1) in
-    omega arith
-
-emit-wide-requires : (t : ℕ) → emit-lts.Need-wide-requires (callees t) (emit-at t) emit.Post
-emit-wide-requires t c κs = search needs
-
-emit-add-wide-2 : (t : ℕ) → emit-lts.Need-add-wide-2 (callees t) (emit-at t) emit.Post
-emit-add-wide-2 t c =
-    let h = some-record (c .before .before .before .before .before .pre .1) in
-    let g = c .before .before .before .before .before .good .0 in
-    record { fits = omega arith }
-
-emit-shared-slice-read-wide-2 : (t : ℕ) → emit-lts.Need-shared-slice-read-wide-2 (callees t) (emit-at t) emit.Post
-emit-shared-slice-read-wide-2 t c =
-    let h = some-record (c .before .before .before .before .before .before .pre .1) in
-    omega arith
-
-emit-wide-requires-2 : (t : ℕ) → emit-lts.Need-wide-requires-2 (callees t) (emit-at t) emit.Post
-emit-wide-requires-2 t c κs = search needs
+emit-sub-before : (t : ℕ) → emit-lts.Need-sub-before (callees t) (emit-at t) emit.Post
+emit-sub-before t c = some-record (c .before .before .before .pre .1) .0
 
 emit-plan-of-requires : (t : ℕ) → emit-lts.Need-plan-of-requires (callees t) (emit-at t) emit.Post
 emit-plan-of-requires t c κs = search needs
@@ -122,10 +85,10 @@ emit-operands-requires : (t : ℕ) → emit-lts.Need-operands-requires (callees 
 emit-operands-requires t c κs = search needs
 
 emit-cast-inside : (t : ℕ) → emit-lts.Need-cast-inside (callees t) (emit-at t) emit.Post
-emit-cast-inside t c = let h = few-inside (c .before .before .before .before .before .before .before .before .before .before .pre .1) (reads t c) in record { fits = omega arith }
+emit-cast-inside t c = let h = few-inside (c .before .before .before .before .before .before .pre .1) (reads t c) in record { fits = omega arith }
 
 emit-add-inside : (t : ℕ) → emit-lts.Need-add-inside (callees t) (emit-at t) emit.Post
-emit-add-inside t c = let h = few-inside (c .before .before .before .before .before .before .before .before .before .before .pre .1) (reads t c) in record { fits = omega arith }
+emit-add-inside t c = let h = few-inside (c .before .before .before .before .before .before .pre .1) (reads t c) in record { fits = omega arith }
 
 emit-no-block-requires : (t : ℕ) → emit-lts.Need-no-block-requires (callees t) (emit-at t) emit.Post
 emit-no-block-requires t c κs = search needs
@@ -133,7 +96,7 @@ emit-no-block-requires t c κs = search needs
 -- without operands
 written-none-at : (t : ℕ) (c : emit-lts.After-put-record-arg (callees t) (emit-at t) emit.Post)
     → let p = c .before .before .before in
-    let a = p .before .before .before .before .before .before .before .before .before .before .args in
+    let a = p .before .before .before .before .before .before .args in
     Written (a .contract .now) (a .n - 1) (p .before .operands .result) (a .image .now) (a .at + p .before .before .plan-of .result .before) (a .s)
     (wiresOf (p .before .before .plan-of .result) (a .at) (a .s) (a .k)) (a .image .now) (c .before .no-block .result) (c .before .no-block .result)
 written-none-at t c = rw (c .before .before .if1 .taken, c .before .no-block .ensures) written-no
@@ -141,7 +104,7 @@ written-none-at t c = rw (c .before .before .if1 .taken, c .before .no-block .en
 emit-put-record-requires : (t : ℕ) → emit-lts.Need-put-record-requires (callees t) (emit-at t) emit.Post
 emit-put-record-requires t c κs =
     let p = c .before .before .before in
-    record-rows (p .before .before .before .before .before .before .before .before .before .before .pre .1) (reads t p) (written-none-at t c) refl (p .before .before .before .before .before .wide .ensures .1) (p .before .before .before .wide2 .ensures .1)
+    record-rows (p .before .before .before .before .before .before .pre .1) (reads t p) (written-none-at t c) refl (byte-fields t p)
 
 emit-same-length : (t : ℕ) → emit-lts.Need-same-length (callees t) (emit-at t) emit.Post
 emit-same-length t c = search needs
@@ -150,17 +113,17 @@ emit-returns : (t : ℕ) → emit-lts.Need-returns (callees t) (emit-at t) emit.
 emit-returns t c =
     let q = c .before .before .before in
     let p = q .before .before .before in
-    let a = p .before .before .before .before .before .before .before .before .before .before .args in
+    let a = p .before .before .before .before .before .before .args in
     let r = c .before .before .put-record in
     emitted (reads t p) (a .at) (a .s) (a .k) (written-none-at t q) (r .ensures .0) (r .ensures .1)
 
 emit-wires-of-requires : (t : ℕ) → emit-lts.Need-wires-of-requires (callees t) (emit-at t) emit.Post
-emit-wires-of-requires t c κs = wires-small (c .before .before .before .before .before .before .before .before .before .before .before .pre .1) (reads t (c .before))
+emit-wires-of-requires t c κs = wires-small (c .before .before .before .before .before .before .before .pre .1) (reads t (c .before))
 
 emit-emit-requires : (t : ℕ) → emit-lts.Need-emit-requires (callees t) (emit-at t) emit.Post
 emit-emit-requires t c κs =
     let p = c .before .before .before in
-    let pre = p .before .before .before .before .before .before .before .before .before .before .pre in
+    let pre = p .before .before .before .before .before .before .pre in
     let h = some-record (pre .1) .0 in
     let m = pre .0 in
     (omega arith, rw (c .before .wires-of .ensures) (right-emits (pre .1) (reads t p) (c .before .before .if1 .left)))
@@ -168,14 +131,14 @@ emit-emit-requires t c κs =
 -- the right operand's rows, or the only one's
 right-at : (t : ℕ) (c : emit-lts.After-emit (callees t) (emit-at t) emit.Post)
     → let p = c .before .before .before .before in
-    let a = p .before .before .before .before .before .before .before .before .before .before .args in
+    let a = p .before .before .before .before .before .before .args in
     let w = wiresOf (p .before .before .plan-of .result) (a .at) (a .s) (a .k) in
     Emitted (a .contract .now) (a .n - 1) (a .image .now) (a .at + p .before .before .plan-of .result .before) (w .start) (w .go) (c .emit .last .1 .1 .0)
     (c .emit .result)
 right-at t c = rw (← c .before .before .wires-of .ensures) (c .emit .ensures)
 
 right-length : (t : ℕ) (c : emit-lts.After-emit (callees t) (emit-at t) emit.Post)
-    → length (c .emit .last .1 .1 .0) ≡ length (c .before .before .before .before .before .before .before .before .before .before .before .before .before .before .args .image .now)
+    → length (c .emit .last .1 .1 .0) ≡ length (c .before .before .before .before .before .before .before .before .before .before .args .image .now)
 right-length t c = c .emit .kept .1 .1 .0
 
 emit-no-block-requires-2 : (t : ℕ) → emit-lts.Need-no-block-requires-2 (callees t) (emit-at t) emit.Post
@@ -185,7 +148,7 @@ emit-no-block-requires-2 t c κs = search needs
 written-one-at : (t : ℕ) (c : emit-lts.After-put-record-arg2 (callees t) (emit-at t) emit.Post)
     → let r = c .before .before .before .before .before in
     let p = r .before .before .before .before in
-    let a = p .before .before .before .before .before .before .before .before .before .before .args in
+    let a = p .before .before .before .before .before .before .args in
     Written (a .contract .now) (a .n - 1) (p .before .operands .result) (a .image .now) (a .at + p .before .before .plan-of .result .before) (a .s)
     (wiresOf (p .before .before .plan-of .result) (a .at) (a .s) (a .k)) (r .emit .last .1 .1 .0) (c .before .no-block2 .result) (r .emit .result)
 written-one-at t c = rw (c .before .before .if2 .taken, c .before .no-block2 .ensures) (written-one (right-at t (c .before .before .before .before .before)))
@@ -194,7 +157,7 @@ emit-put-record-requires-2 : (t : ℕ) → emit-lts.Need-put-record-requires-2 (
 emit-put-record-requires-2 t c κs =
     let r = c .before .before .before .before .before in
     let p = r .before .before .before .before in
-    record-rows (p .before .before .before .before .before .before .before .before .before .before .pre .1) (reads t p) (written-one-at t c) (right-length t r) (p .before .before .before .before .before .wide .ensures .1) (p .before .before .before .wide2 .ensures .1)
+    record-rows (p .before .before .before .before .before .before .pre .1) (reads t p) (written-one-at t c) (right-length t r) (byte-fields t p)
 
 emit-same-length-2 : (t : ℕ) → emit-lts.Need-same-length-2 (callees t) (emit-at t) emit.Post
 emit-same-length-2 t c = search needs
@@ -203,7 +166,7 @@ emit-returns-2 : (t : ℕ) → emit-lts.Need-returns-2 (callees t) (emit-at t) e
 emit-returns-2 t c =
     let q = c .before .before .before in
     let p = q .before .before .before .before .before .before .before .before .before in
-    let a = p .before .before .before .before .before .before .before .before .before .before .args in
+    let a = p .before .before .before .before .before .before .args in
     let r = c .before .before .put-record2 in
     emitted (reads t p) (a .at) (a .s) (a .k) (written-one-at t q) (r .ensures .0) (r .ensures .1)
 
@@ -211,7 +174,7 @@ emit-emit-requires-2 : (t : ℕ) → emit-lts.Need-emit-requires-2 (callees t) (
 emit-emit-requires-2 t c κs =
     let r = c .before .before .before .before in
     let p = r .before .before .before .before in
-    let pre = p .before .before .before .before .before .before .before .before .before .before .pre in
+    let pre = p .before .before .before .before .before .before .pre in
     let h = some-record (pre .1) .0 in
     let m = pre .0 in
     let l = left-emits (pre .1) (reads t p) (r .before .before .before .if1 .left) (c .before .if2 .left) (right-at t r) (right-length t r) in
@@ -221,14 +184,14 @@ emit-emit-requires-2 t c κs =
 left-at : (t : ℕ) (c : emit-lts.After-emit2 (callees t) (emit-at t) emit.Post)
     → let r = c .before .before .before .before .before in
     let p = r .before .before .before .before in
-    let a = p .before .before .before .before .before .before .before .before .before .before .args in
+    let a = p .before .before .before .before .before .before .args in
     let w = wiresOf (p .before .before .plan-of .result) (a .at) (a .s) (a .k) in
     Emitted (a .contract .now) (r .emit .result .before) (r .emit .last .1 .1 .0) (r .emit .result .next) (a .s) (w .keep) (c .emit2 .last .1 .1 .0)
     (c .emit2 .result)
 left-at t c = rw (← c .before .before .before .before .before .before .before .wires-of .ensures) (c .emit2 .ensures)
 
 left-length : (t : ℕ) (c : emit-lts.After-emit2 (callees t) (emit-at t) emit.Post)
-    → length (c .emit2 .last .1 .1 .0) ≡ length (c .before .before .before .before .before .before .before .before .before .before .before .before .before .before .before .before .before .before .before .args .image .now)
+    → length (c .emit2 .last .1 .1 .0) ≡ length (c .before .before .before .before .before .before .before .before .before .before .before .before .before .before .before .args .image .now)
 left-length t c = c .emit2 .kept .1 .1 .0 ∙ right-length t (c .before .before .before .before .before)
 
 two-operands : (t : ℕ) (c : emit-lts.After-emit2 (callees t) (emit-at t) emit.Post) → c .before .before .before .before .before .before .before .before .before .before .operands .result ≡ 2
@@ -237,14 +200,14 @@ two-operands t c =
     let p = r .before .before .before .before in
     let h = r .before .before .before .if1 .left in
     let i = c .before .before .if2 .left in
-    let m = operandCount-most (kindOf (getD (p .before .before .before .before .before .before .before .before .before .before .args .contract .now) (recordBytes * (p .before .before .before .before .before .before .before .before .before .before .args .n - 1) + 2) 0)) in
+    let m = operandCount-most (kindOf (p .before .before .before .last-record .result .kind)) in
     let e = p .before .operands .ensures in
     omega arith
 
 written-two-at : (t : ℕ) (c : emit-lts.After-emit2 (callees t) (emit-at t) emit.Post)
     → let r = c .before .before .before .before .before in
     let p = r .before .before .before .before in
-    let a = p .before .before .before .before .before .before .before .before .before .before .args in
+    let a = p .before .before .before .before .before .before .args in
     Written (a .contract .now) (a .n - 1) (p .before .operands .result) (a .image .now) (a .at + p .before .before .plan-of .result .before) (a .s)
     (wiresOf (p .before .before .plan-of .result) (a .at) (a .s) (a .k)) (c .emit2 .last .1 .1 .0) (c .emit2 .result) (r .emit .result)
 written-two-at t c = rw (two-operands t c) (written-two (right-at t (c .before .before .before .before .before)) (left-at t c))
@@ -253,7 +216,7 @@ emit-put-record-requires-3 : (t : ℕ) → emit-lts.Need-put-record-requires-3 (
 emit-put-record-requires-3 t c κs =
     let l = c .before .before .before in
     let p = l .before .before .before .before .before .before .before .before .before in
-    record-rows (p .before .before .before .before .before .before .before .before .before .before .pre .1) (reads t p) (written-two-at t l) (left-length t l) (p .before .before .before .before .before .wide .ensures .1) (p .before .before .before .wide2 .ensures .1)
+    record-rows (p .before .before .before .before .before .before .pre .1) (reads t p) (written-two-at t l) (left-length t l) (byte-fields t p)
 
 emit-same-length-3 : (t : ℕ) → emit-lts.Need-same-length-3 (callees t) (emit-at t) emit.Post
 emit-same-length-3 t c = search needs
@@ -262,7 +225,7 @@ emit-returns-3 : (t : ℕ) → emit-lts.Need-returns-3 (callees t) (emit-at t) e
 emit-returns-3 t c =
     let l = c .before .before .before .before .before .before in
     let p = l .before .before .before .before .before .before .before .before .before in
-    let a = p .before .before .before .before .before .before .before .before .before .before .args in
+    let a = p .before .before .before .before .before .before .args in
     let r = c .before .before .put-record3 in
     emitted (reads t p) (a .at) (a .s) (a .k) (written-two-at t l) (r .ensures .0) (r .ensures .1)
 
@@ -270,16 +233,8 @@ pub +emit-spec : {M : Type 1} → statement M
 +emit-spec = close μ-emit λ t. emit-lts.spec (callees t)
     (emit-at t)
     emit.Post
-    (emit-sub-last t)
-    (emit-mul-start t)
-    (emit-add-kind t)
-    (emit-shared-slice-read-kind t)
-    (emit-add-wide t)
-    (emit-shared-slice-read-wide t)
-    (emit-wide-requires t)
-    (emit-add-wide-2 t)
-    (emit-shared-slice-read-wide-2 t)
-    (emit-wide-requires-2 t)
+    (emit-last-record-requires t)
+    (emit-sub-before t)
     (emit-plan-of-requires t)
     (emit-operands-requires t)
     (emit-cast-inside t)

@@ -1,5 +1,4 @@
 -- `emitter::bases` meets its contract: each number stands where the definition has it.
--- Assumes nothing.
 use borrow.Author.Needs.{needs}
 use Rattle.emitter.proofs.bases.Statement.{statement}
 use Rattle.emitter.proofs.bases.Tie as tie

@@ -1,5 +1,4 @@
 -- `emitter::other` meets its contract: the branches are those of the definition.
--- Assumes nothing.
 use borrow.Author.Tests.{eq-eqb, ne-eqb}
 use Rattle.emitter.proofs.other.Statement.{statement}
 use Rattle.emitter.proofs.other.Tie as tie

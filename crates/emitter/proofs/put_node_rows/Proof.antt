@@ -1,5 +1,4 @@
 -- `emitter::put_node_rows` meets its contract: the numbers of the program's table hold the definition's rows.
--- Assumes nothing.
 use mathlib.Core.Path.{refl}
 use borrow.Author.Needs.{needs}
 use Rattle.emitter.proofs.put_node_rows.Statement.{statement}

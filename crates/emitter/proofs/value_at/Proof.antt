@@ -1,5 +1,4 @@
 -- `emitter::value_at` meets its contract: a base and so many rows on from it are less than a number of four bytes holds.
--- Assumes nothing.
 use Prim.Native.Nat.{_/_, _%_}
 use native.Mathlib.Omega.{arith}
 use mathlib.Core.Path.{sym}

@@ -1,5 +1,4 @@
 -- `reader::good_operands` meets its contract.
--- Assumes nothing.
 use borrow.Author.Needs.{needs}
 use borrow.Author.Tests.{eq-eqb, ne-eqb}
 use Rattle.reader.specs.Codes.{goodOperands}

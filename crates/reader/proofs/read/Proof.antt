@@ -1,5 +1,4 @@
 -- `reader::read` meets its contract: the length, then the records.
--- Assumes nothing.
 use borrow.Author.Needs.{needs}
 use borrow.Author.Tests.{eqb-true, eqb-false, ltb-true, ltb-false, not-true, not-false}
 use Prim.Native.Nat.{_*_, _/_, _%_, _≤_, _<_}

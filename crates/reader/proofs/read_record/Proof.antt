@@ -1,5 +1,4 @@
 -- `reader::read_record` meets its contract: each way out makes the tests that led to it.
--- Assumes nothing.
 use borrow.Author.Needs.{needs}
 use borrow.Author.Tests.{not-true, not-false}
 use Prim.Native.Nat.{_+_}
@@ -127,7 +126,7 @@ last : (o : lts.Else3 (contract-marked-reads.Asked, contract-marked-reads.Learnt
     let kind = getD (a .contract .now) (a .at + 2) 0 in
     stepOf (drop (a .at) (a .contract .now)) (a .below) (a .top)
     ≡ cond (emptyUnder kind (a .below) (a .top)) (Bad EmptyList)
-    (Completed (o .before .before .before .before .before .before .before .before .found .given .0 .0 .0) (completed kind (a .below) (a .top)))
+    (Completed (o .before .before .before .before .before .before .before .before .found .given .0 .0 .operands) (completed kind (a .below) (a .top)))
 last o =
     let g = o .before .before in
     let n = g .before .before .before .before .before .before in

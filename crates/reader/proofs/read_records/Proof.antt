@@ -1,5 +1,4 @@
 -- `reader::read_records` meets its contract. The loop's invariant: the stack has the codes of the operands that the records so far leave.
--- Assumes nothing.
 use borrow.Author.Needs.{needs}
 use Prim.Native.Nat.{_+_, _*_, _≤_, _-_}
 use native.Mathlib.Omega.{arith}

@@ -1,5 +1,4 @@
 -- `reader::sort` meets its contract.
--- Assumes nothing.
 use borrow.Author.Tests.{eq-eqb, ne-eqb}
 use Rattle.reader.proofs.sort.Statement.{statement}
 use Rattle.reader.proofs.sort.Tie as tie
