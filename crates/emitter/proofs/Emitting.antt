@@ -1,9 +1,9 @@
 -- What the recursive writer leaves: a record's own rows round the rows of its operands are the tree's rows, and its block is the tree's.
-use Prim.Native.Nat.{ℕ, _+_, _*_, _-_, _≤_}
+use Prim.Native.Nat.{ℕ, _+_, _-_, _≤_}
 use native.Mathlib.Omega.{arith}
-use mathlib.Core.List.{List, [], _∷_, _++_, map, map-append}
+use mathlib.Core.List.{List, [], _∷_, map, map-append}
 use mathlib.Core.Option.{some}
-use mathlib.Core.Path.{_≡_, refl, sym, ap, _∙_}
+use mathlib.Core.Path.{_≡_, sym, ap, _∙_}
 use lib.ListN.{length, length-append, length-map}
 use Rattle.reader.specs.Table.{Sort, Kind, line, kindOf}
 use Rattle.reader.specs.Trees.{Tree, Trees, Fields, Record, node}
@@ -12,8 +12,7 @@ use Rattle.reader.specs.Codes.{operandCount}
 use Rattle.reader.proofs.Table.{kind-number}
 use Rattle.reader.proofs.Codes.{few-operands}
 use Rattle.reader.proofs.Spelling.{recordOf}
-use Rattle.image.specs.Widths.{width, operandsFrom}
-use Rattle.image.proofs.Goodness.{⊹-plus}
+use Rattle.image.specs.Widths.{operandsFrom}
 use Rattle.emitter.specs.declared.RecordBytes.{RecordBytes}
 use Rattle.emitter.specs.declared.Block.{Block}
 use Rattle.emitter.specs.declared.Plan.{Plan}
@@ -22,7 +21,8 @@ use Rattle.emitter.specs.Rows.{numbersOf, writtenRows}
 use Rattle.emitter.specs.Plans.{planOf}
 use Rattle.emitter.specs.Blocks.{lastRecord, recordFrom, noBlock, basesOf, recordWritten, recordBlock, wiresOf, treeRows, afterTree, blockOf, EndsWith, Emitted}
 use Rattle.emitter.proofs.Writing.{written-none, written-after, written-around}
-use Rattle.emitter.proofs.Plans.{leftBlock, rightBlock, operandRows, nodeBases, rows-node, block-node, before-is, after-tree, length-kindRows}
+use Rattle.emitter.proofs.Plans.{leftBlock, rightBlock, operandRows, nodeBases, rows-node, block-node, after-tree}
+use Rattle.emitter.proofs.Tables.{inside-is, length-kindRows}
 use Rattle.emitter.proofs.Operands.{View, view, seen, bytesOf, Last, ends-last, OperandsEnd, ends-operands}
 
 -- ---- the operands' rows
@@ -95,9 +95,6 @@ pub record Known (own : Record) (r : RecordBytes) (count : ℕ) (p : Plan) : Typ
   pub bytes-are : r ≡ bytesOf own
   pub plan-is : p ≡ planOf own
   pub count-is : length (line (own .kind) .operands) ≡ count
-
-pub inside-is : (r : Record) (b : ℕ) → b + planOf r .before ≡ operandsFrom r b
-inside-is r b = rw (before-is r) (sym (⊹-plus b (width r .before)))
 
 -- the operands' rows reach to the row after the left one's
 next-left : (ss : List Sort) (ts : Trees ss) (m b S : ℕ) (w : Wires) → length ss ≤ 2

@@ -1,37 +1,32 @@
 -- The program's tables and plans give the rows of image/specs/Blocks.antt: a node's rows are its own rows round those of its operands, and its block is
 -- what its plan says.
-use Prim.Native.Nat.{ℕ, _+_, _/_, _%_, _≤_, _<_}
-use mathlib.Core.Bool.{Bool, true, false, _&&_, _||_, cond, and-eq-true-iff}
+use Prim.Native.Nat.{ℕ, _+_}
+use mathlib.Core.Bool.{Bool, true, false, cond}
 use mathlib.Core.List.{List, [], _∷_, _++_, map, map-append, append-assoc}
-use mathlib.Core.Logic.{_⊎_, inl, inr, ⊎-elim}
 use mathlib.Core.Path.{_≡_, refl, sym, _∙_}
 use native.Mathlib.Omega.{arith}
-use lib.Dec.{eqb, ltb, leb}
+use lib.Dec.{eqb}
 use lib.ListN.{length, take, drop, take-append-drop}
-use borrow.Author.Tests.{leb-true, ltb-true, eqb-true}
 use Rattle.periods.specs.Periods.{Party, party1, party2, number, other}
 use Rattle.layout.specs.Rows.{Row}
 use Rattle.contract.specs.Expressions as E
 use Rattle.contract.specs.Expressions.{Expression, atom, holdsEmpty}
 use Rattle.contract.specs.Meaning as M
 use Rattle.contract.specs.Meaning.{Clause}
-use Rattle.reader.specs.Table.{Sort, clause, expression, Kind, kinds, duty, ban, power, both, then, repair, repeat, when, until, any, tries, idle, succeeds, fails, seq, or, star, line}
-use Rattle.reader.specs.Trees.{Tree, Trees, Fields, Record, partyNamed, node}
+use Rattle.reader.specs.Table.{Sort, clause, expression, Kind, duty, ban, power, both, then, repair, repeat, when, until, any, tries, idle, succeeds, fails, seq, or, star, line}
+use Rattle.reader.specs.Trees.{Tree, Trees, Fields, partyNamed, node}
 use Rattle.reader.specs.Codes.{completed}
 use Rattle.reader.specs.Spelling.{operator, treeRecords}
-use Rattle.reader.proofs.Table.{every, of-all}
 use Rattle.reader.proofs.Codes.{is-empty}
 use Rattle.reader.proofs.Spelling.{recordOf}
 use Rattle.image.specs.Widths.{width, operandsFrom, afterExpression, afterClause}
 use Rattle.image.specs.Blocks.{endRow, liveRow, expressionRows, blaming, outputsOf, clauseRows}
-use Rattle.image.proofs.Goodness.{⊹-plus, after-expression, after-clause, length-expression, length-clause, inside-expression, inside-clause}
-use Rattle.emitter.specs.declared.Plan.{Plan}
+use Rattle.image.proofs.Goodness.{after-expression, after-clause, length-expression, length-clause}
 use Rattle.emitter.specs.declared.Block.{Block}
 use Rattle.emitter.specs.declared.Wires.{Wires}
-use Rattle.emitter.specs.Rows.{RowNumbers, numbersOf, ZERO, S, K, B, N, leafRows, rowTable, valueAt, tableRows}
+use Rattle.emitter.specs.Rows.{RowNumbers, numbersOf, rowTable, tableRows}
 use Rattle.emitter.specs.Plans.{planOf}
 use Rattle.emitter.specs.Blocks.{noBlock, otherNumber, basesOf, recordBlock, wiresOf, treeRows, afterTree, blockOf}
-use Rattle.emitter.proofs.Writing.{length-listed}
 
 -- ---- rows and what follows them
 
@@ -210,89 +205,3 @@ block-node fails f ts m b S K = rw (← after-node fails f ts m b S)
 block-node seq f ts m b S K = rw (is-empty (holdsEmpty (ts .0)), is-empty (holdsEmpty (ts .1 .0)), ← after-node seq f ts m b S)
 block-node or f ts m b S K = rw (is-empty (holdsEmpty (ts .0)), is-empty (holdsEmpty (ts .1 .0)), ← after-node or f ts m b S)
 block-node star f ts m b S K = rw (← after-node star f ts m b S)
-
--- ---- the tables, each rule by one test of the kinds
-
--- a rule of every record, by a test that each kind passes whatever its fields are
-of-records : (test : Record → Bool) → ((f : Fields) → every (λ J. test record { kind = J; fields = f }) kinds ≡ true) → (r : Record) → test r ≡ true
-of-records test h r = of-all (λ J. test record { kind = J; fields = r .fields }) (h (r .fields)) (r .kind)
-
--- as many rows stand before the operands' rows as the widths say
-pub before-is : (r : Record) → planOf r .before ≡ width r .before
-before-is r = eqb-true (planOf r .before) (width r .before) (of-records (λ r. eqb (planOf r .before) (width r .before)) (λ f. refl) r)
-
--- where a record's own rows end in the tables
-abbrev pub end : Plan → ℕ
-end p = p .from + p .before + p .after
-
--- the tables have them
-pub listed : (r : Record) → end (planOf r) ≤ length rowTable
-listed r = leb-true (end (planOf r)) (length rowTable) (of-records (λ r. leb (end (planOf r)) (length rowTable)) (λ f. refl) r)
-
-either : (s t : Bool) → s || t ≡ true → (s ≡ true) ⊎ (t ≡ true)
-either true t h = inl refl
-either false t h = inr h
-
--- all of them in the first table, or all in the second
-pub in-one-table : (r : Record) → (end (planOf r) ≤ length leafRows) ⊎ (length leafRows ≤ planOf r .from)
-in-one-table r =
-    let first = length leafRows in
-    ⊎-elim (λ h. inl (leb-true (end (planOf r)) first h)) (λ h. inr (leb-true first (planOf r .from) h))
-    (either (leb (end (planOf r)) first) (leb first (planOf r .from))
-    (of-records (λ r. leb (end (planOf r)) first || leb first (planOf r .from)) (λ f. refl) r))
-
-pub length-kindRows : (bases : List ℕ) (r : Record)
-    → let p = planOf r in
-    (length (tableRows bases rowTable (p .from) (p .before)) ≡ p .before) × (length (tableRows bases rowTable (p .from + p .before) (p .after)) ≡ p .after)
-length-kindRows bases r =
-    let p = planOf r in
-    let h = listed r in
-    (length-listed bases rowTable (p .from) (p .before) (omega arith), length-listed bases rowTable (p .from + p .before) (p .after) h)
-
--- what tells the operands when they read is what tells the record itself, or one of its own rows before theirs
-abbrev knownWire : Record → ℕ → Bool
-knownWire r x = eqb x ZERO || (eqb x S || (eqb x K || (leb B x && ltb x N && ltb x (B + width r .before))))
-
-wire-inside : (r : Record) (x b s k : ℕ) → s < b → k < b → knownWire r x ≡ true
-    → valueAt (basesOf b s k (noBlock 0 0) (noBlock 0 0) 0 0) x < operandsFrom r b
-wire-inside r x b s k h i t =
-    let m = ⊹-plus b (width r .before) in
-    ⊎-elim (λ e. rw (eqb-true x ZERO e) (omega arith))
-    (λ t. ⊎-elim (λ e. rw (eqb-true x S e) (omega arith))
-    (λ t. ⊎-elim (λ e. rw (eqb-true x K e) (omega arith))
-    (λ t.
-    let u = and-eq-true-iff (leb B x && ltb x N) (ltb x (B + width r .before)) .0 t in
-    let v = and-eq-true-iff (leb B x) (ltb x N) .0 (u .0) in
-    let from : B ≤ x = leb-true B x (v .0) in
-    let to : x < N = ltb-true x N (v .1) in
-    let few : x < B + width r .before = ltb-true x (B + width r .before) (u .1) in
-    let base : x / 16 ≡ 3 = omega arith in
-    rw (base, ⊹-plus b (x % 16)) (omega arith))
-    (either (eqb x K) _ t)) (either (eqb x S) _ t)) (either (eqb x ZERO) _ t)
-
-pub record WiresInside (w : Wires) (b : ℕ) : Type 0 where
-  pub start-is : w .start < b
-  pub go-is : w .go < b
-  pub keep-is : w .keep < b
-
-pub wires-inside : (r : Record) (b s k : ℕ) → s < b → k < b → WiresInside (wiresOf (planOf r) b s k) (operandsFrom r b)
-unfolding wiresOf
-wires-inside r b s k h i =
-    record {
-      start-is = wire-inside r (planOf r .start) b s k h i (of-records (λ r. knownWire r (planOf r .start)) (λ f. refl) r);
-      go-is = wire-inside r (planOf r .go) b s k h i (of-records (λ r. knownWire r (planOf r .go)) (λ f. refl) r);
-      keep-is = wire-inside r (planOf r .keep) b s k h i (of-records (λ r. knownWire r (planOf r .keep)) (λ f. refl) r);
-    }
-
--- ---- bounds
-
--- the rows that a block gives out are below n
-pub record Given (r : Block) (n : ℕ) : Type 0 where
-  pub sat-is : r .sat < n
-  pub one-is : r .one < n
-  pub two-is : r .two < n
-
--- a tree's rows are those up to the row after it, and what its block gives out stands before that
-pub block-inside : (s : Sort) (t : Tree s) (m b S : ℕ) → S < b → (b ≤ afterTree s t b) × Given (blockOf s t m b S) (afterTree s t b)
-block-inside clause c m b S h = let i = inside-clause c b (omega arith) in omega arith
-block-inside expression e m b S h = let i = inside-expression e b S h in omega arith

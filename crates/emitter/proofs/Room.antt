@@ -10,11 +10,12 @@ use lib.ListN.{length, getD}
 use Rattle.periods.specs.Periods.{Party, party1, party2, number, other}
 use Rattle.layout.specs.Limits.{rowBytes, maxRows}
 use Rattle.reader.specs.Limits.{recordBytes}
-use Rattle.reader.specs.Table.{Sort, Kind, line}
-use Rattle.reader.specs.Trees.{Tree, Trees, Fields, partyNamed, node}
+use Rattle.reader.specs.Table.{Sort, clause, expression, Kind, line}
+use Rattle.reader.specs.Trees.{Tree, Trees, Fields, partyNamed}
 use Rattle.reader.specs.Spelling.{treeRecords}
 use Rattle.reader.specs.Codes.{emptyCode}
 use Rattle.reader.proofs.Spelling.{recordOf}
+use Rattle.image.proofs.Goodness.{inside-expression, inside-clause}
 use Rattle.emitter.specs.declared.RecordBytes.{RecordBytes}
 use Rattle.emitter.specs.declared.Block.{Block}
 use Rattle.emitter.specs.declared.Plan.{Plan}
@@ -22,9 +23,23 @@ use Rattle.emitter.specs.declared.Wires.{Wires}
 use Rattle.emitter.specs.Rows.{leafRows, rowTable}
 use Rattle.emitter.specs.Blocks.{noBlock, basesOf, wiresOf, afterTree, blockOf, EndsWith, Emitted}
 use Rattle.emitter.specs.Premises.{Small, RecordRows, Emits}
-use Rattle.emitter.proofs.Plans.{leftBlock, rightBlock, after-node, end, listed, in-one-table, WiresInside, wires-inside, Given, block-inside}
+use Rattle.emitter.proofs.Plans.{leftBlock, rightBlock, after-node}
+use Rattle.emitter.proofs.Tables.{inside-is, end, listed, in-one-table, WiresInside, wires-inside}
 use Rattle.emitter.proofs.Operands.{View, view, seen, ends-last, OperandsEnd, ends-operands}
-use Rattle.emitter.proofs.Emitting.{Written, Reads, Known, known, inside-is}
+use Rattle.emitter.proofs.Emitting.{Written, Reads, Known, known}
+
+-- ---- the rows that a block gives out
+
+-- the rows that a block gives out are below n
+record Given (r : Block) (n : ℕ) : Type 0 where
+  sat-is : r .sat < n
+  one-is : r .one < n
+  two-is : r .two < n
+
+-- a tree's rows are those up to the row after it, and what its block gives out stands before that
+block-inside : (s : Sort) (t : Tree s) (m b S : ℕ) → S < b → (b ≤ afterTree s t b) × Given (blockOf s t m b S) (afterTree s t b)
+block-inside clause c m b S h = let i = inside-clause c b (omega arith) in omega arith
+block-inside expression e m b S h = let i = inside-expression e b S h in omega arith
 
 -- ---- small numbers
 

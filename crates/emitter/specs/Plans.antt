@@ -6,7 +6,7 @@ use Rattle.reader.specs.Spelling.{operator}
 use Rattle.image.specs.Widths.{Width, width, _⊹_}
 use Rattle.emitter.specs.declared.PlanLine.{PlanLine}
 use Rattle.emitter.specs.declared.Plan.{Plan}
-use Rattle.emitter.specs.Rows.{ZERO, S, K, B, N, LSAT, LONE, LTWO, RSAT, RONE, RTWO}
+use Rattle.emitter.specs.Rows.{ZERO, S, K, B, N, LONE, LTWO, RSAT, RONE, RTWO}
 
 -- where a kind's own rows start in the table, how many stand before its operands' rows and after them, what tells its operands when they read,
 -- and what its block gives out

@@ -19,7 +19,7 @@ use Rattle.reader.specs.Limits.{maxRecords}
 use Rattle.reader.specs.Table
 use Rattle.reader.specs.Trees.{Record}
 use Rattle.reader.specs.Spelling.{operator, atomRecord, literalRecord, expressionRecords, records, ExpressionInRange, InRange}
-use Rattle.reader.proofs.Table.{of-all}
+use Rattle.reader.proofs.Table.{of-records}
 use Rattle.reader.proofs.Nodes.{allowed-action}
 use Rattle.image.specs.Limits.{allowedRows}
 use Rattle.image.specs.Widths.{width, size, maxSize, neverRow, maxRowsFor, _⊹_, inside, afterRecord, expressionSize, clauseSize, fixedRows, afterExpression, afterClause}
@@ -86,8 +86,7 @@ length-rows c = rw (length-clause c) (omega arith)
 
 -- no record has more rows than the widest
 size-max : (r : Record) → size r ≤ maxSize
-size-max r =
-    leb-true (size r) maxSize (of-all (λ J. leb (size record { kind = J; fields = r .fields }) maxSize) refl (r .kind))
+size-max r = leb-true (size r) maxSize (of-records (λ r. leb (size r) maxSize) (λ f. refl) r)
 
 expression-max : (e : Expression) → expressionSize e ≤ maxSize * expressionRecords e
 unfolding expressionSize expressionRecords

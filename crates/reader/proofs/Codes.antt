@@ -4,7 +4,7 @@ use native.Mathlib.Nat.{zero-add}
 use native.Mathlib.Numerals.{add-one}
 use native.Mathlib.Omega.{arith}
 use mathlib.Core.Path.{_≡_, refl, sym, _∙_, subst}
-use mathlib.Core.Bool.{Bool, true, false, _&&_, _||_, not, cond, and-true, and-false}
+use mathlib.Core.Bool.{Bool, true, false, _&&_, not, cond, and-true, and-false}
 use mathlib.Core.List.{List, [], _∷_, map}
 use mathlib.Core.Option.{Option, none, some}
 use lib.Dec.{eqb, leb}
@@ -42,9 +42,9 @@ present (some x) = true
 pub few-operands : (K : Kind) → length (line K .operands) ≤ 2
 few-operands K = leb-true (length (line K .operands)) 2 (of-all (λ J. leb (length (line J .operands)) 2) refl K)
 
-pub operandCount-most : (o : Option Kind) → operandCount o ≤ 2
-operandCount-most none = omega arith
-operandCount-most (some K) = few-operands K
+pub operandCount-max : (o : Option Kind) → operandCount o ≤ 2
+operandCount-max none = omega arith
+operandCount-max (some K) = few-operands K
 
 sort-of-expression : (empty : Bool) → sortOf (expressionCode empty) ≡ sortNumber expression
 sort-of-expression true = refl

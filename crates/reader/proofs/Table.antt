@@ -13,6 +13,7 @@ use Rattle.records.proofs.Numbers.{lt-or-le}
 use Rattle.reader.specs.declared.EntryLine.{EntryLine}
 use Rattle.reader.specs.declared.Lookup.the-variants.{Found, Unknown}
 use Rattle.reader.specs.Table.{Kind, kinds, numbered, kindOf, line, duty, ban, power, both, then, repair, repeat, when, until, any, tries, idle, succeeds, fails, seq, or, star}
+use Rattle.reader.specs.Trees.{Fields, Record}
 use Rattle.reader.specs.Codes.{entryLine, named, lookupOf}
 
 pub kind-number : (k : Kind) → kindOf (line k .number) ≡ some k
@@ -58,6 +59,10 @@ listed f n (K ∷ Ks) h = go (eqb (line K .number) n) refl (listed f n Ks (and-e
 pub of-all : (f : Kind → Bool) → every f kinds ≡ true → (k : Kind) → f k ≡ true
 unfolding kindOf
 of-all f h k = subst (Listed f (line k .number)) (kind-number k) (listed f (line k .number) kinds h) .1
+
+-- and one that they pass whatever the fields are, by every record
+pub of-records : (f : Record → Bool) → ((fs : Fields) → every (λ k. f record { kind = k; fields = fs }) kinds ≡ true) → (r : Record) → f r ≡ true
+of-records f h r = of-all (λ k. f record { kind = k; fields = r .fields }) (h (r .fields)) (r .kind)
 
 pub number-kind : (n : ℕ) (k : Kind) → kindOf n ≡ some k → line k .number ≡ n
 unfolding kindOf

@@ -15,7 +15,7 @@ use Rattle.reader.specs.declared.Fault.the-variants.{BadLength, BadMark,
 use Rattle.reader.specs.declared.Answer.{Answer}
 use Rattle.reader.specs.declared.Answer.the-variants.{Refused, Taken}
 use Rattle.reader.specs.Limits.{maxRecords, recordBytes}
-use Rattle.reader.specs.Table.{Sort, clause, expression, Kind, kindOf, line}
+use Rattle.reader.specs.Table.{Sort, clause, expression, kindOf, line}
 use Rattle.reader.specs.Trees.{Tree, Trees, Fields, goodFields, node}
 
 -- a fault's number among the refusals

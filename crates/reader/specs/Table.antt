@@ -15,7 +15,7 @@ pub data Kind : Type 0 where
   duty ban power both then repair repeat when until : Kind
   any tries idle succeeds fails seq or star : Kind
 
--- the numbers from the least of a range to its greatest
+-- whether a number is one of a range, from its least to its greatest
 abbrev pub within : Range → ℕ → Bool
 within r n = leb (r .least) n && leb n (r .greatest)
 
