@@ -15,7 +15,6 @@ use Rattle.records.specs.Marks.{contractMark, marked}
 use Rattle.contract.specs.Expressions.{holdsEmpty}
 use Rattle.reader.specs.declared.Fault.{Fault}
 use Rattle.reader.specs.declared.Fault.the-variants.{BadMark, UnknownKind, BadField, BadOperands, NotOneClause, EmptyList}
-use Rattle.reader.specs.declared.Range.{Range}
 use Rattle.reader.specs.declared.Lookup.the-variants.{Found}
 use Rattle.reader.specs.declared.Step.{Step}
 use Rattle.reader.specs.declared.Step.the-variants.{Bad, Completed}
@@ -72,24 +71,13 @@ two-present s expression (operand clause c ∷ st) = and-false (isSort (codeAt s
 two-present s expression (operand expression e ∷ st) =
     rw (sort-of-expression (holdsEmpty e)) (and-true _ ∙ one-present s (expression ∷ []) (e, tt) st)
 
-operands-present : (ss : List Sort) (p a z : Range) (st : List Operand) → length ss ≤ 2
-    → goodOperands
-    record {
-      operands = length ss;
-      first = getD (map sortNumber ss) 0 0;
-      second = getD (map sortNumber ss) 1 0;
-      party = p;
-      action = a;
-      last = z;
-    }
-    (codeAt st 1)
-    (codeAt st 0)
-    ≡ present (operandsOf ss st)
+operands-present : (ss : List Sort) (st : List Operand) → length ss ≤ 2
+    → goodOperands (length ss) (getD (map sortNumber ss) 0 0) (getD (map sortNumber ss) 1 0) (codeAt st 1) (codeAt st 0) ≡ present (operandsOf ss st)
 unfolding goodOperands operandsOf
-operands-present [] p a z st h = refl
-operands-present (s ∷ []) p a z st h = one-present s [] tt st
-operands-present (s ∷ s′ ∷ []) p a z st h = two-present s s′ st
-operands-present (s ∷ s′ ∷ s″ ∷ ss) p a z st h = absurd (omega arith)
+operands-present [] st h = refl
+operands-present (s ∷ []) st h = one-present s [] tt st
+operands-present (s ∷ s′ ∷ []) st h = two-present s s′ st
+operands-present (s ∷ s′ ∷ s″ ∷ ss) st h = absurd (omega arith)
 
 onto-length : (ss : List Sort) (ts : Trees ss) (st : List Operand) → length (onto ss ts st) ≡ length ss + length st
 onto-length [] ts st = sym (zero-add (length st))
@@ -199,7 +187,7 @@ agrees k st l =
     (agrees-kind k st (kindOf n) _ l (codeAt st 1) (codeAt st 0)
     (λ K e. rw (same-ranges K l)
     (agrees-require k st (goodFields (line K) (fieldsIn l)) BadField _ _
-    (rw (operands-present (line K .operands) (line K .party) (line K .action) (line K .last) st (few-operands K))
+    (rw (operands-present (line K .operands) st (few-operands K))
     (agrees-demand k st (operandsOf (line K .operands) st) BadOperands _ _
     (λ os e₂. rw (onto-operands (line K .operands) st os e₂, ← number-kind n K e) (agrees-push k K (fieldsIn l) (os .trees) (os .rest))))))))
 

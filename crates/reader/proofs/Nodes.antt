@@ -20,9 +20,8 @@ use Rattle.contract.specs.Meaning.{Clause, EmptyFree}
 use Rattle.contract.proofs.Expressions.{empty-iff}
 use Rattle.reader.specs.declared.Fault.{Fault}
 use Rattle.reader.specs.declared.Fault.the-variants.{BadMark, UnknownKind, BadField, BadOperands, EmptyList}
-use Rattle.reader.specs.declared.Range.{Range}
 use Rattle.reader.specs.Limits.{recordBytes}
-use Rattle.reader.specs.Table.{Sort, clause, expression, Kind, duty, ban, power, both, then, repair, repeat, when, until, any, tries, idle, succeeds, fails, seq, or, star, within, kindOf, line}
+use Rattle.reader.specs.Table.{Sort, clause, expression, Kind, duty, ban, power, both, then, repair, repeat, when, until, any, tries, idle, succeeds, fails, seq, or, star, Range, within, kindOf, line}
 use Rattle.reader.specs.Trees.{Tree, Trees, Fields, Record, goodFields, partyNamed, node}
 use Rattle.reader.specs.Spelling.{spellRecord, Allowed, ExpressionInRange, InRange}
 use Rattle.reader.specs.Reader.{Result, refused, taken, next, require, demand, fieldsIn, Operand, operand, Operands, oneMore, operandsOf, holdsEmptyUnder, push, readRecord}

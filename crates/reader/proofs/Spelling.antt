@@ -12,9 +12,8 @@ use Rattle.contract.specs.Expressions as E
 use Rattle.contract.specs.Expressions.{Expression}
 use Rattle.contract.specs.Meaning as M
 use Rattle.contract.specs.Meaning.{Clause}
-use Rattle.reader.specs.declared.Range.{Range}
 use Rattle.reader.specs.Limits.{recordBytes}
-use Rattle.reader.specs.Table.{Sort, clause, expression, Kind, duty, ban, power, both, then, repair, repeat, when, until, any, tries, idle, succeeds, fails, seq, or, star, line}
+use Rattle.reader.specs.Table.{Sort, clause, expression, Kind, duty, ban, power, both, then, repair, repeat, when, until, any, tries, idle, succeeds, fails, seq, or, star, Range, line}
 use Rattle.reader.specs.Trees.{Tree, Trees, Fields, Record, partyNamed, node}
 use Rattle.reader.specs.Spelling.{spellRecord, spellExpression, spell, expressionRecords, records, spellTree, treeRecords}
 

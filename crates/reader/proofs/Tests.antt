@@ -42,11 +42,11 @@ module _ (l : List ℕ) (at b t : ℕ) where
       step-fields g = rw (marked-drop, h, getD-drop at l 2 0, f, getD-drop at l 3 0, getD-drop at l 4 0, getD-drop at l 5 0, g)
 
       module _ (g : fields ≡ true) where
-        pub step-operands : goodOperands e b t ≡ false → stepOf (drop at l) b t ≡ Bad BadOperands
+        pub step-operands : goodOperands (e .operands) (e .first) (e .second) b t ≡ false → stepOf (drop at l) b t ≡ Bad BadOperands
         unfolding stepOf
         step-operands o = rw (marked-drop, h, getD-drop at l 2 0, f, getD-drop at l 3 0, getD-drop at l 4 0, getD-drop at l 5 0, g, o)
 
-        pub step-last : goodOperands e b t ≡ true
+        pub step-last : goodOperands (e .operands) (e .first) (e .second) b t ≡ true
             → stepOf (drop at l) b t ≡ cond (emptyUnder kind b t) (Bad EmptyList) (Completed (e .operands) (completed kind b t))
         unfolding stepOf
         step-last o =

@@ -16,7 +16,7 @@ use Rattle.reader.specs.declared.Lookup.the-variants.{Found, Unknown}
 use Rattle.reader.specs.declared.Step.{Step}
 use Rattle.reader.specs.declared.Step.the-variants.{Bad, Completed}
 use Rattle.reader.specs.Limits.{maxRecords, recordBytes}
-use Rattle.reader.specs.Table.{Sort, clause, expression, Kind, duty, when, until, seq, or, star, within, line, kindOf}
+use Rattle.reader.specs.Table.{Sort, clause, expression, Kind, duty, when, until, seq, or, star, range, within, line, kindOf}
 use Rattle.reader.specs.Reader.{Operand, operand}
 
 -- ---- the table in numbers
@@ -35,14 +35,25 @@ entryLine k =
       0 = length (line k .operands);
       1 = operandSort k 0;
       2 = operandSort k 1;
-      3 = line k .party;
-      4 = line k .action;
-      5 = line k .last;
+      3 = line k .party .least;
+      4 = line k .party .greatest;
+      5 = line k .action .least;
+      6 = line k .action .greatest;
+      7 = line k .last .least;
+      8 = line k .last .greatest;
     }
 
 -- a line's fields by their names
 abbrev pub named : EntryLine → Entry
-named l = record { operands = l .0; first = l .1; second = l .2; party = l .3; action = l .4; last = l .5 }
+named l =
+    record {
+      operands = l .0;
+      first = l .1;
+      second = l .2;
+      party = record { least = l .3; greatest = l .4 };
+      action = record { least = l .5; greatest = l .6 };
+      last = record { least = l .7; greatest = l .8 };
+    }
 
 abbrev pub entryOf : Kind → Entry
 entryOf k = named (entryLine k)
@@ -59,7 +70,10 @@ operandCount (some k) = length (line k .operands)
 -- ---- 4: the fields
 
 unfoldable pub inRanges : Entry → (party action last : ℕ) → Bool
-inRanges e p a z = within (e .party) p && within (e .action) a && within (e .last) z
+inRanges e p a z =
+    within (range (e .party .least) (e .party .greatest)) p
+    && within (range (e .action .least) (e .action .greatest)) a
+    && within (range (e .last .least) (e .last .greatest)) z
 
 -- ---- the operands
 
@@ -83,10 +97,10 @@ abbrev pub sortOf : ℕ → ℕ
 sortOf c = cond (eqb c emptyCode) (sortNumber expression) c
 
 -- 5: of the two operands on top
-unfoldable pub goodOperands : Entry → (below top : ℕ) → Bool
-goodOperands e b t =
-    cond (eqb (e .operands) 0) true
-    (cond (eqb (e .operands) 1) (eqb (sortOf t) (e .first)) (eqb (sortOf b) (e .first) && eqb (sortOf t) (e .second)))
+unfoldable pub goodOperands : (operands first second : ℕ) → (below top : ℕ) → Bool
+goodOperands n s s′ b t =
+    cond (eqb n 0) true
+    (cond (eqb n 1) (eqb (sortOf t) s) (eqb (sortOf b) s && eqb (sortOf t) s′))
 
 -- 7: under `when` the expression is the first operand, under `until` the second
 unfoldable pub emptyUnder : (kind below top : ℕ) → Bool
@@ -107,7 +121,7 @@ abbrev pub stepFound : Lookup → List ℕ → (below top : ℕ) → Step
 stepFound Unknown l b t = Bad UnknownKind
 stepFound (Found e) l b t =
     cond (inRanges e (getD l 3 0) (getD l 4 0) (getD l 5 0))
-    (cond (goodOperands e b t)
+    (cond (goodOperands (e .operands) (e .first) (e .second) b t)
     (cond (emptyUnder (getD l 2 0) b t) (Bad EmptyList) (Completed (e .operands) (completed (getD l 2 0) b t)))
     (Bad BadOperands))
     (Bad BadField)

@@ -5,7 +5,6 @@ use mathlib.Core.List.{List, [], _∷_}
 use mathlib.Core.Option.{Option, none, some}
 use lib.Dec.{eqb, leb}
 use Rattle.periods.specs.Limits.{actions}
-use Rattle.reader.specs.declared.Range.{Range}
 
 -- what a record completes, and what an operand is
 pub data Sort : Type 0 where
@@ -15,21 +14,28 @@ pub data Kind : Type 0 where
   duty ban power both then repair repeat when until : Kind
   any tries idle succeeds fails seq or star : Kind
 
--- whether a number is one of a range, from its least to its greatest
+-- the numbers from the least to the greatest
+pub record Range : Type 0 where
+  pub least : ℕ
+  pub greatest : ℕ
+
+abbrev pub range : (least greatest : ℕ) → Range
+range m n = record { least = m; greatest = n }
+
 abbrev pub within : Range → ℕ → Bool
 within r n = leb (r .least) n && leb n (r .greatest)
 
 -- "A field that a kind doesn't use is 0."
 abbrev pub unused : Range
-unused = record { least = 0; greatest = 0 }
+unused = range 0 0
 
 -- "party (1 or 2)"
 abbrev pub parties : Range
-parties = record { least = 1; greatest = 2 }
+parties = range 1 2
 
 -- "action (0 to 15)"
 abbrev pub actionNumbers : Range
-actionNumbers = record { least = 0; greatest = actions - 1 }
+actionNumbers = range 0 (actions - 1)
 
 -- a line of the table: the kind's number, what its record completes, the sorts of its operands in the order in which they are read, and the
 -- range of each of its fields

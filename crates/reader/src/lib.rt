@@ -4,7 +4,7 @@ ghost use mathlib.Core.List.{[]};
 ghost use Prim.Native.Nat.{_+_, _≤_};
 ghost use lib.ListN.{length, drop, getD};
 ghost use Rattle.reader.specs.Limits.{recordBytes};
-ghost use Rattle.reader.specs.Table.{within, kindOf};
+ghost use Rattle.reader.specs.Table.{range, within, kindOf};
 ghost use Rattle.reader.specs.Reader.{faultNumber, numberOf, placeOf, next, readRecords, justOne, answerOf, answer};
 ghost use Rattle.reader.specs.Codes.{named, lookupOf, operandCount, inRanges, expressionCode, sortOf, goodOperands, emptyUnder, completed, stepOf, HasRecords};
 
@@ -78,51 +78,48 @@ const EXPRESSION: u8 = 2;
 // The code of an expression that holds the empty list.
 pub const EMPTY: u8 = 3;
 
-// What a field may be: a number from the least to the greatest.
+// The last action's number.
+const LAST_ACTION: u8 = periods::ACTIONS as u8 - 1;
+
+// A line of the table, in the order of an entry's fields.
+pub struct EntryLine(
+    pub u8,
+    pub u8,
+    pub u8,
+    pub u8,
+    pub u8,
+    pub u8,
+    pub u8,
+    pub u8,
+    pub u8,
+);
+
+// A line for each of the kinds 1 to 9, then 16 to 23. A field that a kind does not use is 0 to 0.
+const TABLE: [EntryLine; 17] = [
+    EntryLine(0, NONE, NONE, 1, 2, 0, LAST_ACTION, 0, 0), // 1 duty
+    EntryLine(0, NONE, NONE, 1, 2, 0, LAST_ACTION, 0, 0), // 2 ban
+    EntryLine(0, NONE, NONE, 1, 2, 0, LAST_ACTION, 0, 0), // 3 power
+    EntryLine(2, CLAUSE, CLAUSE, 0, 0, 0, 0, 0, 0), // 4 both
+    EntryLine(2, CLAUSE, CLAUSE, 0, 0, 0, 0, 0, 0), // 5 then
+    EntryLine(2, CLAUSE, CLAUSE, 0, 0, 0, 0, 0, 0), // 6 repair
+    EntryLine(1, CLAUSE, NONE, 0, 0, 0, 0, 0, 0), // 7 repeat
+    EntryLine(2, EXPRESSION, CLAUSE, 0, 0, 0, 0, 0, 0), // 8 when
+    EntryLine(2, CLAUSE, EXPRESSION, 0, 0, 0, 0, 0, 0), // 9 until
+    EntryLine(0, NONE, NONE, 0, 0, 0, 0, 0, 0), // 16 any
+    EntryLine(0, NONE, NONE, 1, 2, 0, LAST_ACTION, 0, 0), // 17 tries
+    EntryLine(0, NONE, NONE, 1, 2, 0, LAST_ACTION, 0, 0), // 18 idle
+    EntryLine(0, NONE, NONE, 0, 0, 0, LAST_ACTION, 0, 0), // 19 succeeds
+    EntryLine(0, NONE, NONE, 0, 0, 0, LAST_ACTION, 0, 0), // 20 fails
+    EntryLine(2, EXPRESSION, EXPRESSION, 0, 0, 0, 0, 0, 0), // 21 seq
+    EntryLine(2, EXPRESSION, EXPRESSION, 0, 0, 0, 0, 0, 0), // 22 or
+    EntryLine(1, EXPRESSION, NONE, 0, 0, 0, 0, 0, 0), // 23 star
+];
+
+// The least and the greatest number that a field may be.
 pub struct Range {
     pub least: u8,
     pub greatest: u8,
 }
-
-// A field that a kind does not use, a party, an action.
-const UNUSED: Range = Range {
-    least: 0,
-    greatest: 0,
-};
-
-const PARTY: Range = Range {
-    least: 1,
-    greatest: 2,
-};
-
-const ACTION: Range = Range {
-    least: 0,
-    greatest: periods::ACTIONS as u8 - 1,
-};
-
-// A line of the table, in the order of an entry's fields.
-pub struct EntryLine(pub u8, pub u8, pub u8, pub Range, pub Range, pub Range);
-
-// A line for each of the kinds 1 to 9, then 16 to 23.
-const TABLE: [EntryLine; 17] = [
-    EntryLine(0, NONE, NONE, PARTY, ACTION, UNUSED), // 1 duty
-    EntryLine(0, NONE, NONE, PARTY, ACTION, UNUSED), // 2 ban
-    EntryLine(0, NONE, NONE, PARTY, ACTION, UNUSED), // 3 power
-    EntryLine(2, CLAUSE, CLAUSE, UNUSED, UNUSED, UNUSED), // 4 both
-    EntryLine(2, CLAUSE, CLAUSE, UNUSED, UNUSED, UNUSED), // 5 then
-    EntryLine(2, CLAUSE, CLAUSE, UNUSED, UNUSED, UNUSED), // 6 repair
-    EntryLine(1, CLAUSE, NONE, UNUSED, UNUSED, UNUSED), // 7 repeat
-    EntryLine(2, EXPRESSION, CLAUSE, UNUSED, UNUSED, UNUSED), // 8 when
-    EntryLine(2, CLAUSE, EXPRESSION, UNUSED, UNUSED, UNUSED), // 9 until
-    EntryLine(0, NONE, NONE, UNUSED, UNUSED, UNUSED), // 16 any
-    EntryLine(0, NONE, NONE, PARTY, ACTION, UNUSED), // 17 tries
-    EntryLine(0, NONE, NONE, PARTY, ACTION, UNUSED), // 18 idle
-    EntryLine(0, NONE, NONE, UNUSED, ACTION, UNUSED), // 19 succeeds
-    EntryLine(0, NONE, NONE, UNUSED, ACTION, UNUSED), // 20 fails
-    EntryLine(2, EXPRESSION, EXPRESSION, UNUSED, UNUSED, UNUSED), // 21 seq
-    EntryLine(2, EXPRESSION, EXPRESSION, UNUSED, UNUSED, UNUSED), // 22 or
-    EntryLine(1, EXPRESSION, NONE, UNUSED, UNUSED, UNUSED), // 23 star
-];
 
 // What a line says of its kind: how many operands, the sorts of the first and the second in the order in which they are read, and the ranges
 // of the party, the action and the last byte.
@@ -138,16 +135,22 @@ pub struct Entry {
 fn named(l: EntryLine) -> Entry
     ensures { λ r. ⌜ r ≡ named l ⌝ }
 {
-    let party = l.3;
-    let action = l.4;
-    let last = l.5;
     Entry {
         operands: l.0,
         first: l.1,
         second: l.2,
-        party: party,
-        action: action,
-        last: last,
+        party: Range {
+            least: l.3,
+            greatest: l.4,
+        },
+        action: Range {
+            least: l.5,
+            greatest: l.6,
+        },
+        last: Range {
+            least: l.7,
+            greatest: l.8,
+        },
     }
 }
 
@@ -180,10 +183,10 @@ pub fn operands(kind: u8) -> u8
 
 // ---- a record
 
-fn within(range: Range, x: u8) -> bool
-    ensures { λ r. ⌜ r ≡ within range x ⌝ }
+fn within(f: Range, x: u8) -> bool
+    ensures { λ r. ⌜ r ≡ within (range (f .least) (f .greatest)) x ⌝ }
 {
-    range.least <= x && x <= range.greatest
+    f.least <= x && x <= f.greatest
 }
 
 // Whether each field is one that the kind allows.
@@ -208,7 +211,7 @@ fn sort(code: u8) -> u8
 
 // Whether the two operands on top are those that a kind asks for.
 fn good_operands(e: Entry, below: u8, top: u8) -> bool
-    ensures { λ r. ⌜ r ≡ goodOperands e below top ⌝ }
+    ensures { λ r. ⌜ r ≡ goodOperands (e .operands) (e .first) (e .second) below top ⌝ }
 {
     let operands = e.operands;
     match operands {
