@@ -11,7 +11,7 @@ use Rattle.reader.specs.Spelling.{treeRecords}
 use Rattle.reader.specs.Codes.{operandCount}
 use Rattle.reader.proofs.Table.{kind-number}
 use Rattle.reader.proofs.Codes.{few-operands}
-use Rattle.reader.proofs.Spelling.{recordOf}
+use Rattle.reader.proofs.Fields.{recordOf}
 use Rattle.image.specs.Widths.{operandsFrom}
 use Rattle.emitter.specs.declared.RecordBytes.{RecordBytes}
 use Rattle.emitter.specs.declared.Block.{Block}

@@ -11,7 +11,8 @@ use Rattle.reader.specs.Table.{Sort, Kind, line}
 use Rattle.reader.specs.Trees.{Tree, Trees, Fields, Record, node}
 use Rattle.reader.specs.Spelling.{spellRecord, spellTree, treeRecords}
 use Rattle.reader.proofs.Codes.{few-operands}
-use Rattle.reader.proofs.Spelling.{spellTrees, treesRecords, recordOf, spell-node, records-node, length-tree, length-spellTrees, on-tree}
+use Rattle.reader.proofs.Fields.{recordOf}
+use Rattle.reader.proofs.Spelling.{spellTrees, treesRecords, spell-node, records-node, length-tree, length-spellTrees, on-tree}
 use Rattle.emitter.specs.declared.RecordBytes.{RecordBytes}
 use Rattle.emitter.specs.Blocks.{lastRecord, EndsWith}
 

@@ -18,7 +18,7 @@ use Rattle.reader.specs.Trees.{Tree, Trees, Fields, partyNamed, node}
 use Rattle.reader.specs.Codes.{completed}
 use Rattle.reader.specs.Spelling.{operator, treeRecords}
 use Rattle.reader.proofs.Codes.{is-empty}
-use Rattle.reader.proofs.Spelling.{recordOf}
+use Rattle.reader.proofs.Fields.{recordOf}
 use Rattle.image.specs.Widths.{width, operandsFrom, afterExpression, afterClause}
 use Rattle.image.specs.Blocks.{endRow, liveRow, expressionRows, blaming, outputsOf, clauseRows}
 use Rattle.image.proofs.Goodness.{after-expression, after-clause, length-expression, length-clause}

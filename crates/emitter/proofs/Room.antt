@@ -14,7 +14,7 @@ use Rattle.reader.specs.Table.{Sort, clause, expression, Kind, line}
 use Rattle.reader.specs.Trees.{Tree, Trees, Fields, partyNamed}
 use Rattle.reader.specs.Spelling.{treeRecords}
 use Rattle.reader.specs.Codes.{emptyCode}
-use Rattle.reader.proofs.Spelling.{recordOf}
+use Rattle.reader.proofs.Fields.{recordOf}
 use Rattle.image.proofs.Goodness.{inside-expression, inside-clause}
 use Rattle.emitter.specs.declared.RecordBytes.{RecordBytes}
 use Rattle.emitter.specs.declared.Block.{Block}

@@ -20,7 +20,7 @@ use Rattle.reader.specs.Table
 use Rattle.reader.specs.Trees.{Record}
 use Rattle.reader.specs.Spelling.{operator, atomRecord, literalRecord, expressionRecords, records, ExpressionInRange, InRange}
 use Rattle.reader.proofs.Table.{of-records}
-use Rattle.reader.proofs.Nodes.{allowed-action}
+use Rattle.reader.proofs.Fields.{allowed-action}
 use Rattle.image.specs.Limits.{allowedRows}
 use Rattle.image.specs.Widths.{width, size, maxSize, neverRow, maxRowsFor, _⊹_, inside, afterRecord, expressionSize, clauseSize, fixedRows, afterExpression, afterClause}
 use Rattle.image.specs.Blocks.{joinRow, endRow, liveRow, ifEmpty, expressionRows, Outputs, blaming, outputsOf, clauseRows}

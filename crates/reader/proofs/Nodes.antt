@@ -2,31 +2,30 @@
 -- where the fields are in range and no expression under it holds the empty list.
 use Prim.Native.Nat.{ℕ, suc, _≤_, _<_}
 use native.Mathlib.Omega.{arith}
-use mathlib.Core.Bool.{Bool, true, false, _&&_, _||_, not, cond, and-eq-true-iff, false≢true}
+use mathlib.Core.Bool.{Bool, true, false, not, false≢true}
 use mathlib.Core.List.{List, [], _∷_, _++_}
 use mathlib.Core.Logic.{_↔_}
 use mathlib.Core.Option.{Option, none, some}
 use mathlib.Core.Path.{_≡_, refl, sym, ap, _∙_}
-use lib.Dec.{eqb, ltb, leb, lit<}
+use lib.Dec.{lit<}
 use lib.ListN.{length, take, drop, getD}
 use lib.Seq.{take-add, drop-cons}
-use borrow.Author.Tests.{eqb-true, eqb-false, leb-true, ltb-true, ltb-false, not-true}
+use borrow.Author.Tests.{not-true}
 use Rattle.records.specs.Marks.{contractMark, marked}
 use Rattle.records.proofs.Marks.{of-marked}
-use Rattle.periods.specs.Limits.{actions}
-use Rattle.periods.specs.Periods.{party1, party2, number}
 use Rattle.contract.specs.Expressions.{Expression, Holds, holdsEmpty}
 use Rattle.contract.specs.Meaning.{Clause, EmptyFree}
 use Rattle.contract.proofs.Expressions.{empty-iff}
 use Rattle.reader.specs.declared.Fault.{Fault}
 use Rattle.reader.specs.declared.Fault.the-variants.{BadMark, UnknownKind, BadField, BadOperands, EmptyList}
 use Rattle.reader.specs.Limits.{recordBytes}
-use Rattle.reader.specs.Table.{Sort, clause, expression, Kind, duty, ban, power, both, then, repair, repeat, when, until, any, tries, idle, succeeds, fails, seq, or, star, Range, within, kindOf, line}
-use Rattle.reader.specs.Trees.{Tree, Trees, Fields, Record, goodFields, partyNamed, node}
+use Rattle.reader.specs.Table.{Sort, clause, expression, Kind, duty, ban, power, both, then, repair, repeat, when, until, any, tries, idle, succeeds, fails, seq, or, star, kindOf, line}
+use Rattle.reader.specs.Trees.{Tree, Trees, Fields, goodFields, node}
 use Rattle.reader.specs.Spelling.{spellRecord, Allowed, ExpressionInRange, InRange}
 use Rattle.reader.specs.Reader.{Result, refused, taken, next, require, demand, fieldsIn, Operand, operand, Operands, oneMore, operandsOf, holdsEmptyUnder, push, readRecord}
-use Rattle.reader.proofs.Table.{kind-number, number-kind, of-all}
-use Rattle.reader.proofs.Spelling.{All, uses, used, recordOf}
+use Rattle.reader.proofs.Table.{kind-number, number-kind}
+use Rattle.reader.proofs.Fields.{recordOf, used-same}
+use Rattle.reader.proofs.Spelling.{All}
 
 -- ---- the trees that a contract may have
 
@@ -74,70 +73,6 @@ good-node fails f ts = (λ g. (g, tt, refl), λ h. h .0)
 good-node seq f ts = (λ g. (refl, (g .0, (g .1, tt)), refl), λ h. (h .1 .0, h .1 .1 .0))
 good-node or f ts = (λ g. (refl, (g .0, (g .1, tt)), refl), λ h. (h .1 .0, h .1 .1 .0))
 good-node star f ts = (λ g. (refl, (g, tt), refl), λ h. h .1 .0)
-
--- ---- a record's fields
-
--- a field in range is what a node keeps of it
-used-number : (r : Range) (n : ℕ) → within r n ≡ true → cond (uses r) n 0 ≡ n
-used-number r n h = go (uses r) refl
-  where
-    go : (t : Bool) → uses r ≡ t → cond t n 0 ≡ n
-    go true e = refl
-    go false e =
-        let none : r .greatest ≤ 0 = ltb-false 0 (r .greatest) e in
-        let most : n ≤ r .greatest = leb-true n (r .greatest) (and-eq-true-iff (leb (r .least) n) (leb n (r .greatest)) .0 h .1) in
-        omega arith
-
-number-named : (n : ℕ) → 1 ≤ n → n ≤ 2 → number (partyNamed n) ≡ n
-number-named n h i = go (eqb n 1) refl
-  where
-    go : (t : Bool) → eqb n 1 ≡ t → number (cond t party1 party2) ≡ n
-    go true e = sym (eqb-true n 1 e)
-    go false e = let d : n ≡ 1 → ⊥ = eqb-false n 1 e in omega arith
-
--- a range of parties' numbers, or of 0 alone
-abbrev ofParties : Range → Bool
-ofParties r = not (uses r) || (leb 1 (r .least) && leb (r .greatest) 2)
-
-used-party : (r : Range) → ofParties r ≡ true → (n : ℕ) → within r n ≡ true → cond (uses r) (number (partyNamed n)) 0 ≡ n
-used-party r g n h = go (uses r) refl
-  where
-    go : (t : Bool) → uses r ≡ t → cond t (number (partyNamed n)) 0 ≡ n
-    go true e =
-        let b = and-eq-true-iff (leb 1 (r .least)) (leb (r .greatest) 2) .0 (rw e at g) in
-        let c = and-eq-true-iff (leb (r .least) n) (leb n (r .greatest)) .0 h in
-        let l : 1 ≤ r .least = leb-true 1 (r .least) (b .0) in
-        let m : r .greatest ≤ 2 = leb-true (r .greatest) 2 (b .1) in
-        let i : r .least ≤ n = leb-true (r .least) n (c .0) in
-        let j : n ≤ r .greatest = leb-true n (r .greatest) (c .1) in
-        number-named n (omega arith) (omega arith)
-    go false e = rw e at (used-number r n h)
-
-pub used-same : (k : Kind) (f : Fields) → goodFields (line k) f ≡ true → used k f ≡ f
-unfolding goodFields
-used-same k f h =
-    let l = line k in
-    let g = and-eq-true-iff (within (l .party) (f .party) && within (l .action) (f .action)) (within (l .last) (f .last)) .0 h in
-    let i = and-eq-true-iff (within (l .party) (f .party)) (within (l .action) (f .action)) .0 (g .0) in
-    rw (
-      used-party (l .party) (of-all (λ J. ofParties (line J .party)) refl k) (f .party) (i .0),
-      used-number (l .action) (f .action) (i .1),
-      used-number (l .last) (f .last) (g .1),
-    )
-
--- an action in range is one of those that there are
-pub allowed-action : (r : Record) → Allowed r → r .fields .action < actions
-unfolding goodFields
-allowed-action r h =
-    let l = line (r .kind) in
-    let f = r .fields in
-    let g = and-eq-true-iff (within (l .party) (f .party) && within (l .action) (f .action)) (within (l .last) (f .last)) .0 h .0 in
-    let i = and-eq-true-iff (within (l .party) (f .party)) (within (l .action) (f .action)) .0 g .1 in
-    let j : f .action ≤ l .action .greatest =
-    leb-true (f .action) (l .action .greatest) (and-eq-true-iff (leb (l .action .least) (f .action)) (leb (f .action) (l .action .greatest)) .0 i .1) in
-    let m : l .action .greatest < actions =
-    ltb-true (l .action .greatest) actions (of-all (λ J. ltb (line J .action .greatest) actions) refl (r .kind)) in
-    omega arith
 
 -- ---- the stack
 

@@ -17,7 +17,8 @@ use Rattle.reader.specs.Table.{Sort, clause, expression, Kind, line}
 use Rattle.reader.specs.Trees.{Tree, Trees, Fields, goodFields, node}
 use Rattle.reader.specs.Spelling.{spellRecord, spell, records, InRange, Spells, spellTree, treeRecords}
 use Rattle.reader.specs.Reader.{taken, Operand, operand, holdsEmptyUnder, readRecord, readRecords, justOne, recordCount, goodLength, read}
-use Rattle.reader.proofs.Spelling.{spellTrees, treesRecords, All, used, recordOf, on-tree, spell-node, records-node, length-spell, some-records}
+use Rattle.reader.proofs.Fields.{used, recordOf}
+use Rattle.reader.proofs.Spelling.{spellTrees, treesRecords, All, on-tree, spell-node, records-node, length-spell, some-records}
 use Rattle.reader.proofs.Nodes.{Good, good-node, onto, read-node, Completed, required, followed, completed}
 
 -- ---- what has been read is what the stack spells

@@ -2,20 +2,19 @@
 -- expressions. With it: the bytes of a node are its operands' and then its record, and a tree has six bytes for each of its records.
 use Prim.Native.Nat.{ℕ, _+_, _*_, _≤_}
 use native.Mathlib.Omega.{arith}
-use mathlib.Core.Bool.{Bool, cond}
 use mathlib.Core.List.{List, [], _∷_, _++_, append-nil}
 use mathlib.Core.Path.{_≡_, refl}
-use lib.Dec.{ltb}
 use lib.ListN.{length, length-append}
-use Rattle.periods.specs.Periods.{Party, party1, party2, number}
+use Rattle.periods.specs.Periods.{Party, party1, party2}
 use Rattle.contract.specs.Expressions as E
 use Rattle.contract.specs.Expressions.{Expression}
 use Rattle.contract.specs.Meaning as M
 use Rattle.contract.specs.Meaning.{Clause}
 use Rattle.reader.specs.Limits.{recordBytes}
-use Rattle.reader.specs.Table.{Sort, clause, expression, Kind, duty, ban, power, both, then, repair, repeat, when, until, any, tries, idle, succeeds, fails, seq, or, star, Range, line}
-use Rattle.reader.specs.Trees.{Tree, Trees, Fields, Record, partyNamed, node}
+use Rattle.reader.specs.Table.{Sort, clause, expression, Kind, duty, ban, power, both, then, repair, repeat, when, until, any, tries, idle, succeeds, fails, seq, or, star, line}
+use Rattle.reader.specs.Trees.{Tree, Trees, Fields, Record, node}
 use Rattle.reader.specs.Spelling.{spellRecord, spellExpression, spell, expressionRecords, records, spellTree, treeRecords}
+use Rattle.reader.proofs.Fields.{used, recordOf}
 
 -- ---- of any sort
 
@@ -32,22 +31,7 @@ abbrev pub All : ((s : Sort) → Tree s → Type 0) → (ss : List Sort) → Tre
 All P [] ts = Unit {0}
 All P (s ∷ ss) ts = P s (ts .0) × All P ss (ts .1)
 
--- ---- the fields that a node keeps: those that its kind uses
-
-abbrev pub uses : Range → Bool
-uses r = ltb 0 (r .greatest)
-
-abbrev pub used : Kind → Fields → Fields
-used k f =
-    record {
-      party = cond (uses (line k .party)) (number (partyNamed (f .party))) 0;
-      action = cond (uses (line k .action)) (f .action) 0;
-      last = cond (uses (line k .last)) (f .last) 0;
-    }
-
--- the record of a node
-abbrev pub recordOf : Kind → Fields → Record
-recordOf k f = record { kind = k; fields = used k f }
+-- ---- a record
 
 pub length-record : (r : Record) → length (spellRecord r) ≡ recordBytes
 unfolding spellRecord
