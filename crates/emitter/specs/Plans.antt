@@ -3,34 +3,36 @@ use Prim.Native.Nat.{ℕ}
 use Rattle.reader.specs.Table.{Kind, duty, ban, power, both, then, repair, repeat, when, until, any, tries, idle, succeeds, fails, seq, or, star}
 use Rattle.reader.specs.Trees.{Record}
 use Rattle.reader.specs.Spelling.{operator}
-use Rattle.image.specs.Widths.{Width, width, _⊹_}
+use Rattle.image.specs.Widths.{width, _⊹_}
 use Rattle.emitter.specs.declared.PlanLine.{PlanLine}
 use Rattle.emitter.specs.declared.Plan.{Plan}
 use Rattle.emitter.specs.Rows.{ZERO, S, K, B, N, LONE, LTWO, RSAT, RONE, RTWO}
 
 -- where a kind's own rows start in the table, how many stand before its operands' rows and after them, what tells its operands when they read,
 -- and what its block gives out
-abbrev plan : Width → (from start go keep sat one two : ℕ) → PlanLine
-plan w from s k l x y z = record { 0 = from; 1 = w .before; 2 = w .after; 3 = s; 4 = k; 5 = l; 6 = x; 7 = y; 8 = z }
+abbrev plan : Kind → (from start go keep sat one two : ℕ) → PlanLine
+plan j from s k l x y z =
+    let w = width (operator j) in
+    record { 0 = from; 1 = w .before; 2 = w .after; 3 = s; 4 = k; 5 = l; 6 = x; 7 = y; 8 = z }
 
 abbrev pub planLine : Kind → PlanLine
-planLine duty = plan (width (operator duty)) 0 ZERO ZERO ZERO (B ⊹ 3) (B ⊹ 5) (B ⊹ 7)
-planLine ban = plan (width (operator ban)) 8 ZERO ZERO ZERO (B ⊹ 5) (B ⊹ 3) ZERO
-planLine power = plan (width (operator power)) 14 ZERO ZERO ZERO (B ⊹ 6) ZERO (B ⊹ 4)
-planLine both = plan (width (operator both)) 35 S (B ⊹ 2) (B ⊹ 2) (N ⊹ 6) (N ⊹ 7) (N ⊹ 8)
-planLine then = plan (width (operator then)) 49 (B ⊹ 1) (B ⊹ 3) K RSAT N (N ⊹ 1)
-planLine repair = plan (width (operator repair)) 55 (B ⊹ 1) (B ⊹ 3) K (N ⊹ 1) RONE RTWO
-planLine repeat = plan (width (operator repeat)) 61 (B ⊹ 4) (B ⊹ 3) ZERO ZERO RONE RTWO
-planLine when = plan (width (operator when)) 66 (B ⊹ 1) (B ⊹ 3) (B ⊹ 3) (N ⊹ 6) RONE RTWO
-planLine until = plan (width (operator until)) 77 S (B ⊹ 2) (B ⊹ 2) (N ⊹ 3) LONE LTWO
-planLine any = plan (width (operator any)) 21 ZERO ZERO ZERO S ZERO ZERO
-planLine tries = plan (width (operator tries)) 21 ZERO ZERO ZERO (B ⊹ 1) ZERO ZERO
-planLine idle = plan (width (operator idle)) 23 ZERO ZERO ZERO (B ⊹ 2) ZERO ZERO
-planLine succeeds = plan (width (operator succeeds)) 26 ZERO ZERO ZERO (B ⊹ 3) ZERO ZERO
-planLine fails = plan (width (operator fails)) 30 ZERO ZERO ZERO (B ⊹ 4) ZERO ZERO
-planLine seq = plan (width (operator seq)) 85 (B ⊹ 2) K K N (N ⊹ 2) ZERO
-planLine or = plan (width (operator or)) 91 S K K N (N ⊹ 1) ZERO
-planLine star = plan (width (operator star)) 93 (B ⊹ 2) K ZERO RSAT N ZERO
+planLine duty = plan duty 0 ZERO ZERO ZERO (B ⊹ 3) (B ⊹ 5) (B ⊹ 7)
+planLine ban = plan ban 8 ZERO ZERO ZERO (B ⊹ 5) (B ⊹ 3) ZERO
+planLine power = plan power 14 ZERO ZERO ZERO (B ⊹ 6) ZERO (B ⊹ 4)
+planLine both = plan both 35 S (B ⊹ 2) (B ⊹ 2) (N ⊹ 6) (N ⊹ 7) (N ⊹ 8)
+planLine then = plan then 49 (B ⊹ 1) (B ⊹ 3) K RSAT N (N ⊹ 1)
+planLine repair = plan repair 55 (B ⊹ 1) (B ⊹ 3) K (N ⊹ 1) RONE RTWO
+planLine repeat = plan repeat 61 (B ⊹ 4) (B ⊹ 3) ZERO ZERO RONE RTWO
+planLine when = plan when 66 (B ⊹ 1) (B ⊹ 3) (B ⊹ 3) (N ⊹ 6) RONE RTWO
+planLine until = plan until 77 S (B ⊹ 2) (B ⊹ 2) (N ⊹ 3) LONE LTWO
+planLine any = plan any 21 ZERO ZERO ZERO S ZERO ZERO
+planLine tries = plan tries 21 ZERO ZERO ZERO (B ⊹ 1) ZERO ZERO
+planLine idle = plan idle 23 ZERO ZERO ZERO (B ⊹ 2) ZERO ZERO
+planLine succeeds = plan succeeds 26 ZERO ZERO ZERO (B ⊹ 3) ZERO ZERO
+planLine fails = plan fails 30 ZERO ZERO ZERO (B ⊹ 4) ZERO ZERO
+planLine seq = plan seq 85 (B ⊹ 2) K K N (N ⊹ 2) ZERO
+planLine or = plan or 91 S K K N (N ⊹ 1) ZERO
+planLine star = plan star 93 (B ⊹ 2) K ZERO RSAT N ZERO
 
 -- a line's fields by their names
 abbrev pub named : PlanLine → Plan

@@ -1,6 +1,6 @@
 -- How many rows each record has, and where the rows of a tree start and end. Which rows an image has is free: "they follow from the
--- contract's bytes alone, form a good image and meet demand 3" (Document 01, "Contracts and examples"). The
--- room that there must be for them is in Limits.antt.
+-- contract's bytes alone, form a good image and meet demand 3" (Document 01, "Contracts and examples"). The room that there must be for them is in
+-- Limits.antt.
 use Prim.Native.Nat.{ℕ, zero, suc, _+_, _*_}
 use Rattle.contract.specs.Expressions as E
 use Rattle.contract.specs.Expressions.{Expression, atom}
@@ -18,6 +18,7 @@ pub record Width : Type 0 where
 abbrev rows : ℕ → ℕ → Width
 rows m n = record { before = m; after = n }
 
+-- by a record's kind and fields; no kind's rows go by its fields
 abbrev widthOf : Kind → Fields → Width
 widthOf duty f = rows 8 0
 widthOf ban f = rows 6 0
