@@ -24,11 +24,11 @@ use Rattle.reader.specs.Limits.{maxRecords}
 use Rattle.reader.specs.Reader.{taken, read, contractRecords, readTest, readFaults}
 use Rattle.reader.proofs.Places.{read-only}
 use Rattle.reader.proofs.Answers.{test-passed}
-use Rattle.image.specs.Widths.{bufferBytes}
+use Rattle.image.specs.Limits.{bufferBytes}
 use Rattle.image.specs.Images.{imageFor}
 use Rattle.image.proofs.Images.{right-for, sized-for}
 use Rattle.image.proofs.Monitors.{monitors}
-use Rattle.emitter.specs.Plans.{Writes}
+use Rattle.emitter.specs.Premises.{Writes}
 use Rattle.compiler.specs.Calls.{compileTest, compileFaults, compileReplyBytes, compile, Usable, Compiles}
 
 -- ---- the image and the reply in their places

@@ -6,9 +6,9 @@ use Rattle.records.specs.Replies.{fieldsBytes, call}
 use Rattle.layout.specs.Rows.{encode}
 use Rattle.layout.specs.Images.{imageBytes, rowsBytes, endBytes, rowCount, goodLength}
 use Rattle.reader.specs.Table.{numbered, kindOf}
-use Rattle.reader.specs.Trees.{node}
+use Rattle.reader.specs.Trees.{goodFields, node}
 use Rattle.reader.specs.Reader as Reader
-use Rattle.reader.specs.Reader.{fieldsOf, operandsOf, readRecord, readRecords, read, readTest}
+use Rattle.reader.specs.Reader.{operandsOf, readRecord, readRecords, read, readTest}
 use Rattle.image.specs.Blocks.{outputsOf, clauseRows}
 use Rattle.image.specs.Images.{rowsFor, image, imageFor}
 use Rattle.compiler.specs.Examples.{CompileVectors}
@@ -16,6 +16,6 @@ use Rattle.compiler.specs.Calls.{compileTest, compile}
 
 pub compile-vectors : CompileVectors
 unfolding
-    compile compileTest call fieldsBytes readTest read Reader.goodLength Reader.contractRecords readRecords readRecord numbered kindOf fieldsOf operandsOf node imageFor image
+    compile compileTest call fieldsBytes readTest read Reader.goodLength Reader.contractRecords readRecords readRecord numbered kindOf goodFields operandsOf node imageFor image
     rowsFor clauseRows outputsOf imageBytes rowsBytes endBytes encode rowCount marked bytes
 compile-vectors = record { taken = refl; short = refl; clause-first = refl; no-room = refl }

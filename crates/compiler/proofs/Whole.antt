@@ -22,7 +22,9 @@ use Rattle.image.specs.Images as Images
 use Rattle.image.specs.Images.{rowsFor, imageFor}
 use Rattle.image.proofs.Sizes.{rows-allowed}
 use Rattle.emitter.specs.declared.Block.{Block}
-use Rattle.emitter.specs.Plans.{numbersOf, numbersBytes, writtenRows, blockOf, EndsWith, Emitted, Emits, Writes}
+use Rattle.emitter.specs.Rows.{numbersOf, numbersBytes, writtenRows}
+use Rattle.emitter.specs.Blocks.{blockOf, EndsWith, Emitted}
+use Rattle.emitter.specs.Premises.{Emits, Writes}
 use Rattle.emitter.proofs.Writing.{numbers-bytes, length-written, written-after}
 use Rattle.emitter.proofs.Plans.{after-tree}
 
@@ -107,7 +109,7 @@ module _ (contract : List ℕ) (n : ℕ) (image : List ℕ) (w : Writes contract
     pub end-room : (fixedRows ≤ r .next) × (rowBytes * r .next + rowBytes ≤ length later)
     end-room = rw (block-is, rows-are, length-sets) (omega (arith, room, after-tree clause c fixedRows firstRow laterRow))
 
-    pub image-is : sets later (rowBytes * r .next) (endRecord (r .first) (r .second) (r .third)) ≡ sets image 0 (imageFor contract)
+    pub image-is : sets later (rowBytes * r .next) (endRecord (r .sat) (r .one) (r .two)) ≡ sets image 0 (imageFor contract)
     unfolding endBytes Images.image
     image-is = rw (block-is, rows-are, imageFor-is) (image-written c image)
 

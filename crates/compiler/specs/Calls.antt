@@ -18,7 +18,7 @@ use Rattle.layout.specs.Images.{rowCount}
 use Rattle.layout.specs.Refusals.{imageTest}
 use Rattle.contract.specs.Meaning.{Clause}
 use Rattle.reader.specs.Reader.{taken, read, contractRecords, readTest, readFaults}
-use Rattle.image.specs.Widths.{allowedRows, bufferBytes}
+use Rattle.image.specs.Limits.{allowedRows, bufferBytes}
 use Rattle.image.specs.Images.{imageFor}
 use Rattle.image.specs.Monitors.{Monitors}
 

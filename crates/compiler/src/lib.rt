@@ -3,7 +3,7 @@ ghost use mathlib.Core.Path.{_≡_};
 ghost use lib.Seq.{sets};
 ghost use Rattle.layout.specs.Images.{rowCount};
 ghost use Rattle.image.specs.Images.{imageFor};
-ghost use Rattle.emitter.specs.Plans.{Writes};
+ghost use Rattle.emitter.specs.Premises.{Writes};
 ghost use Rattle.compiler.specs.Calls.{compileTest, Compiles};
 use layout::FIRST;
 use layout::NEVER;
@@ -32,7 +32,7 @@ fn put_image(contract: &[u8], n: usize, image: &mut [u8]) -> u32
     layout::put_row(image, FIRST_ROW, FIRST, 0, 0);
     layout::put_row(image, LATER_ROW, NOT, FIRST_ROW, 0);
     let whole = emitter::emit(contract, n, image, FIXED_ROWS, FIRST_ROW, LATER_ROW);
-    layout::put_end(image, whole.next, whole.first, whole.second, whole.third);
+    layout::put_end(image, whole.next, whole.sat, whole.one, whole.two);
     whole.next
 }
 

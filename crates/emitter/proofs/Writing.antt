@@ -11,7 +11,7 @@ use Rattle.layout.specs.Limits.{rowBytes}
 use Rattle.layout.specs.Rows.{Row, rowRecord, encode}
 use Rattle.layout.specs.Images.{rowsBytes}
 use Rattle.emitter.specs.declared.TableRow.{TableRow}
-use Rattle.emitter.specs.Plans.{RowNumbers, numbersOf, numbersBytes, writtenRows, leafRows, nodeRows, rowTable, valueAt, tableRow, tableRows}
+use Rattle.emitter.specs.Rows.{RowNumbers, numbersOf, numbersBytes, writtenRows, leafRows, nodeRows, rowTable, valueAt, tableRow, tableRows}
 
 -- rows as numbers have the rows' bytes
 pub numbers-bytes : (rs : List Row) → numbersBytes (map numbersOf rs) ≡ rowsBytes rs

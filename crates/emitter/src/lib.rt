@@ -4,11 +4,14 @@ ghost use mathlib.Core.Bool.{cond};
 ghost use mathlib.Core.List.{map};
 ghost use mathlib.Core.Option.{some};
 ghost use Prim.Native.Nat.{_+_, _*_, _<_, _≤_};
-ghost use lib.Dec.{eqb};
 ghost use lib.ListN.{length, getD};
 ghost use Rattle.layout.specs.Limits.{maxRows};
+ghost use Rattle.reader.specs.Limits.{recordBytes};
 ghost use Rattle.reader.specs.Table.{Kind, kindOf};
-ghost use Rattle.emitter.specs.Plans.{leafRows, nodeRows, rowTable, unpacked, named, planOf, basesOf, valueAt, tableRows, writtenRows, wiresOf, noBlock, Small, RoomFrom, RoomForRows, RecordRows, recordBlock, recordWritten, Emits, Emitted};
+ghost use Rattle.emitter.specs.Rows.{leafRows, nodeRows, rowTable, unpacked, valueAt, tableRows, writtenRows};
+ghost use Rattle.emitter.specs.Plans.{named, planOf};
+ghost use Rattle.emitter.specs.Blocks.{lastRecord, recordFrom, otherNumber, basesOf, wiresOf, noBlock, recordBlock, recordWritten, Emitted};
+ghost use Rattle.emitter.specs.Premises.{Small, RoomFrom, RoomForRows, RecordRows, Emits};
 use layout::AND;
 use layout::NOT;
 use layout::OR;
@@ -31,20 +34,20 @@ const B: u8 = 0x30;
 
 const N: u8 = 0x40;
 
-// What the left operand's block gives out, and then the right operand's, or the only one's.
-const L1: u8 = 0x50;
+// The rows `sat`, `one` and `two` of the left operand's block, and then of the right operand's, or the only one's.
+const LSAT: u8 = 0x50;
 
-const L2: u8 = 0x60;
+const LONE: u8 = 0x60;
 
-const L3: u8 = 0x70;
+const LTWO: u8 = 0x70;
 
-const R1: u8 = 0x80;
+const RSAT: u8 = 0x80;
 
-const R2: u8 = 0x90;
+const RONE: u8 = 0x90;
 
-const R3: u8 = 0xa0;
+const RTWO: u8 = 0xa0;
 
-// S where the left operand holds the empty list, and L1 where the right one does; otherwise the row that is never true.
+// S where the left operand holds the empty list, and LSAT where the right one does; otherwise the row that is never true.
 const SE: u8 = 0xb0;
 
 const LE: u8 = 0xc0;
@@ -117,71 +120,71 @@ const NODE_ROWS: [u32; 62] = [
     KIND * AND as u32 + X * K as u32 + Y * (B + 1) as u32,
     KIND * PREVIOUS as u32 + X * (N + 2) as u32,
     KIND * AND as u32 + X * (B + 2) as u32 + Y * N as u32,
-    KIND * OR as u32 + X * (N + 1) as u32 + Y * L1 as u32,
+    KIND * OR as u32 + X * (N + 1) as u32 + Y * LSAT as u32,
     KIND * PREVIOUS as u32 + X * (N + 5) as u32,
     KIND * AND as u32 + X * (B + 2) as u32 + Y * (N + 3) as u32,
-    KIND * OR as u32 + X * (N + 4) as u32 + Y * R1 as u32,
+    KIND * OR as u32 + X * (N + 4) as u32 + Y * RSAT as u32,
     KIND * AND as u32 + X * (N + 2) as u32 + Y * (N + 5) as u32,
-    KIND * OR as u32 + X * L2 as u32 + Y * R2 as u32,
-    KIND * OR as u32 + X * L3 as u32 + Y * R3 as u32,
+    KIND * OR as u32 + X * LONE as u32 + Y * RONE as u32,
+    KIND * OR as u32 + X * LTWO as u32 + Y * RTWO as u32,
     KIND * OR as u32 + X * (N + 7) as u32 + Y * (N + 8) as u32,
     KIND * OR as u32 + X * (N + 6) as u32 + Y * (N + 9) as u32,
     // then
-    KIND * PREVIOUS as u32 + X * L1 as u32,
+    KIND * PREVIOUS as u32 + X * LSAT as u32,
     KIND * AND as u32 + X * K as u32 + Y * B as u32,
     KIND * NOT as u32 + X * B as u32,
     KIND * AND as u32 + X * K as u32 + Y * (B + 2) as u32,
-    KIND * OR as u32 + X * L2 as u32 + Y * R2 as u32,
-    KIND * OR as u32 + X * L3 as u32 + Y * R3 as u32,
+    KIND * OR as u32 + X * LONE as u32 + Y * RONE as u32,
+    KIND * OR as u32 + X * LTWO as u32 + Y * RTWO as u32,
     // repair
     KIND * PREVIOUS as u32 + X * N as u32,
     KIND * AND as u32 + X * K as u32 + Y * B as u32,
     KIND * NOT as u32 + X * B as u32,
     KIND * AND as u32 + X * K as u32 + Y * (B + 2) as u32,
-    KIND * OR as u32 + X * L2 as u32 + Y * L3 as u32,
-    KIND * OR as u32 + X * L1 as u32 + Y * R1 as u32,
+    KIND * OR as u32 + X * LONE as u32 + Y * LTWO as u32,
+    KIND * OR as u32 + X * LSAT as u32 + Y * RSAT as u32,
     // repeat
-    KIND * PREVIOUS as u32 + X * R1 as u32,
+    KIND * PREVIOUS as u32 + X * RSAT as u32,
     KIND * AND as u32 + X * K as u32 + Y * B as u32,
     KIND * NOT as u32 + X * B as u32,
     KIND * AND as u32 + X * K as u32 + Y * (B + 2) as u32,
     KIND * OR as u32 + X * S as u32 + Y * (B + 1) as u32,
     // when
-    KIND * PREVIOUS as u32 + X * L1 as u32,
+    KIND * PREVIOUS as u32 + X * LSAT as u32,
     KIND * AND as u32 + X * K as u32 + Y * B as u32,
     KIND * NOT as u32 + X * B as u32,
     KIND * AND as u32 + X * K as u32 + Y * (B + 2) as u32,
-    KIND * PREVIOUS as u32 + X * L2 as u32,
+    KIND * PREVIOUS as u32 + X * LONE as u32,
     KIND * AND as u32 + X * (B + 3) as u32 + Y * N as u32,
     KIND * OR as u32 + X * S as u32 + Y * (N + 1) as u32,
-    KIND * OR as u32 + X * L1 as u32 + Y * L2 as u32,
+    KIND * OR as u32 + X * LSAT as u32 + Y * LONE as u32,
     KIND * NOT as u32 + X * (N + 3) as u32,
     KIND * AND as u32 + X * (N + 2) as u32 + Y * (N + 4) as u32,
-    KIND * OR as u32 + X * R1 as u32 + Y * (N + 5) as u32,
+    KIND * OR as u32 + X * RSAT as u32 + Y * (N + 5) as u32,
     // until
     KIND * PREVIOUS as u32 + X * (N + 4) as u32,
     KIND * NOT as u32 + X * B as u32,
     KIND * AND as u32 + X * K as u32 + Y * (B + 1) as u32,
-    KIND * OR as u32 + X * L2 as u32 + Y * L3 as u32,
+    KIND * OR as u32 + X * LONE as u32 + Y * LTWO as u32,
     KIND * NOT as u32 + X * N as u32,
-    KIND * AND as u32 + X * R1 as u32 + Y * (N + 1) as u32,
-    KIND * OR as u32 + X * L1 as u32 + Y * (N + 2) as u32,
+    KIND * AND as u32 + X * RSAT as u32 + Y * (N + 1) as u32,
+    KIND * OR as u32 + X * LSAT as u32 + Y * (N + 2) as u32,
     KIND * OR as u32 + X * (N + 3) as u32 + Y * N as u32,
     // seq
-    KIND * PREVIOUS as u32 + X * L1 as u32,
+    KIND * PREVIOUS as u32 + X * LSAT as u32,
     KIND * AND as u32 + X * K as u32 + Y * B as u32,
     KIND * OR as u32 + X * (B + 1) as u32 + Y * SE as u32,
-    KIND * OR as u32 + X * R1 as u32 + Y * LE as u32,
-    KIND * OR as u32 + X * L2 as u32 + Y * R2 as u32,
-    KIND * OR as u32 + X * (N + 1) as u32 + Y * L1 as u32,
+    KIND * OR as u32 + X * RSAT as u32 + Y * LE as u32,
+    KIND * OR as u32 + X * LONE as u32 + Y * RONE as u32,
+    KIND * OR as u32 + X * (N + 1) as u32 + Y * LSAT as u32,
     // or
-    KIND * OR as u32 + X * L1 as u32 + Y * R1 as u32,
-    KIND * OR as u32 + X * L2 as u32 + Y * R2 as u32,
+    KIND * OR as u32 + X * LSAT as u32 + Y * RSAT as u32,
+    KIND * OR as u32 + X * LONE as u32 + Y * RONE as u32,
     // star
-    KIND * PREVIOUS as u32 + X * R1 as u32,
+    KIND * PREVIOUS as u32 + X * RSAT as u32,
     KIND * AND as u32 + X * K as u32 + Y * B as u32,
     KIND * OR as u32 + X * (B + 1) as u32 + Y * S as u32,
-    KIND * OR as u32 + X * R2 as u32 + Y * R1 as u32,
+    KIND * OR as u32 + X * RONE as u32 + Y * RSAT as u32,
 ];
 
 // The rows of the first table.
@@ -207,6 +210,31 @@ fn table_row(table: &[u32], j: u8) -> TableRow
     }
 }
 
+// ---- the plan of each record
+
+// The bytes of a record after its mark.
+pub struct RecordBytes {
+    pub kind: u8,
+    pub party: u8,
+    pub action: u8,
+    pub last: u8,
+}
+
+// The last of the first n records.
+fn last_record(contract: &[u8], n: usize) -> RecordBytes
+    requires { ⌜ 1 ≤ n ⌝ }
+    requires { ⌜ recordBytes * n ≤ length (now contract) ⌝ }
+    ensures { λ r. ⌜ r ≡ lastRecord (now (contract .entry)) n ⌝ }
+{
+    let at = reader::RECORD_BYTES * (n - 1);
+    RecordBytes {
+        kind: contract[at + 2],
+        party: contract[at + 3],
+        action: contract[at + 4],
+        last: contract[at + 5],
+    }
+}
+
 // A line of the table of plans, in the order of a plan's fields.
 pub struct PlanLine(
     pub u8,
@@ -226,11 +254,11 @@ const PLANS: [PlanLine; 17] = [
     PlanLine(8, 6, 0, ZERO, ZERO, ZERO, B + 5, B + 3, ZERO), // 2 ban
     PlanLine(14, 7, 0, ZERO, ZERO, ZERO, B + 6, ZERO, B + 4), // 3 power
     PlanLine(35, 3, 11, S, B + 2, B + 2, N + 6, N + 7, N + 8), // 4 both
-    PlanLine(49, 4, 2, B + 1, B + 3, K, R1, N, N + 1), // 5 then
-    PlanLine(55, 4, 2, B + 1, B + 3, K, N + 1, R2, R3), // 6 repair
-    PlanLine(61, 5, 0, B + 4, B + 3, ZERO, ZERO, R2, R3), // 7 repeat
-    PlanLine(66, 4, 7, B + 1, B + 3, B + 3, N + 6, R2, R3), // 8 when
-    PlanLine(77, 3, 5, S, B + 2, B + 2, N + 3, L2, L3), // 9 until
+    PlanLine(49, 4, 2, B + 1, B + 3, K, RSAT, N, N + 1), // 5 then
+    PlanLine(55, 4, 2, B + 1, B + 3, K, N + 1, RONE, RTWO), // 6 repair
+    PlanLine(61, 5, 0, B + 4, B + 3, ZERO, ZERO, RONE, RTWO), // 7 repeat
+    PlanLine(66, 4, 7, B + 1, B + 3, B + 3, N + 6, RONE, RTWO), // 8 when
+    PlanLine(77, 3, 5, S, B + 2, B + 2, N + 3, LONE, LTWO), // 9 until
     PlanLine(21, 0, 0, ZERO, ZERO, ZERO, S, ZERO, ZERO), // 16 any
     PlanLine(21, 2, 0, ZERO, ZERO, ZERO, B + 1, ZERO, ZERO), // 17 tries
     PlanLine(23, 3, 0, ZERO, ZERO, ZERO, B + 2, ZERO, ZERO), // 18 idle
@@ -238,12 +266,12 @@ const PLANS: [PlanLine; 17] = [
     PlanLine(30, 5, 0, ZERO, ZERO, ZERO, B + 4, ZERO, ZERO), // 20 fails
     PlanLine(85, 3, 3, B + 2, K, K, N, N + 2, ZERO), // 21 seq
     PlanLine(91, 0, 2, S, K, K, N, N + 1, ZERO), // 22 or
-    PlanLine(93, 3, 1, B + 2, K, ZERO, R1, N, ZERO), // 23 star
+    PlanLine(93, 3, 1, B + 2, K, ZERO, RSAT, N, ZERO), // 23 star
 ];
 
 // How a kind's rows are laid out: the first of its own rows in the tables, how many stand before its operands' rows and how many after them; the
 // rows that tell the right operand when it begins to read (start) and when it goes on (go), and the left operand when it goes on (keep; it
-// begins with the whole); and the three rows that the block gives out, of a literal with its own party's blame before the other's.
+// begins with the whole); and the rows that the block gives out, of a literal with its own party's blame as `one` and the other's as `two`.
 pub struct Plan {
     pub from: u8,
     pub before: u8,
@@ -251,9 +279,9 @@ pub struct Plan {
     pub start: u8,
     pub go: u8,
     pub keep: u8,
-    pub first: u8,
-    pub second: u8,
-    pub third: u8,
+    pub sat: u8,
+    pub one: u8,
+    pub two: u8,
 }
 
 fn named(l: PlanLine) -> Plan
@@ -266,17 +294,18 @@ fn named(l: PlanLine) -> Plan
         start: l.3,
         go: l.4,
         keep: l.5,
-        first: l.6,
-        second: l.7,
-        third: l.8,
+        sat: l.6,
+        one: l.7,
+        two: l.8,
     }
 }
 
-// The plan of a kind's number.
-fn plan_of(kind: u8) -> Plan
-    ensures { λ r. ⌜ ((k : Kind) → kindOf kind ≡ some k → r ≡ planOf k) ⌝ }
+// The plan of a record.
+fn plan_of(r: RecordBytes) -> Plan
+    ensures { λ p. ⌜ ((k : Kind) → kindOf (r .kind) ≡ some k → p ≡ planOf (recordFrom k r)) ⌝ }
 {
     let plans = PLANS;
+    let kind = r.kind;
     match kind {
         1..=9 => named(plans[kind as usize - 1]),
         16..=23 => named(plans[kind as usize - 7]),
@@ -288,14 +317,14 @@ fn plan_of(kind: u8) -> Plan
 // ---- the rows of one record
 
 // The rows of a tree, once they are written: how many records stand before the tree's own, the row after its rows, the three rows that it
-// gives out (of a clause: satisfied, violated with party 1, with party 2 to blame; of an expression: a list ends, one may go on), and the
-// tree's code as an operand.
+// gives out, and the tree's code as an operand. Of a clause `sat` is that it is satisfied, `one` that it is violated with party 1, `two` with
+// party 2 to blame; of an expression they are the end of a list, that one may go on, and never.
 pub struct Block {
     pub before: usize,
     pub next: u32,
-    pub first: u32,
-    pub second: u32,
-    pub third: u32,
+    pub sat: u32,
+    pub one: u32,
+    pub two: u32,
     pub code: u8,
 }
 
@@ -306,9 +335,9 @@ fn no_block(before: usize, next: u32) -> Block
     Block {
         before: before,
         next: next,
-        first: 0,
-        second: 0,
-        third: 0,
+        sat: 0,
+        one: 0,
+        two: 0,
         code: 0,
     }
 }
@@ -322,7 +351,7 @@ fn row_if(c: bool, x: u32) -> u32
 
 // The other party.
 fn other(party: u32) -> u32
-    ensures { λ r. ⌜ r ≡ cond (eqb party 1) 2 1 ⌝ }
+    ensures { λ r. ⌜ r ≡ otherNumber party ⌝ }
 {
     if party == 1 { 2 } else { 1 }
 }
@@ -332,19 +361,19 @@ fn bases(at: u32, s: u32, k: u32, left: Block, right: Block, party: u32, action:
     ensures { λ r. ⌜ r ≡ basesOf at s k left right party action ⌝ }
 {
     let se = row_if(left.code == reader::EMPTY, s);
-    let le = row_if(right.code == reader::EMPTY, left.first);
+    let le = row_if(right.code == reader::EMPTY, left.sat);
     [
         0,
         s,
         k,
         at,
         left.next,
-        left.first,
-        left.second,
-        left.third,
-        right.first,
-        right.second,
-        right.third,
+        left.sat,
+        left.one,
+        left.two,
+        right.sat,
+        right.one,
+        right.two,
         se,
         le,
         party,
@@ -422,20 +451,24 @@ fn put_own(image: &mut [u8], plan: Plan, at: u32, next: u32, bases: &[u32; 16])
 }
 
 // The block of a record and its operands.
-fn block_of(bases: &[u32; 16], plan: Plan, kind: u8, party: u32, left: Block, right: Block) -> Block
+fn block_of(bases: &[u32; 16], plan: Plan, r: RecordBytes, left: Block, right: Block) -> Block
     requires { ⌜ Small (now bases) ⌝ }
     requires { ⌜ left .next + plan .after ≤ maxRows ⌝ }
-    ensures { λ r. ⌜ r ≡ recordBlock (now (bases .entry)) plan kind party left right ⌝ }
+    ensures { λ b. ⌜ b ≡ recordBlock (now (bases .entry)) plan (r .kind) (r .party) left right ⌝ }
 {
-    let own = value_at(bases, plan.second);
-    let others = value_at(bases, plan.third);
+    let next = left.next + plan.after as u32;
+    let sat = value_at(bases, plan.sat);
+    let own = value_at(bases, plan.one);
+    let others = value_at(bases, plan.two);
+    let one = if r.party == 2 { others } else { own };
+    let two = if r.party == 2 { own } else { others };
     Block {
         before: left.before,
-        next: left.next + plan.after as u32,
-        first: value_at(bases, plan.first),
-        second: if party == 2 { others } else { own },
-        third: if party == 2 { own } else { others },
-        code: reader::completed(kind, left.code, right.code),
+        next: next,
+        sat: sat,
+        one: one,
+        two: two,
+        code: reader::completed(r.kind, left.code, right.code),
     }
 }
 
@@ -443,22 +476,22 @@ fn block_of(bases: &[u32; 16], plan: Plan, kind: u8, party: u32, left: Block, ri
 fn put_record(
     image: &mut [u8],
     plan: Plan,
-    kind: u8,
-    party: u32,
-    action: u32,
+    r: RecordBytes,
     at: u32,
     s: u32,
     k: u32,
     left: Block,
     right: Block,
 ) -> Block
-    requires { ⌜ RecordRows (now image) plan at (left .next) (basesOf at s k left right party action) ⌝ }
-    ensures written { λ _. ⌜ now (image .exit) ≡ recordWritten (now (image .entry)) (basesOf at s k left right party action) plan at (left .next) ⌝ }
-    ensures gives { λ r. ⌜ r ≡ recordBlock (basesOf at s k left right party action) plan kind party left right ⌝ }
+    requires { ⌜ RecordRows (now image) plan at (left .next) (basesOf at s k left right (r .party) (r .action)) ⌝ }
+    ensures written { λ _. ⌜ now (image .exit) ≡ recordWritten (now (image .entry)) (basesOf at s k left right (r .party) (r .action)) plan at (left .next) ⌝ }
+    ensures gives { λ b. ⌜ b ≡ recordBlock (basesOf at s k left right (r .party) (r .action)) plan (r .kind) (r .party) left right ⌝ }
 {
+    let party = records::wide(r.party);
+    let action = records::wide(r.action);
     let meant = bases(at, s, k, left, right, party, action);
     put_own(image, plan, at, left.next, &meant);
-    block_of(&meant, plan, kind, party, left, right)
+    block_of(&meant, plan, r, left, right)
 }
 
 // ---- the rows of a tree
@@ -488,24 +521,21 @@ pub fn emit(contract: &[u8], n: usize, image: &mut [u8], at: u32, s: u32, k: u32
     requires { ⌜ Emits (now contract) n (now image) at s k ⌝ }
     ensures { λ r. ⌜ Emitted (now (contract .entry)) n (now (image .entry)) at s k (now (image .exit)) r ⌝ }
 {
-    let last = n - 1;
-    let start = reader::RECORD_BYTES * last;
-    let kind = contract[start + 2];
-    let party = records::wide(contract[start + 3]);
-    let action = records::wide(contract[start + 4]);
-    let plan = plan_of(kind);
-    let operands = reader::operands(kind);
+    let r = last_record(contract, n);
+    let before = n - 1;
+    let plan = plan_of(r);
+    let operands = reader::operands(r.kind);
     let inside = at + plan.before as u32;
     if operands == 0 {
-        let none = no_block(last, inside);
-        return put_record(image, plan, kind, party, action, at, s, k, none, none);
+        let none = no_block(before, inside);
+        return put_record(image, plan, r, at, s, k, none, none);
     }
-    let told = wires_of(plan, at, s, k);
-    let right = emit(contract, last, image, inside, told.start, told.go);
+    let wires = wires_of(plan, at, s, k);
+    let right = emit(contract, before, image, inside, wires.start, wires.go);
     if operands == 1 {
         let none = no_block(right.before, right.next);
-        return put_record(image, plan, kind, party, action, at, s, k, none, right);
+        return put_record(image, plan, r, at, s, k, none, right);
     }
-    let left = emit(contract, right.before, image, right.next, s, told.keep);
-    put_record(image, plan, kind, party, action, at, s, k, left, right)
+    let left = emit(contract, right.before, image, right.next, s, wires.keep);
+    put_record(image, plan, r, at, s, k, left, right)
 }

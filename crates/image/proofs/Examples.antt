@@ -17,9 +17,9 @@ use Rattle.records.specs.Replies.{fieldsBytes, call}
 use Rattle.runner.specs.Calls.{begin, step}
 use Rattle.contract.specs.Expressions.{holdsEmpty}
 use Rattle.reader.specs.Table.{numbered, kindOf}
-use Rattle.reader.specs.Trees.{node}
+use Rattle.reader.specs.Trees.{goodFields, node}
 use Rattle.reader.specs.Reader as Reader
-use Rattle.reader.specs.Reader.{fieldsOf, operandsOf, readRecord, readRecords, read}
+use Rattle.reader.specs.Reader.{operandsOf, readRecord, readRecords, read}
 use Rattle.image.specs.Widths.{afterExpression, afterClause}
 use Rattle.image.specs.Blocks.{endRow, liveRow, expressionRows, outputsOf, clauseRows}
 use Rattle.image.specs.Images.{rowsFor, image, imageFor}
@@ -48,7 +48,7 @@ kind-vectors =
 
 pub watch-vector : WatchVector
 unfolding
-    replies repliesFrom read Reader.goodLength Reader.contractRecords readRecords readRecord numbered kindOf fieldsOf operandsOf node imageFor image
+    replies repliesFrom read Reader.goodLength Reader.contractRecords readRecords readRecord numbered kindOf goodFields operandsOf node imageFor image
     rowsFor clauseRows outputsOf afterClause imageBytes rowsBytes endBytes encode begin step call beginTest stepTest readyTest fieldsBytes
     imageTest goodLength rowCount firstFailing goodRowAt goodEnd decode rowOf imageOf rowsOf stateTest stateOf stateBytes sound allAtMost allZero
     recordTest marksTest formOf wholeRecords markedAs countTest afterPeriod valuesAfter newValues computed counted periodAt periodFrom tries bit marked bytes field value

@@ -8,7 +8,7 @@ use Rattle.contract.specs.Meaning.{Clause}
 use Rattle.reader.specs.Reader.{taken, read}
 use Rattle.reader.proofs.Reader.{taken-spells, taken-count}
 use Rattle.image.specs.Images.{image, imageFor, RightFor, SizedFor}
-use Rattle.image.proofs.Sizes.{length-rows, rows-most, rows-allowed}
+use Rattle.image.proofs.Sizes.{length-rows, rows-max, rows-allowed}
 use Rattle.image.proofs.Goodness.{writable}
 use Rattle.image.proofs.Root.{shows}
 
@@ -28,6 +28,6 @@ unfolding imageFor image
 sized-for contract c e =
     rw e record {
       rows-are = rw rowCount-imageBytes (length-rows c);
-      rows-most = rw (rowCount-imageBytes, taken-count contract c e) (rows-most c);
+      rows-max = rw (rowCount-imageBytes, taken-count contract c e) (rows-max c);
       rows-allowed = rw (rowCount-imageBytes, taken-count contract c e) (rows-allowed c);
     }

@@ -3,15 +3,20 @@ use Prim.Native.Nat.{ℕ, zero, suc, _+_, _*_, _≤_, _<_}
 use native.Mathlib.Omega.{arith}
 use mathlib.Core.Bool.{Bool, true, false, cond}
 use mathlib.Core.List.{List}
-use mathlib.Core.Path.{_≡_}
+use mathlib.Core.Path.{_≡_, refl}
+use lib.Dec.{leb}
 use lib.ListN.{length}
+use borrow.Author.Tests.{leb-true}
 use Rattle.periods.specs.Periods.{Party, party1, party2}
 use Rattle.layout.specs.Rows.{Row}
 use Rattle.contract.specs.Expressions.{any, tries, idle, succeeds, fails, Expression, atom, seq, or, star, holdsEmpty}
 use Rattle.contract.specs.Meaning.{duty, ban, power, Clause, literal, both, then, repair, repeat, when, until}
 use Rattle.reader.specs.Table
-use Rattle.reader.specs.Spelling.{expressionRecords, records}
-use Rattle.image.specs.Widths.{size, neverRow, mostRows, allowedRows, _⊹_, inside, expressionSize, clauseSize, fixedRows, afterExpression, afterClause}
+use Rattle.reader.specs.Trees.{Record}
+use Rattle.reader.specs.Spelling.{atomRecord, literalRecord, expressionRecords, records}
+use Rattle.reader.proofs.Table.{of-records}
+use Rattle.image.specs.Limits.{allowedRows}
+use Rattle.image.specs.Widths.{size, maxSize, neverRow, maxRowsFor, _⊹_, inside, afterRecord, expressionSize, clauseSize, fixedRows, afterExpression, afterClause}
 use Rattle.image.specs.Blocks.{joinRow, endRow, liveRow, ifEmpty, expressionRows, Outputs, blaming, outputsOf, clauseRows}
 use Rattle.image.specs.Images.{rowsFor}
 
@@ -24,23 +29,20 @@ pub ⊹-plus : (b k : ℕ) → b ⊹ k ≡ b + k
 
 -- ---- how many rows
 
--- the first row after a tree's rows
+-- the first row after a record without operands, and after a tree's rows
+after-record : (r : Record) (b : ℕ) → afterRecord r (λ n. n) b ≡ b + size r
+after-record r b = rw (⊹-plus, ⊹-plus) (omega arith)
+
 pub after-expression : (e : Expression) (b : ℕ) → afterExpression e b ≡ b + expressionSize e
 unfolding afterExpression expressionSize
-after-expression (atom any) b = omega arith
-after-expression (atom (tries p a)) b = omega arith
-after-expression (atom (idle p a)) b = omega arith
-after-expression (atom (succeeds a)) b = omega arith
-after-expression (atom (fails a)) b = omega arith
+after-expression (atom x) b = after-record (atomRecord x) b
 after-expression (seq l r) b = rw (after-expression l, after-expression r) (omega arith)
 after-expression (or l r) b = rw (after-expression l, after-expression r) (omega arith)
 after-expression (star e) b = rw (after-expression e) (omega arith)
 
 pub after-clause : (c : Clause) (b : ℕ) → afterClause c b ≡ b + clauseSize c
 unfolding afterClause clauseSize
-after-clause (literal duty p a) b = omega arith
-after-clause (literal ban p a) b = omega arith
-after-clause (literal power p a) b = omega arith
+after-clause (literal l p a) b = after-record (literalRecord l p a) b
 after-clause (both l r) b = rw (after-clause l, after-clause r) (omega arith)
 after-clause (then l r) b = rw (after-clause l, after-clause r) (omega arith)
 after-clause (repair l r) b = rw (after-clause l, after-clause r) (omega arith)
@@ -76,36 +78,33 @@ pub length-rows : (c : Clause) → length (rowsFor c) ≡ clauseSize c + fixedRo
 unfolding rowsFor
 length-rows c = rw (length-clause c) (omega arith)
 
--- no kind has more rows than `both`
-expression-most : (e : Expression) → expressionSize e ≤ size Table.both * expressionRecords e
+-- no record has more rows than the widest
+size-max : (r : Record) → size r ≤ maxSize
+size-max r = leb-true (size r) maxSize (of-records (λ r. leb (size r) maxSize) (λ f. refl) r)
+
+expression-max : (e : Expression) → expressionSize e ≤ maxSize * expressionRecords e
 unfolding expressionSize expressionRecords
-expression-most (atom any) = omega arith
-expression-most (atom (tries p a)) = omega arith
-expression-most (atom (idle p a)) = omega arith
-expression-most (atom (succeeds a)) = omega arith
-expression-most (atom (fails a)) = omega arith
-expression-most (seq l r) = omega (arith, expression-most l, expression-most r)
-expression-most (or l r) = omega (arith, expression-most l, expression-most r)
-expression-most (star e) = omega (arith, expression-most e)
+expression-max (atom x) = size-max (atomRecord x)
+expression-max (seq l r) = omega (arith, expression-max l, expression-max r)
+expression-max (or l r) = omega (arith, expression-max l, expression-max r)
+expression-max (star e) = omega (arith, expression-max e)
 
-size-most : (c : Clause) → clauseSize c ≤ size Table.both * records c
+clause-max : (c : Clause) → clauseSize c ≤ maxSize * records c
 unfolding clauseSize records
-size-most (literal duty p a) = omega arith
-size-most (literal ban p a) = omega arith
-size-most (literal power p a) = omega arith
-size-most (both l r) = omega (arith, size-most l, size-most r)
-size-most (then l r) = omega (arith, size-most l, size-most r)
-size-most (repair l r) = omega (arith, size-most l, size-most r)
-size-most (repeat c) = omega (arith, size-most c)
-size-most (when e c) = omega (arith, expression-most e, size-most c)
-size-most (until c e) = omega (arith, size-most c, expression-most e)
+clause-max (literal l p a) = size-max (literalRecord l p a)
+clause-max (both l r) = omega (arith, clause-max l, clause-max r)
+clause-max (then l r) = omega (arith, clause-max l, clause-max r)
+clause-max (repair l r) = omega (arith, clause-max l, clause-max r)
+clause-max (repeat c) = omega (arith, clause-max c)
+clause-max (when e c) = omega (arith, expression-max e, clause-max c)
+clause-max (until c e) = omega (arith, clause-max c, expression-max e)
 
-pub rows-most : (c : Clause) → length (rowsFor c) ≤ mostRows (records c)
-rows-most c = omega (arith, length-rows c, size-most c)
+pub rows-max : (c : Clause) → length (rowsFor c) ≤ maxRowsFor (records c)
+rows-max c = omega (arith, length-rows c, clause-max c)
 
 -- no more than every image buffer has room for
 pub rows-allowed : (c : Clause) → length (rowsFor c) ≤ allowedRows (records c)
-rows-allowed c = omega (arith, rows-most c)
+rows-allowed c = omega (arith, rows-max c)
 
 -- ---- the rows that a block gives out stand before its end
 

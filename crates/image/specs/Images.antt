@@ -15,7 +15,8 @@ use Rattle.machine.specs.Machine.{afterPeriods}
 use Rattle.contract.specs.Meaning.{Clause, Decision, undecided, satisfied, violated, meaning}
 use Rattle.contract.specs.Verdicts.{decisionPeriod, blame}
 use Rattle.reader.specs.Reader.{Result, refused, taken, read, contractRecords}
-use Rattle.image.specs.Widths.{clauseSize, firstRow, laterRow, fixedRows, mostRows, allowedRows}
+use Rattle.image.specs.Limits.{allowedRows}
+use Rattle.image.specs.Widths.{clauseSize, firstRow, laterRow, fixedRows, maxRowsFor}
 use Rattle.image.specs.Blocks.{outputsOf, clauseRows}
 
 -- the clause's block after the fixed rows: it begins to read in period 1 and goes on in every later one
@@ -55,9 +56,9 @@ pub record RightFor (clause : Clause) (image : List ℕ) : Type 0 where
   pub shows : (w : List Period)
       → Shows (meaning clause w) (afterPeriods (imageOf image) (stateOf (replicate (headBytes + rowCount image) 0)) w)
 
--- how many rows it has, for a contract that means this clause: as many as the widths of the contract's records and the fixed rows add up to, at
--- most 14 × records + 3, and so within the 32 × records + 64 that refusal 8 makes room for
+-- how many rows it has, for a contract that means this clause: as many as the widths of the contract's records and the fixed rows add up to, no
+-- more than the widest records would have, and so within what refusal 8 makes room for
 pub record SizedFor (contract : List ℕ) (clause : Clause) (image : List ℕ) : Type 0 where
   pub rows-are : rowCount image ≡ clauseSize clause + fixedRows
-  pub rows-most : rowCount image ≤ mostRows (contractRecords contract)
+  pub rows-max : rowCount image ≤ maxRowsFor (contractRecords contract)
   pub rows-allowed : rowCount image ≤ allowedRows (contractRecords contract)

@@ -10,7 +10,7 @@ use Rattle.records.specs.declared.Test.the-variants.{Passed, Refused}
 use Rattle.records.proofs.Refusals.{refused-passed}
 use Rattle.reader.specs.Spelling.{Spells}
 use Rattle.reader.specs.Reader.{Result, refused, taken, read, contractRecords, readTest}
-use Rattle.reader.specs.Codes.{Contract}
+use Rattle.reader.specs.Taken.{Contract}
 use Rattle.reader.proofs.Reader.{taken-spells, taken-count, spells-taken}
 
 module _ (l : List ℕ) where

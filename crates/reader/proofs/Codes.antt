@@ -4,16 +4,14 @@ use native.Mathlib.Nat.{zero-add}
 use native.Mathlib.Numerals.{add-one}
 use native.Mathlib.Omega.{arith}
 use mathlib.Core.Path.{_≡_, refl, sym, _∙_, subst}
-use mathlib.Core.Bool.{Bool, true, false, _&&_, _||_, not, cond, and-true, and-false}
+use mathlib.Core.Bool.{Bool, true, false, _&&_, not, cond, and-true, and-false}
 use mathlib.Core.List.{List, [], _∷_, map}
 use mathlib.Core.Option.{Option, none, some}
-use lib.Dec.{eqb, ltb, leb}
+use lib.Dec.{eqb, leb}
 use lib.ListN.{length, drop, getD}
 use lib.Seq.{drop-drop}
 use borrow.Author.Tests.{leb-true}
 use Rattle.records.specs.Marks.{contractMark, marked}
-use Rattle.periods.specs.Limits.{actions}
-use Rattle.periods.specs.Periods.{Party, party1, party2}
 use Rattle.contract.specs.Expressions.{holdsEmpty}
 use Rattle.records.specs.declared.Fault.{Fault}
 use Rattle.records.specs.Refusals.{require}
@@ -23,56 +21,32 @@ use Rattle.reader.specs.declared.Step.{Step}
 use Rattle.reader.specs.declared.Step.the-variants.{Bad, Completed}
 use Rattle.records.specs.declared.Test.the-variants.{Passed, Refused}
 use Rattle.reader.specs.Table.{Sort, clause, expression, Kind, kindOf, line, duty, ban, power, both, then, repair, repeat, when, until, any, tries, idle, succeeds, fails, seq, or, star}
-use Rattle.reader.specs.Trees.{Trees, Used, Fields, node}
-use Rattle.reader.specs.Reader.{Result, refused, taken, provided, demand, partyField, actionField, fieldsFrom, fieldsOf, Operand, operand, oneMore, below, operandsOf, holdsEmptyUnder, push, readRecord, justOne, testOf}
-use Rattle.reader.specs.Codes.{sortNumber, entryOf, lookupOf, operandCount, goodParty, goodAction, goodFields, expressionCode, codeOf, codeAt, sortOf, goodOperands, emptyUnder, completed, stepFound, stepOf}
+use Rattle.reader.specs.Trees.{Trees, Fields, goodFields, node}
+use Rattle.reader.specs.Reader.{Result, refused, taken, provided, demand, fieldsIn, Operand, operand, oneMore, below, operandsOf, holdsEmptyUnder, push, readRecord, justOne, testOf}
+use Rattle.reader.specs.Codes.{sortNumber, entryOf, lookupOf, operandCount, inRanges, emptyCode, expressionCode, codeOf, codeAt, sortOf, goodOperands, emptyUnder, completed, stepFound, stepOf}
 use Rattle.reader.proofs.Table.{number-kind, of-all}
 use Rattle.reader.proofs.Nodes.{onto, onto-operands}
 
 -- ---- 4: the fields
 
+same-ranges : (K : Kind) (l : List ℕ) → inRanges (entryOf K) (getD l 3 0) (getD l 4 0) (getD l 5 0) ≡ goodFields (line K) (fieldsIn l)
+unfolding inRanges goodFields
+same-ranges K l = refl
+
+-- ---- 5: the operands
+
 abbrev present : {A : Type 0} → Option A → Bool
 present none = false
 present (some x) = true
 
-module _ {A : Type 0} where
-  present-and : (t : Bool) (o : Option A) → present (cond t o none) ≡ (present o && t)
-  present-and true o = sym (and-true (present o))
-  present-and false o = sym (and-false (present o))
-
-  present-or : (t : Bool) (x : A) (o : Option A) → present (cond t (some x) o) ≡ (t || present o)
-  present-or true x o = refl
-  present-or false x o = refl
-
-party-present : (used : Bool) (n : ℕ) → present (partyField used n) ≡ goodParty used n
-party-present true n = rw (present-or (eqb n 1) party1, present-and (eqb n 2) (some party2))
-party-present false n = present-and (eqb n 0) (some tt)
-
-action-present : (used : Bool) (n : ℕ) → present (actionField used n) ≡ goodAction used n
-action-present true n = present-and (ltb n actions) (some n)
-action-present false n = present-and (eqb n 0) (some tt)
-
-both-present : (K : Kind) (p : Option (Used (line K .usesParty) Party)) (a : Option (Used (line K .usesAction) ℕ))
-    → present (fieldsFrom K p a) ≡ (present p && present a)
-both-present K none a = refl
-both-present K (some p) none = refl
-both-present K (some p) (some a) = refl
-
-fields-present : (K : Kind) (p a z : ℕ) → goodFields (entryOf K) p a z ≡ present (fieldsOf K p a z)
-unfolding goodFields fieldsOf
-fields-present K p a z =
-    rw (present-and (eqb z 0), both-present K, party-present (line K .usesParty) p, action-present (line K .usesAction) a)
-
--- ---- 5: the operands
-
 pub few-operands : (K : Kind) → length (line K .operands) ≤ 2
 few-operands K = leb-true (length (line K .operands)) 2 (of-all (λ J. leb (length (line J .operands)) 2) refl K)
 
-pub operandCount-most : (o : Option Kind) → operandCount o ≤ 2
-operandCount-most none = omega arith
-operandCount-most (some K) = few-operands K
+pub operandCount-max : (o : Option Kind) → operandCount o ≤ 2
+operandCount-max none = omega arith
+operandCount-max (some K) = few-operands K
 
-sort-of-expression : (empty : Bool) → sortOf (expressionCode empty) ≡ 2
+sort-of-expression : (empty : Bool) → sortOf (expressionCode empty) ≡ sortNumber expression
 sort-of-expression true = refl
 sort-of-expression false = refl
 
@@ -98,17 +72,13 @@ two-present s expression (operand clause c ∷ st) = and-false (isSort (codeAt s
 two-present s expression (operand expression e ∷ st) =
     rw (sort-of-expression (holdsEmpty e)) (and-true _ ∙ one-present s (expression ∷ []) (e, tt) st)
 
-operands-present : (ss : List Sort) (party action : Bool) (st : List Operand) → length ss ≤ 2
-    → goodOperands
-    record { 0 = length ss; 1 = getD (map sortNumber ss) 0 0; 2 = getD (map sortNumber ss) 1 0; 3 = party; 4 = action }
-    (codeAt st 1)
-    (codeAt st 0)
-    ≡ present (operandsOf ss st)
+operands-present : (ss : List Sort) (st : List Operand) → length ss ≤ 2
+    → goodOperands (length ss) (getD (map sortNumber ss) 0 0) (getD (map sortNumber ss) 1 0) (codeAt st 1) (codeAt st 0) ≡ present (operandsOf ss st)
 unfolding goodOperands operandsOf
-operands-present [] party action st h = refl
-operands-present (s ∷ []) party action st h = one-present s [] tt st
-operands-present (s ∷ s′ ∷ []) party action st h = two-present s s′ st
-operands-present (s ∷ s′ ∷ s″ ∷ ss) party action st h = absurd (omega arith)
+operands-present [] st h = refl
+operands-present (s ∷ []) st h = one-present s [] tt st
+operands-present (s ∷ s′ ∷ []) st h = two-present s s′ st
+operands-present (s ∷ s′ ∷ s″ ∷ ss) st h = absurd (omega arith)
 
 onto-length : (ss : List Sort) (ts : Trees ss) (st : List Operand) → length (onto ss ts st) ≡ length ss + length st
 onto-length [] ts st = sym (zero-add (length st))
@@ -122,16 +92,16 @@ onto-below (s ∷ ss) ts st =
 
 -- ---- 7, and what is pushed
 
-pub is-empty : (empty : Bool) → eqb (expressionCode empty) 3 ≡ empty
+pub is-empty : (empty : Bool) → eqb (expressionCode empty) emptyCode ≡ empty
 is-empty true = refl
 is-empty false = refl
 
 -- the codes on a stack tell of the tree that a record makes of its operands whether it fails 7, and its code
-record Told (K : Kind) (f : Fields K) (ts : Trees (line K .operands)) (st : List Operand) : Type 0 where
+record Told (K : Kind) (f : Fields) (ts : Trees (line K .operands)) (st : List Operand) : Type 0 where
   empty : emptyUnder (line K .number) (codeAt st 1) (codeAt st 0) ≡ holdsEmptyUnder (line K .completes) (node K f ts)
   code : completed (line K .number) (codeAt st 1) (codeAt st 0) ≡ codeOf (operand (line K .completes) (node K f ts))
 
-told : (K : Kind) (f : Fields K) (ts : Trees (line K .operands)) (st : List Operand) → Told K f ts (onto (line K .operands) ts st)
+told : (K : Kind) (f : Fields) (ts : Trees (line K .operands)) (st : List Operand) → Told K f ts (onto (line K .operands) ts st)
 unfolding emptyUnder completed node holdsEmpty
 told duty f ts st = record { empty = refl; code = refl }
 told ban f ts st = record { empty = refl; code = refl }
@@ -192,7 +162,7 @@ module _ (k : ℕ) (st : List Operand) where
   agrees-kind (some K) g l b t each = each K refl
 
 -- where the operands are there: the tree is pushed or refused as the codes say
-agrees-push : (k : ℕ) (K : Kind) (f : Fields K) (ts : Trees (line K .operands)) (rest : List Operand)
+agrees-push : (k : ℕ) (K : Kind) (f : Fields) (ts : Trees (line K .operands)) (rest : List Operand)
     → let st = onto (line K .operands) ts rest in
     Agrees k st (push k (line K .completes) (node K f ts) rest)
     (cond (emptyUnder (line K .number) (codeAt st 1) (codeAt st 0)) (Bad EmptyList)
@@ -214,16 +184,13 @@ agrees : (k : ℕ) (st : List Operand) (l : List ℕ) → Agrees k st (readRecor
 unfolding readRecord stepOf
 agrees k st l =
     let n = getD l 2 0 in
-    let p = getD l 3 0 in
-    let a = getD l 4 0 in
-    let z = getD l 5 0 in
     agrees-require k st (marked l 0 contractMark) ContractMark _ _
     (agrees-kind k st (kindOf n) _ l (codeAt st 1) (codeAt st 0)
-    (λ K e. rw (fields-present K p a z)
-    (agrees-demand k st (fieldsOf K p a z) BadField _ _
-    (λ f e₂. rw (operands-present (line K .operands) (line K .usesParty) (line K .usesAction) st (few-operands K))
+    (λ K e. rw (same-ranges K l)
+    (agrees-require k st (goodFields (line K) (fieldsIn l)) BadField _ _
+    (rw (operands-present (line K .operands) st (few-operands K))
     (agrees-demand k st (operandsOf (line K .operands) st) BadOperands _ _
-    (λ os e₃. rw (onto-operands (line K .operands) st os e₃, ← number-kind n K e) (agrees-push k K f (os .trees) (os .rest))))))))
+    (λ os e₂. rw (onto-operands (line K .operands) st os e₂, ← number-kind n K e) (agrees-push k K (fieldsIn l) (os .trees) (os .rest))))))))
 
 pub step-bad : (k : ℕ) (st : List Operand) (l : List ℕ) (f : Fault) → stepOf l (codeAt st 1) (codeAt st 0) ≡ Bad f → readRecord k st l ≡ refused f k
 step-bad k st l f e = subst (Agrees k st (readRecord k st l)) e (agrees k st l)
@@ -233,11 +200,11 @@ step-completed k st l m c e = subst (Agrees k st (readRecord k st l)) e (agrees 
 
 -- ---- 6
 
-not-clause-code : (empty : Bool) → ¬ (expressionCode empty ≡ 1)
+not-clause-code : (empty : Bool) → ¬ (expressionCode empty ≡ sortNumber clause)
 not-clause-code true e = omega arith
 not-clause-code false e = omega arith
 
-pub just-one : (n : ℕ) (st : List Operand) → length st ≡ 1 → codeAt st 0 ≡ 1 → testOf (justOne n st) ≡ Passed
+pub just-one : (n : ℕ) (st : List Operand) → length st ≡ 1 → codeAt st 0 ≡ sortNumber clause → testOf (justOne n st) ≡ Passed
 just-one n [] h i = absurd (omega arith)
 just-one n (operand clause c ∷ []) h i = refl
 just-one n (operand expression e ∷ []) h i = absurd (not-clause-code (holdsEmpty e) i)
@@ -248,7 +215,7 @@ not-one n [] h = refl
 not-one n (o ∷ []) h = absurd (h refl)
 not-one n (o ∷ p ∷ st) h = refl
 
-pub not-clause : (n : ℕ) (st : List Operand) → length st ≡ 1 → ¬ (codeAt st 0 ≡ 1) → testOf (justOne n st) ≡ Refused NotOneClause n
+pub not-clause : (n : ℕ) (st : List Operand) → length st ≡ 1 → ¬ (codeAt st 0 ≡ sortNumber clause) → testOf (justOne n st) ≡ Refused NotOneClause n
 not-clause n [] h i = absurd (omega arith)
 not-clause n (operand clause c ∷ []) h i = absurd (i refl)
 not-clause n (operand expression e ∷ []) h i = refl

@@ -1,5 +1,6 @@
 -- The laws of the definitions in specs/, module by module, for this crate and the crates above it.
 pub mod Table
+pub mod Fields
 pub mod Spelling
 pub mod Nodes
 pub mod Reader

@@ -17,8 +17,8 @@ use Rattle.records.specs.declared.Fault.the-variants.{ContractLength, ContractM
 use Rattle.contract.specs.Meaning.{Clause}
 use Rattle.reader.specs.Limits.{maxRecords, recordBytes}
 use Rattle.reader.specs.Table.{clause, expression, kindOf, line}
-use Rattle.reader.specs.Trees.{node}
-use Rattle.reader.specs.Reader.{Result, refused, taken, next, provided, demand, fieldsOf, Operand, operand, operandsOf, holdsEmptyUnder, readRecord, readRecords, justOne, contractRecords, goodLength, read, recordFaults, readFaults, testOf, readTest, Faultless, FirstFault}
+use Rattle.reader.specs.Trees.{goodFields, node}
+use Rattle.reader.specs.Reader.{Result, refused, taken, next, provided, demand, fieldsIn, Operand, operand, operandsOf, holdsEmptyUnder, readRecord, readRecords, justOne, contractRecords, goodLength, read, recordFaults, readFaults, testOf, readTest, Faultless, FirstFault}
 use Rattle.reader.proofs.Nodes.{refused-taken, followed}
 use Rattle.reader.proofs.Reader.{WholeRecords, good-length}
 
@@ -47,9 +47,9 @@ unfolding readRecord
 record-at k st l =
     require-at (marked l 0 contractMark) ContractMark k _ refl
     (demand-at (kindOf (getD l 2 0)) UnknownKind k _ refl
-    (λ kind. demand-at (fieldsOf kind (getD l 3 0) (getD l 4 0) (getD l 5 0)) BadField k _ refl
-    (λ f. demand-at (operandsOf (line kind .operands) st) BadOperands k _ refl
-    (λ os. require-at (not (holdsEmptyUnder (line kind .completes) (node kind f (os .trees)))) EmptyList k _ refl (taken-at k _)))))
+    (λ kind. require-at (goodFields (line kind) (fieldsIn l)) BadField k _ refl
+    (demand-at (operandsOf (line kind .operands) st) BadOperands k _ refl
+    (λ os. require-at (not (holdsEmptyUnder (line kind .completes) (node kind (fieldsIn l) (os .trees)))) EmptyList k _ refl (taken-at k _)))))
 
 -- ---- the first record that is refused
 

@@ -14,11 +14,12 @@ use Rattle.contract.specs.Meaning.{Clause, EmptyFree}
 use Rattle.records.specs.declared.Fault.the-variants.{ContractLength}
 use Rattle.reader.specs.Limits.{maxRecords, recordBytes}
 use Rattle.reader.specs.Table.{Sort, clause, expression, Kind, line}
-use Rattle.reader.specs.Trees.{Tree, Trees, Fields, node}
-use Rattle.reader.specs.Spelling.{recordOf, spell, records, InRange, Spells, spellTree, treeRecords}
-use Rattle.reader.specs.Reader.{taken, Operand, operand, readRecord, readRecords, justOne, contractRecords, goodLength, read}
-use Rattle.reader.proofs.Spelling.{spellTrees, treesRecords, All, recordWith, on-tree, spell-node, records-node, length-spell, some-records}
-use Rattle.reader.proofs.Nodes.{Good, GoodNode, good-node, onto, read-node, Completed, required, followed, completed}
+use Rattle.reader.specs.Trees.{Tree, Trees, Fields, goodFields, node}
+use Rattle.reader.specs.Spelling.{spellRecord, spell, records, InRange, Spells, spellTree, treeRecords}
+use Rattle.reader.specs.Reader.{taken, Operand, operand, holdsEmptyUnder, readRecord, readRecords, justOne, contractRecords, goodLength, read}
+use Rattle.reader.proofs.Fields.{used, recordOf}
+use Rattle.reader.proofs.Spelling.{spellTrees, treesRecords, All, on-tree, spell-node, records-node, length-spell, some-records}
+use Rattle.reader.proofs.Nodes.{Good, good-node, onto, read-node, Completed, required, followed, completed}
 
 -- ---- what has been read is what the stack spells
 
@@ -44,7 +45,7 @@ completed-spells : (st : List Operand) (l : List ℕ) (st′ : List Operand) →
     → spellStack st′ ≡ spellStack st ++ take recordBytes l
 completed-spells st l st′ c =
     rw (c .after, c .before, c .bytes, spell-node (c .kind) (c .fields) (c .trees), spell-onto (line (c .kind) .operands) (c .trees) (c .rest))
-    (sym (append-assoc (spellStack (c .rest)) (spellTrees (line (c .kind) .operands) (c .trees)) (recordWith (c .kind) (c .fields))))
+    (sym (append-assoc (spellStack (c .rest)) (spellTrees (line (c .kind) .operands) (c .trees)) (spellRecord (recordOf (c .kind) (c .fields)))))
 
 completed-good : (st : List Operand) (l : List ℕ) (st′ : List Operand) → Completed st l st′ → GoodStack st → GoodStack st′
 completed-good st l st′ c g =
@@ -149,22 +150,26 @@ reads-trees [] ts h g k n st rest = rw (zero-add, add-zero)
 reads-trees (s ∷ ss) ts h g k n st rest =
     rw (add-assoc, append-assoc, h .0 (g .0), reads-trees ss (ts .1) (h .1) (g .1), add-assoc)
 
-read-next : (kind : Kind) (f : Fields kind) (ts : Trees (line kind .operands)) → GoodNode kind f ts
-    → (k n : ℕ) (st : List Operand) (rest : List ℕ)
-    → readRecords k (suc n) (onto (line kind .operands) ts st) (recordWith kind f ++ rest)
+read-next : (kind : Kind) (f : Fields) (ts : Trees (line kind .operands)) → goodFields (line kind) f ≡ true
+    → holdsEmptyUnder (line kind .completes) (node kind f ts) ≡ false → (k n : ℕ) (st : List Operand) (rest : List ℕ)
+    → readRecords k (suc n) (onto (line kind .operands) ts st) (spellRecord record { kind = kind; fields = f } ++ rest)
     ≡ readRecords (suc k) n (operand (line kind .completes) (node kind f ts) ∷ st) rest
-unfolding readRecords recordOf
-read-next kind f ts g k n st rest = rw (read-node k kind f ts st rest (g .0), g .2)
+unfolding readRecords spellRecord
+read-next kind f ts g e k n st rest = rw (read-node k kind f ts st rest g, e)
 
-reads-node : (k : Kind) (f : Fields k) (ts : Trees (line k .operands)) → All Reads (line k .operands) ts → Reads (line k .completes) (node k f ts)
+reads-node : (k : Kind) (f : Fields) → used k f ≡ f → (ts : Trees (line k .operands)) → All Reads (line k .operands) ts
+    → Reads (line k .completes) (node k f ts)
 unfolding Reads
-reads-node kind f ts h good k n st rest =
+reads-node kind f u ts h good k n st rest =
     let g = good-node kind f ts .0 good in
     let m : ℕ = treesRecords (line kind .operands) ts in
     let i : m + 1 + n ≡ m + suc n = omega arith in
     let j : k + (m + 1) ≡ suc (k + m) = omega arith in
-    rw (records-node kind f ts, spell-node kind f ts, i, j, append-assoc (spellTrees (line kind .operands) ts) (recordWith kind f) rest)
-    (reads-trees (line kind .operands) ts h (g .1) k (suc n) st (recordWith kind f ++ rest) ∙ read-next kind f ts g (k + m) n st rest)
+    let bytes = spellRecord record { kind = kind; fields = f } in
+    let e : spellRecord (recordOf kind f) ≡ bytes = ap (λ (f : Fields). spellRecord record { kind = kind; fields = f }) u in
+    rw (records-node kind f ts, spell-node kind f ts, e, i, j, append-assoc (spellTrees (line kind .operands) ts) bytes rest)
+    (reads-trees (line kind .operands) ts h (g .1) k (suc n) st (bytes ++ rest)
+    ∙ read-next kind f ts (sym (ap (goodFields (line kind)) u) ∙ g .0) (g .2) (k + m) n st rest)
 
 reads : (s : Sort) (t : Tree s) → Reads s t
 reads = on-tree Reads reads-node

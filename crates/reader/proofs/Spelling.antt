@@ -2,19 +2,19 @@
 -- expressions. With it: the bytes of a node are its operands' and then its record, and a tree has six bytes for each of its records.
 use Prim.Native.Nat.{ℕ, _+_, _*_, _≤_}
 use native.Mathlib.Omega.{arith}
-use mathlib.Core.Bool.{Bool, true, false}
 use mathlib.Core.List.{List, [], _∷_, _++_, append-nil}
 use mathlib.Core.Path.{_≡_, refl}
 use lib.ListN.{length, length-append}
-use Rattle.periods.specs.Periods.{Party, number}
+use Rattle.periods.specs.Periods.{Party, party1, party2}
 use Rattle.contract.specs.Expressions as E
 use Rattle.contract.specs.Expressions.{Expression}
 use Rattle.contract.specs.Meaning as M
 use Rattle.contract.specs.Meaning.{Clause}
 use Rattle.reader.specs.Limits.{recordBytes}
 use Rattle.reader.specs.Table.{Sort, clause, expression, Kind, duty, ban, power, both, then, repair, repeat, when, until, any, tries, idle, succeeds, fails, seq, or, star, line}
-use Rattle.reader.specs.Trees.{Tree, Trees, Used, Fields, node}
-use Rattle.reader.specs.Spelling.{recordOf, spellAtom, spellExpression, spell, expressionRecords, records, spellTree, treeRecords}
+use Rattle.reader.specs.Trees.{Tree, Trees, Fields, Record, node}
+use Rattle.reader.specs.Spelling.{spellRecord, spellExpression, spell, expressionRecords, records, spellTree, treeRecords}
+use Rattle.reader.proofs.Fields.{used, recordOf}
 
 -- ---- of any sort
 
@@ -31,57 +31,58 @@ abbrev pub All : ((s : Sort) → Tree s → Type 0) → (ss : List Sort) → Tre
 All P [] ts = Unit {0}
 All P (s ∷ ss) ts = P s (ts .0) × All P ss (ts .1)
 
--- ---- the fields' bytes: "A field that a kind doesn't use is 0."
+-- ---- a record
 
-abbrev pub partyByte : (used : Bool) → Used used Party → ℕ
-partyByte true p = number p
-partyByte false x = 0
+pub length-record : (r : Record) → length (spellRecord r) ≡ recordBytes
+unfolding spellRecord
+length-record r = refl
 
-abbrev pub actionByte : (used : Bool) → Used used ℕ → ℕ
-actionByte true a = a
-actionByte false x = 0
+-- ---- every tree is a node, of fields that its kind uses
 
-abbrev pub recordWith : (k : Kind) → Fields k → List ℕ
-recordWith k f = recordOf k (partyByte (line k .usesParty) (f .party)) (actionByte (line k .usesAction) (f .action))
+abbrev none : Fields
+none = record { party = 0; action = 0; last = 0 }
 
-pub length-record : (k : Kind) (p a : ℕ) → length (recordOf k p a) ≡ recordBytes
-unfolding recordOf
-length-record k p a = refl
-
--- ---- every tree is a node
+abbrev of : (party action : ℕ) → Fields
+of p a = record { party = p; action = a; last = 0 }
 
 module _ (P : (s : Sort) → Tree s → Type 0)
-    (step : (k : Kind) (f : Fields k) (ts : Trees (line k .operands)) → All P (line k .operands) ts → P (line k .completes) (node k f ts)) where
+    (step : (k : Kind) (f : Fields) → used k f ≡ f → (ts : Trees (line k .operands)) → All P (line k .operands) ts
+    → P (line k .completes) (node k f ts)) where
   on-atom : (x : E.Atom) → P expression (E.atom x)
   unfolding node
-  on-atom E.any = step any _ tt tt
-  on-atom (E.tries p a) = step tries record { party = p; action = a } tt tt
-  on-atom (E.idle p a) = step idle record { party = p; action = a } tt tt
-  on-atom (E.succeeds a) = step succeeds record { party = tt; action = a } tt tt
-  on-atom (E.fails a) = step fails record { party = tt; action = a } tt tt
+  on-atom E.any = step any none refl tt tt
+  on-atom (E.tries party1 a) = step tries (of 1 a) refl tt tt
+  on-atom (E.tries party2 a) = step tries (of 2 a) refl tt tt
+  on-atom (E.idle party1 a) = step idle (of 1 a) refl tt tt
+  on-atom (E.idle party2 a) = step idle (of 2 a) refl tt tt
+  on-atom (E.succeeds a) = step succeeds (of 0 a) refl tt tt
+  on-atom (E.fails a) = step fails (of 0 a) refl tt tt
 
   on-expression : (e : Expression) → P expression e
   unfolding node
   on-expression (E.atom x) = on-atom x
-  on-expression (E.seq l r) = step seq _ (l, (r, tt)) (on-expression l, (on-expression r, tt))
-  on-expression (E.or l r) = step or _ (l, (r, tt)) (on-expression l, (on-expression r, tt))
-  on-expression (E.star e) = step star _ (e, tt) (on-expression e, tt)
+  on-expression (E.seq l r) = step seq none refl (l, (r, tt)) (on-expression l, (on-expression r, tt))
+  on-expression (E.or l r) = step or none refl (l, (r, tt)) (on-expression l, (on-expression r, tt))
+  on-expression (E.star e) = step star none refl (e, tt) (on-expression e, tt)
 
   on-literal : (l : M.Literal) (p : Party) (a : ℕ) → P clause (M.literal l p a)
   unfolding node
-  on-literal M.duty p a = step duty record { party = p; action = a } tt tt
-  on-literal M.ban p a = step ban record { party = p; action = a } tt tt
-  on-literal M.power p a = step power record { party = p; action = a } tt tt
+  on-literal M.duty party1 a = step duty (of 1 a) refl tt tt
+  on-literal M.duty party2 a = step duty (of 2 a) refl tt tt
+  on-literal M.ban party1 a = step ban (of 1 a) refl tt tt
+  on-literal M.ban party2 a = step ban (of 2 a) refl tt tt
+  on-literal M.power party1 a = step power (of 1 a) refl tt tt
+  on-literal M.power party2 a = step power (of 2 a) refl tt tt
 
   on-clause : (c : Clause) → P clause c
   unfolding node
   on-clause (M.literal l p a) = on-literal l p a
-  on-clause (M.both l r) = step both _ (l, (r, tt)) (on-clause l, (on-clause r, tt))
-  on-clause (M.then l r) = step then _ (l, (r, tt)) (on-clause l, (on-clause r, tt))
-  on-clause (M.repair l r) = step repair _ (l, (r, tt)) (on-clause l, (on-clause r, tt))
-  on-clause (M.repeat c) = step repeat _ (c, tt) (on-clause c, tt)
-  on-clause (M.when e c) = step when _ (e, (c, tt)) (on-expression e, (on-clause c, tt))
-  on-clause (M.until c e) = step until _ (c, (e, tt)) (on-clause c, (on-expression e, tt))
+  on-clause (M.both l r) = step both none refl (l, (r, tt)) (on-clause l, (on-clause r, tt))
+  on-clause (M.then l r) = step then none refl (l, (r, tt)) (on-clause l, (on-clause r, tt))
+  on-clause (M.repair l r) = step repair none refl (l, (r, tt)) (on-clause l, (on-clause r, tt))
+  on-clause (M.repeat c) = step repeat none refl (c, tt) (on-clause c, tt)
+  on-clause (M.when e c) = step when none refl (e, (c, tt)) (on-expression e, (on-clause c, tt))
+  on-clause (M.until c e) = step until none refl (c, (e, tt)) (on-clause c, (on-expression e, tt))
 
   pub on-tree : (s : Sort) (t : Tree s) → P s t
   on-tree clause c = on-clause c
@@ -89,9 +90,9 @@ module _ (P : (s : Sort) → Tree s → Type 0)
 
 -- ---- a node's bytes and records
 
-pub spell-node : (k : Kind) (f : Fields k) (ts : Trees (line k .operands))
-    → spellTree (line k .completes) (node k f ts) ≡ spellTrees (line k .operands) ts ++ recordWith k f
-unfolding node spell spellExpression spellAtom
+pub spell-node : (k : Kind) (f : Fields) (ts : Trees (line k .operands))
+    → spellTree (line k .completes) (node k f ts) ≡ spellTrees (line k .operands) ts ++ spellRecord (recordOf k f)
+unfolding node spell spellExpression
 spell-node duty f ts = refl
 spell-node ban f ts = refl
 spell-node power f ts = refl
@@ -110,7 +111,7 @@ spell-node seq f ts = rw append-nil
 spell-node or f ts = rw append-nil
 spell-node star f ts = rw append-nil
 
-pub records-node : (k : Kind) (f : Fields k) (ts : Trees (line k .operands))
+pub records-node : (k : Kind) (f : Fields) (ts : Trees (line k .operands))
     → treeRecords (line k .completes) (node k f ts) ≡ treesRecords (line k .operands) ts + 1
 unfolding node records expressionRecords
 records-node duty f ts = refl
@@ -144,7 +145,7 @@ length-trees (s ∷ ss) ts h = rw (length-append, h .0, length-trees ss (ts .1) 
 pub length-tree : (s : Sort) (t : Tree s) → length (spellTree s t) ≡ recordBytes * treeRecords s t
 unfolding Measured
 length-tree =
-    on-tree Measured (λ k f ts h. rw (spell-node, records-node, length-append, length-trees (line k .operands) ts h, length-record) (omega arith))
+    on-tree Measured (λ k f u ts h. rw (spell-node, records-node, length-append, length-trees (line k .operands) ts h, length-record) (omega arith))
 
 pub length-spellTrees : (ss : List Sort) (ts : Trees ss) → length (spellTrees ss ts) ≡ recordBytes * treesRecords ss ts
 length-spellTrees [] ts = refl
@@ -157,4 +158,4 @@ pub length-expression : (e : Expression) → length (spellExpression e) ≡ reco
 length-expression = length-tree expression
 
 pub some-records : (c : Clause) → 1 ≤ records c
-some-records = on-tree (λ s t. 1 ≤ treeRecords s t) (λ k f ts h. rw records-node (omega arith)) clause
+some-records = on-tree (λ s t. 1 ≤ treeRecords s t) (λ k f u ts h. rw records-node (omega arith)) clause

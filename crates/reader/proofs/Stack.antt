@@ -17,8 +17,9 @@ use Rattle.records.specs.declared.Fault.the-variants.{NotOneClause}
 use Rattle.reader.specs.declared.Step.{Step}
 use Rattle.reader.specs.declared.Step.the-variants.{Bad, Completed}
 use Rattle.reader.specs.Limits.{maxRecords, recordBytes}
+use Rattle.reader.specs.Table.{clause}
 use Rattle.reader.specs.Reader.{Operand, refused, taken, next, readRecord, readRecords, justOne, testOf}
-use Rattle.reader.specs.Codes.{codeOf, codeAt, stepOf}
+use Rattle.reader.specs.Codes.{sortNumber, codeOf, codeAt, stepOf}
 use Rattle.reader.proofs.Codes.{Pushed, step-bad, step-completed, just-one, not-one, not-clause}
 
 -- after k of n records
@@ -122,22 +123,22 @@ module _ {l : List ℕ} {n : ℕ} {stack : List ℕ} {top k : ℕ} (r : Read l n
     ended : testOf (next (readRecords 0 n [] l) (justOne n)) ≡ testOf (justOne n (r .operands))
     ended = rw read-all
 
-    one : top ≡ 63 → length (r .operands) ≡ 1
+    one : top ≡ maxRecords - 1 → length (r .operands) ≡ 1
     one e = operand-count ∙ ap (λ (t : ℕ). maxRecords - t) e
 
     code : getD stack top 0 ≡ codeAt (r .operands) 0
     code = rw add-zero at (code-at 0)
 
-    pub ends-taken : top ≡ 63 → not (eqb (getD stack top 0) 1) ≡ false → testOf (next (readRecords 0 n [] l) (justOne n)) ≡ Passed
+    pub ends-taken : top ≡ maxRecords - 1 → not (eqb (getD stack top 0) (sortNumber clause)) ≡ false → testOf (next (readRecords 0 n [] l) (justOne n)) ≡ Passed
     ends-taken e c =
-        ended ∙ just-one n (r .operands) (one e) (sym code ∙ eqb-true (getD stack top 0) 1 (not-false _ c))
+        ended ∙ just-one n (r .operands) (one e) (sym code ∙ eqb-true (getD stack top 0) (sortNumber clause) (not-false _ c))
 
-    pub ends-many : ¬ (top ≡ 63) → testOf (next (readRecords 0 n [] l) (justOne n)) ≡ Refused NotOneClause n
+    pub ends-many : ¬ (top ≡ maxRecords - 1) → testOf (next (readRecords 0 n [] l) (justOne n)) ≡ Refused NotOneClause n
     ends-many e =
         let count : length (r .operands) ≡ maxRecords - top = operand-count in
         ended ∙ not-one n (r .operands) (λ i. e (omega (arith, r .inside)))
 
-    pub ends-unmet : top ≡ 63 → not (eqb (getD stack top 0) 1) ≡ true
+    pub ends-unmet : top ≡ maxRecords - 1 → not (eqb (getD stack top 0) (sortNumber clause)) ≡ true
         → testOf (next (readRecords 0 n [] l) (justOne n)) ≡ Refused NotOneClause n
     ends-unmet e c =
-        ended ∙ not-clause n (r .operands) (one e) (λ i. eqb-false (getD stack top 0) 1 (not-true _ c) (code ∙ i))
+        ended ∙ not-clause n (r .operands) (one e) (λ i. eqb-false (getD stack top 0) (sortNumber clause) (not-true _ c) (code ∙ i))

@@ -10,10 +10,11 @@ use lib.Dec.{eqb, ltb, leb}
 use lib.ListN.{length, getD}
 use borrow.Author.Tests.{eqb-true, lt-ltb, le-leb}
 use Rattle.records.proofs.Numbers.{lt-or-le}
-use Rattle.reader.specs.declared.Entry.{Entry}
+use Rattle.reader.specs.declared.EntryLine.{EntryLine}
 use Rattle.reader.specs.declared.Lookup.the-variants.{Found, Unknown}
 use Rattle.reader.specs.Table.{Kind, kinds, numbered, kindOf, line, duty, ban, power, both, then, repair, repeat, when, until, any, tries, idle, succeeds, fails, seq, or, star}
-use Rattle.reader.specs.Codes.{entryOf, lookupOf}
+use Rattle.reader.specs.Trees.{Fields, Record}
+use Rattle.reader.specs.Codes.{entryLine, named, lookupOf}
 
 pub kind-number : (k : Kind) → kindOf (line k .number) ≡ some k
 unfolding kindOf numbered
@@ -59,6 +60,10 @@ pub of-all : (f : Kind → Bool) → every f kinds ≡ true → (k : Kind) → f
 unfolding kindOf
 of-all f h k = subst (Listed f (line k .number)) (kind-number k) (listed f (line k .number) kinds h) .1
 
+-- and one that they pass whatever the fields are, by every record
+pub of-records : (f : Record → Bool) → ((fs : Fields) → every (λ k. f record { kind = k; fields = fs }) kinds ≡ true) → (r : Record) → f r ≡ true
+of-records f h r = of-all (λ k. f record { kind = k; fields = r .fields }) (h (r .fields)) (r .kind)
+
 pub number-kind : (n : ℕ) (k : Kind) → kindOf n ≡ some k → line k .number ≡ n
 unfolding kindOf
 number-kind n k h = subst (Listed (λ j. true) n) h (listed (λ j. true) n kinds refl) .0
@@ -79,20 +84,32 @@ at P i zero all n h l = absurd (omega arith)
 at P i (suc m) all n h l =
     ⊎-elim (λ s. let e : i ≡ n = omega arith in subst P e (all .0)) (λ s. at P (suc i) m (all .1) n s (omega arith)) (lt-or-le n (suc i))
 
--- the numbers that are a kind's, by its place among the kinds
-pub clause-kind : (n : ℕ) → 1 ≤ n → n ≤ 9 → kindOf n ≡ some (getD kinds (n - 1) duty)
-unfolding kindOf numbered
-clause-kind n h l =
-    at (λ n. kindOf n ≡ some (getD kinds (n - 1) duty)) 1 9
-    (refl and refl and refl and refl and refl and refl and refl and refl and refl and tt)
-    n h (omega arith)
+-- the numbers that are a kind's, and its place among the kinds
+abbrev pub OfClause : ℕ → Type 0
+OfClause n = (line duty .number ≤ n) × (n ≤ line until .number)
 
-pub expression-kind : (n : ℕ) → 16 ≤ n → n ≤ 23 → kindOf n ≡ some (getD kinds (n - 7) duty)
+abbrev pub OfExpression : ℕ → Type 0
+OfExpression n = (line any .number ≤ n) × (n ≤ line star .number)
+
+abbrev pub clausePlace : ℕ → ℕ
+clausePlace n = n - line duty .number
+
+abbrev pub expressionPlace : ℕ → ℕ
+expressionPlace n = n - (line any .number - line until .number)
+
+pub clause-kind : (n : ℕ) → OfClause n → kindOf n ≡ some (getD kinds (clausePlace n) duty)
 unfolding kindOf numbered
-expression-kind n h l =
-    at (λ n. kindOf n ≡ some (getD kinds (n - 7) duty)) 16 8
+clause-kind n h =
+    at (λ n. kindOf n ≡ some (getD kinds (clausePlace n) duty)) (line duty .number) 9
+    (refl and refl and refl and refl and refl and refl and refl and refl and refl and tt)
+    n (h .0) (omega arith)
+
+pub expression-kind : (n : ℕ) → OfExpression n → kindOf n ≡ some (getD kinds (expressionPlace n) duty)
+unfolding kindOf numbered
+expression-kind n h =
+    at (λ n. kindOf n ≡ some (getD kinds (expressionPlace n) duty)) (line any .number) 8
     (refl and refl and refl and refl and refl and refl and refl and refl and tt)
-    n h (omega arith)
+    n (h .0) (omega arith)
 
 -- no kind has a number from a on and below b
 none-between : (a b n : ℕ) → every (λ K. not (leb a (line K .number) && ltb (line K .number) b)) kinds ≡ true → a ≤ n → n < b
@@ -107,14 +124,16 @@ none-between a b n none-there h l = go (kindOf n) refl
     go none e = e
     go (some K) e = absurd (false≢true (rw (number-kind n K e, le-leb a n h, lt-ltb n b l) at (of-all outside none-there K)))
 
-pub no-kind : (n : ℕ) → ¬ ((1 ≤ n) × (n ≤ 9)) → ¬ ((16 ≤ n) × (n ≤ 23)) → kindOf n ≡ none
+pub no-kind : (n : ℕ) → ¬ OfClause n → ¬ OfExpression n → kindOf n ≡ none
 no-kind n no-clause no-expression =
-    ⊎-elim (λ l. none-between 0 1 n refl (omega arith) l)
+    let after-clauses = suc (line until .number) in
+    let after-expressions = suc (line star .number) in
+    ⊎-elim (λ l. none-between 0 (line duty .number) n refl (omega arith) l)
     (λ a. ⊎-elim (λ l. absurd (no-clause (a, omega arith)))
-    (λ b. ⊎-elim (λ l. none-between 10 16 n refl b l)
+    (λ b. ⊎-elim (λ l. none-between after-clauses (line any .number) n refl b l)
     (λ c. ⊎-elim (λ l. absurd (no-expression (c, omega arith)))
-    (λ d. none-between 24 (suc n) n refl d (omega arith))
-    (lt-or-le n 24)) (lt-or-le n 16)) (lt-or-le n 10)) (lt-or-le n 1)
+    (λ d. none-between after-expressions (suc n) n refl d (omega arith))
+    (lt-or-le n after-expressions)) (lt-or-le n (line any .number))) (lt-or-le n after-clauses)) (lt-or-le n (line duty .number))
 
 -- ---- tables of the kinds
 
@@ -128,15 +147,15 @@ table-at f d i h = go kinds i h
     go (K ∷ Ks) (suc i) h = go Ks i (omega arith)
 
 -- the program's table
-abbrev pub entries : List Entry
-entries = map entryOf kinds
+abbrev pub lines : List EntryLine
+lines = map entryLine kinds
 
-module _ (d : Entry) where
-  pub known-clause : (n : ℕ) → 1 ≤ n → n ≤ 9 → lookupOf (kindOf n) ≡ Found (getD entries (n - 1) d)
-  known-clause n h l = rw (clause-kind n h l, table-at entryOf d (n - 1) (omega arith))
+module _ (d : EntryLine) where
+  pub known-clause : (n : ℕ) → OfClause n → lookupOf (kindOf n) ≡ Found (named (getD lines (clausePlace n) d))
+  known-clause n h = rw (clause-kind n h, table-at entryLine d (clausePlace n) (omega arith))
 
-  pub known-expression : (n : ℕ) → 16 ≤ n → n ≤ 23 → lookupOf (kindOf n) ≡ Found (getD entries (n - 7) d)
-  known-expression n h l = rw (expression-kind n h l, table-at entryOf d (n - 7) (omega arith))
+  pub known-expression : (n : ℕ) → OfExpression n → lookupOf (kindOf n) ≡ Found (named (getD lines (expressionPlace n) d))
+  known-expression n h = rw (expression-kind n h, table-at entryLine d (expressionPlace n) (omega arith))
 
-pub unknown : (n : ℕ) → ¬ ((1 ≤ n) × (n ≤ 9)) → ¬ ((16 ≤ n) × (n ≤ 23)) → lookupOf (kindOf n) ≡ Unknown
+pub unknown : (n : ℕ) → ¬ OfClause n → ¬ OfExpression n → lookupOf (kindOf n) ≡ Unknown
 unknown n no-clause no-expression = rw (no-kind n no-clause no-expression)

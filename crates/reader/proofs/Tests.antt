@@ -1,12 +1,9 @@
--- What the tests of the reader's program come to: of a party, and of a record by the way it is left.
-use Prim.Native.Nat.{ℕ, _+_, _≤_, _<_}
+-- What the reader's program does with a record, by the way it is left.
+use Prim.Native.Nat.{ℕ, _+_}
 use native.Mathlib.Nat.{add-zero}
-use native.Mathlib.Omega.{arith}
-use mathlib.Core.Bool.{Bool, true, false, not, cond}
+use mathlib.Core.Bool.{Bool, true, false, cond}
 use mathlib.Core.List.{List}
-use mathlib.Core.Path.{_≡_, refl}
-use borrow.Author.Tests.{eqb-false, eq-eqb, ne-eqb}
-use lib.Dec.{eqb}
+use mathlib.Core.Path.{_≡_}
 use lib.ListN.{drop, getD}
 use lib.Seq.{getD-drop}
 use Rattle.records.specs.Marks.{contractMark, marked}
@@ -15,29 +12,9 @@ use Rattle.reader.specs.declared.Entry.{Entry}
 use Rattle.reader.specs.declared.Lookup.the-variants.{Found, Unknown}
 use Rattle.reader.specs.declared.Step.the-variants.{Bad, Completed}
 use Rattle.reader.specs.Table.{kindOf}
-use Rattle.reader.specs.Codes.{lookupOf, goodParty, goodFields, goodOperands, emptyUnder, completed, stepOf}
+use Rattle.reader.specs.Codes.{lookupOf, inRanges, goodOperands, emptyUnder, completed, stepOf}
 
-pub party-zero : (used : Bool) → goodParty used 0 ≡ not used
-party-zero true = refl
-party-zero false = refl
-
-pub party-one-or-two : (used : Bool) (n : ℕ) → (n ≡ 0 → ⊥) → n < 3 → goodParty used n ≡ used
-party-one-or-two true n z h = go (eqb n 1) refl
-  where
-    go : (t : Bool) → eqb n 1 ≡ t → goodParty true n ≡ true
-    go true e = rw e
-    go false e =
-        let d : n ≡ 1 → ⊥ = eqb-false n 1 e in
-        let two : n ≡ 2 = omega arith in
-        rw (e, eq-eqb n 2 two)
-party-one-or-two false n z h = ne-eqb n 0 z
-
-pub party-above : (used : Bool) (n : ℕ) → 3 ≤ n → goodParty used n ≡ false
-party-above true n h = rw (ne-eqb n 1 (omega arith), ne-eqb n 2 (omega arith))
-party-above false n h = ne-eqb n 0 (omega arith)
-
--- ---- the ways out of a record that stands from byte `at` on
-
+-- of a record that stands from byte `at` on
 module _ (l : List ℕ) (at b t : ℕ) where
   -- its kind's number
   abbrev kind : ℕ
@@ -58,19 +35,19 @@ module _ (l : List ℕ) (at b t : ℕ) where
 
     module _ (e : Entry) (f : lookupOf (kindOf kind) ≡ Found e) where
       abbrev fields : Bool
-      fields = goodFields e (getD l (at + 3) 0) (getD l (at + 4) 0) (getD l (at + 5) 0)
+      fields = inRanges e (getD l (at + 3) 0) (getD l (at + 4) 0) (getD l (at + 5) 0)
 
       pub step-fields : fields ≡ false → stepOf (drop at l) b t ≡ Bad BadField
       unfolding stepOf
       step-fields g = rw (marked-drop, h, getD-drop at l 2 0, f, getD-drop at l 3 0, getD-drop at l 4 0, getD-drop at l 5 0, g)
 
       module _ (g : fields ≡ true) where
-        pub step-operands : goodOperands e b t ≡ false → stepOf (drop at l) b t ≡ Bad BadOperands
+        pub step-operands : goodOperands (e .operands) (e .first) (e .second) b t ≡ false → stepOf (drop at l) b t ≡ Bad BadOperands
         unfolding stepOf
         step-operands o = rw (marked-drop, h, getD-drop at l 2 0, f, getD-drop at l 3 0, getD-drop at l 4 0, getD-drop at l 5 0, g, o)
 
-        pub step-last : goodOperands e b t ≡ true
-            → stepOf (drop at l) b t ≡ cond (emptyUnder kind b t) (Bad EmptyList) (Completed (e .0) (completed kind b t))
+        pub step-last : goodOperands (e .operands) (e .first) (e .second) b t ≡ true
+            → stepOf (drop at l) b t ≡ cond (emptyUnder kind b t) (Bad EmptyList) (Completed (e .operands) (completed kind b t))
         unfolding stepOf
         step-last o =
             rw (marked-drop, h, getD-drop at l 2 0, f, getD-drop at l 3 0, getD-drop at l 4 0, getD-drop at l 5 0, g, o, getD-drop at l 2 0)

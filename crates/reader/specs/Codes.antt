@@ -4,23 +4,20 @@ use Prim.Native.Nat.{ℕ, _≤_, _*_}
 use mathlib.Core.Bool.{Bool, true, false, _&&_, _||_, cond}
 use mathlib.Core.List.{List, map}
 use mathlib.Core.Option.{Option, none, some}
-use mathlib.Core.Path.{_≡_}
-use lib.Dec.{eqb, ltb, leb}
+use lib.Dec.{eqb, leb}
 use lib.ListN.{length, getD}
 use Rattle.records.specs.Marks.{contractMark, marked}
-use Rattle.periods.specs.Limits.{actions}
 use Rattle.contract.specs.Expressions.{holdsEmpty}
-use Rattle.contract.specs.Meaning.{Clause}
 use Rattle.records.specs.declared.Fault.the-variants.{ContractMark, UnknownKind, BadField, BadOperands, EmptyList}
+use Rattle.reader.specs.declared.EntryLine.{EntryLine}
 use Rattle.reader.specs.declared.Entry.{Entry}
 use Rattle.reader.specs.declared.Lookup.{Lookup}
 use Rattle.reader.specs.declared.Lookup.the-variants.{Found, Unknown}
 use Rattle.reader.specs.declared.Step.{Step}
 use Rattle.reader.specs.declared.Step.the-variants.{Bad, Completed}
 use Rattle.reader.specs.Limits.{maxRecords, recordBytes}
-use Rattle.reader.specs.Table.{Sort, clause, expression, Kind, kindOf, line}
-use Rattle.reader.specs.Spelling.{records, Spells}
-use Rattle.reader.specs.Reader.{taken, read, Operand, operand}
+use Rattle.reader.specs.Table.{Sort, clause, expression, Kind, duty, when, until, seq, or, star, range, within, line, kindOf}
+use Rattle.reader.specs.Reader.{Operand, operand}
 
 -- ---- the table in numbers
 
@@ -32,8 +29,34 @@ sortNumber expression = 2
 abbrev pub operandSort : Kind → ℕ → ℕ
 operandSort k i = getD (map sortNumber (line k .operands)) i 0
 
+abbrev pub entryLine : Kind → EntryLine
+entryLine k =
+    record {
+      0 = length (line k .operands);
+      1 = operandSort k 0;
+      2 = operandSort k 1;
+      3 = line k .party .least;
+      4 = line k .party .greatest;
+      5 = line k .action .least;
+      6 = line k .action .greatest;
+      7 = line k .last .least;
+      8 = line k .last .greatest;
+    }
+
+-- a line's fields by their names
+abbrev pub named : EntryLine → Entry
+named l =
+    record {
+      operands = l .0;
+      first = l .1;
+      second = l .2;
+      party = record { least = l .3; greatest = l .4 };
+      action = record { least = l .5; greatest = l .6 };
+      last = record { least = l .7; greatest = l .8 };
+    }
+
 abbrev pub entryOf : Kind → Entry
-entryOf k = record { 0 = length (line k .operands); 1 = operandSort k 0; 2 = operandSort k 1; 3 = line k .usesParty; 4 = line k .usesAction }
+entryOf k = named (entryLine k)
 
 abbrev pub lookupOf : Option Kind → Lookup
 lookupOf none = Unknown
@@ -46,26 +69,23 @@ operandCount (some k) = length (line k .operands)
 
 -- ---- 4: the fields
 
-abbrev pub goodParty : Bool → ℕ → Bool
-goodParty true n = eqb n 1 || eqb n 2
-goodParty false n = eqb n 0
-
-abbrev pub goodAction : Bool → ℕ → Bool
-goodAction true n = ltb n actions
-goodAction false n = eqb n 0
-
-unfoldable pub goodFields : Entry → (party action last : ℕ) → Bool
-goodFields e p a z = goodParty (e .3) p && goodAction (e .4) a && eqb z 0
+unfoldable pub inRanges : Entry → (party action last : ℕ) → Bool
+inRanges e p a z =
+    within (range (e .party .least) (e .party .greatest)) p
+    && within (range (e .action .least) (e .action .greatest)) a
+    && within (range (e .last .least) (e .last .greatest)) z
 
 -- ---- the operands
 
--- 2 for an expression, 3 for one that holds the empty list
-abbrev pub expressionCode : Bool → ℕ
-expressionCode empty = cond empty 3 2
+-- the code of an expression that holds the empty list; every other operand's is its sort's number
+abbrev pub emptyCode : ℕ
+emptyCode = 3
 
--- 1 for a clause
+abbrev pub expressionCode : Bool → ℕ
+expressionCode empty = cond empty emptyCode (sortNumber expression)
+
 abbrev pub codeOf : Operand → ℕ
-codeOf (operand clause c) = 1
+codeOf (operand clause c) = sortNumber clause
 codeOf (operand expression e) = expressionCode (holdsEmpty e)
 
 -- the code of the operand i places below the top, 0 where there is none
@@ -74,34 +94,35 @@ codeAt st i = getD (map codeOf st) i 0
 
 -- the number of an operand's sort
 abbrev pub sortOf : ℕ → ℕ
-sortOf c = cond (eqb c 3) 2 c
+sortOf c = cond (eqb c emptyCode) (sortNumber expression) c
 
 -- 5: of the two operands on top
-unfoldable pub goodOperands : Entry → (below top : ℕ) → Bool
-goodOperands e b t =
-    cond (eqb (e .0) 0) true
-    (cond (eqb (e .0) 1) (eqb (sortOf t) (e .1)) (eqb (sortOf b) (e .1) && eqb (sortOf t) (e .2)))
+unfoldable pub goodOperands : (operands first second : ℕ) → (below top : ℕ) → Bool
+goodOperands n s s′ b t =
+    cond (eqb n 0) true
+    (cond (eqb n 1) (eqb (sortOf t) s) (eqb (sortOf b) s && eqb (sortOf t) s′))
 
 -- 7: under `when` the expression is the first operand, under `until` the second
 unfoldable pub emptyUnder : (kind below top : ℕ) → Bool
-emptyUnder k b t = cond (eqb k 8) (eqb b 3) (cond (eqb k 9) (eqb t 3) false)
+emptyUnder k b t =
+    cond (eqb k (line when .number)) (eqb b emptyCode) (cond (eqb k (line until .number)) (eqb t emptyCode) false)
 
 -- the code of what a record completes
 unfoldable pub completed : (kind below top : ℕ) → ℕ
 completed k b t =
-    cond (leb 1 k && leb k 9) 1
-    (cond (eqb k 21) (expressionCode (eqb b 3 && eqb t 3))
-    (cond (eqb k 22) (expressionCode (eqb b 3 || eqb t 3))
-    (cond (eqb k 23) 3 2)))
+    cond (leb (line duty .number) k && leb k (line until .number)) (sortNumber clause)
+    (cond (eqb k (line seq .number)) (expressionCode (eqb b emptyCode && eqb t emptyCode))
+    (cond (eqb k (line or .number)) (expressionCode (eqb b emptyCode || eqb t emptyCode))
+    (expressionCode (eqb k (line star .number)))))
 
 -- ---- a record
 
 abbrev pub stepFound : Lookup → List ℕ → (below top : ℕ) → Step
 stepFound Unknown l b t = Bad UnknownKind
 stepFound (Found e) l b t =
-    cond (goodFields e (getD l 3 0) (getD l 4 0) (getD l 5 0))
-    (cond (goodOperands e b t)
-    (cond (emptyUnder (getD l 2 0) b t) (Bad EmptyList) (Completed (e .0) (completed (getD l 2 0) b t)))
+    cond (inRanges e (getD l 3 0) (getD l 4 0) (getD l 5 0))
+    (cond (goodOperands (e .operands) (e .first) (e .second) b t)
+    (cond (emptyUnder (getD l 2 0) b t) (Bad EmptyList) (Completed (e .operands) (completed (getD l 2 0) b t)))
     (Bad BadOperands))
     (Bad BadField)
 
@@ -116,12 +137,3 @@ stepOf l b t = cond (marked l 0 contractMark) (stepFound (lookupOf (kindOf (getD
 pub record HasRecords (l : List ℕ) (n : ℕ) : Type 0 where
   pub whole : recordBytes * n ≤ length l
   pub few : n ≤ maxRecords
-
--- ---- what a caller of the reader knows of a contract that is taken
-
--- the bytes are read as this clause, which they spell, and it has so many records
-pub record Contract (l : List ℕ) (n : ℕ) : Type 0 where
-  pub clause : Clause
-  pub is : read l ≡ taken clause
-  pub spells : Spells l clause
-  pub count : n ≡ records clause

@@ -4,4 +4,5 @@ pub mod Table
 pub mod Trees
 pub mod Spelling
 pub mod Reader
+pub mod Taken
 pub mod Codes

@@ -13,13 +13,11 @@ use Rattle.records.specs.declared.Fault.the-variants.{ContractLength, ContractM
 use Rattle.records.specs.declared.Test.{Test}
 use Rattle.records.specs.declared.Test.the-variants.{Passed, Refused}
 use Rattle.records.specs.Refusals.{require, among}
-use Rattle.periods.specs.Limits.{actions}
-use Rattle.periods.specs.Periods.{Party, partyOf}
 use Rattle.contract.specs.Expressions.{holdsEmpty}
 use Rattle.contract.specs.Meaning.{Clause, literal, both, then, repair, repeat, when, until}
 use Rattle.reader.specs.Limits.{maxRecords, recordBytes}
-use Rattle.reader.specs.Table.{Sort, clause, expression, Kind, kindOf, line}
-use Rattle.reader.specs.Trees.{Tree, Trees, Used, Fields, node}
+use Rattle.reader.specs.Table.{Sort, clause, expression, kindOf, line}
+use Rattle.reader.specs.Trees.{Tree, Trees, Fields, goodFields, node}
 
 -- refused for a fault at a place, or taken
 pub data Result (A : Type 0) : Type 0 where
@@ -43,24 +41,9 @@ demand (some x) f k g = g x
 
 -- ---- 4: the fields
 
--- "party (1 or 2)", and 0 where it is not used
-abbrev pub partyField : (used : Bool) → ℕ → Option (Used used Party)
-partyField true n = partyOf n
-partyField false n = cond (eqb n 0) (some tt) none
-
--- "action (0 to 15)", and 0 where it is not used
-abbrev pub actionField : (used : Bool) → ℕ → Option (Used used ℕ)
-actionField true n = cond (ltb n actions) (some n) none
-actionField false n = cond (eqb n 0) (some tt) none
-
-abbrev pub fieldsFrom : (k : Kind) → Option (Used (line k .usesParty) Party) → Option (Used (line k .usesAction) ℕ) → Option (Fields k)
-fieldsFrom k none a = none
-fieldsFrom k (some p) none = none
-fieldsFrom k (some p) (some a) = some (record { party = p; action = a })
-
--- a record's fields; the last byte is 0, since no kind uses it
-unfoldable pub fieldsOf : (k : Kind) → (party action last : ℕ) → Option (Fields k)
-fieldsOf k p a z = cond (eqb z 0) (fieldsFrom k (partyField (line k .usesParty) p) (actionField (line k .usesAction) a)) none
+-- those of the record that stands first in the bytes
+abbrev pub fieldsIn : List ℕ → Fields
+fieldsIn l = record { party = getD l 3 0; action = getD l 4 0; last = getD l 5 0 }
 
 -- ---- 5: the operands
 
@@ -117,9 +100,9 @@ unfoldable pub readRecord : (k : ℕ) → List Operand → List ℕ → Result (
 readRecord k st l =
     provided (require (marked l 0 contractMark) ContractMark k)
     (demand (kindOf (getD l 2 0)) UnknownKind k
-    (λ kind. demand (fieldsOf kind (getD l 3 0) (getD l 4 0) (getD l 5 0)) BadField k
-    (λ fields. demand (operandsOf (line kind .operands) st) BadOperands k
-    (λ os. push k (line kind .completes) (node kind fields (os .trees)) (os .rest)))))
+    (λ kind. provided (require (goodFields (line kind) (fieldsIn l)) BadField k)
+    (demand (operandsOf (line kind .operands) st) BadOperands k
+    (λ os. push k (line kind .completes) (node kind (fieldsIn l) (os .trees)) (os .rest)))))
 
 -- the stack after n records, the first of which is record k
 unfoldable pub readRecords : (k n : ℕ) → List Operand → List ℕ → Result (List Operand)

@@ -1,51 +1,55 @@
 -- The bytes that spell a clause, and the records it has: "operands before their operator". Document 01, "Records".
-use Prim.Native.Nat.{ℕ, _+_, _≤_, _<_}
+use Prim.Native.Nat.{ℕ, _+_, _≤_}
+use mathlib.Core.Bool.{true}
 use mathlib.Core.List.{List, [], _∷_, _++_}
 use mathlib.Core.Path.{_≡_}
 use Rattle.records.specs.Marks.{contractMark}
-use Rattle.periods.specs.Limits.{actions}
-use Rattle.periods.specs.Periods.{number}
+use Rattle.periods.specs.Periods.{Party, number}
 use Rattle.contract.specs.Expressions.{Atom, any, tries, idle, succeeds, fails, Expression, atom, seq, or, star}
 use Rattle.contract.specs.Meaning.{Literal, duty, ban, power, Clause, literal, both, then, repair, repeat, when, until, EmptyFree}
 use Rattle.reader.specs.Limits.{maxRecords}
 use Rattle.reader.specs.Table as K
 use Rattle.reader.specs.Table.{Sort, Kind, line}
-use Rattle.reader.specs.Trees.{Tree}
+use Rattle.reader.specs.Trees.{Tree, Record, goodFields}
 
 -- "`54 43`, kind, party, action, a last byte that no kind uses"
-unfoldable pub recordOf : Kind → (party action : ℕ) → List ℕ
-recordOf k p a = contractMark ++ (line k .number ∷ p ∷ a ∷ 0 ∷ [])
+unfoldable pub spellRecord : Record → List ℕ
+spellRecord r = contractMark ++ (line (r .kind) .number ∷ r .fields .party ∷ r .fields .action ∷ r .fields .last ∷ [])
 
--- the record of an operator: "A field that a kind doesn't use is 0."
-abbrev pub operator : Kind → List ℕ
-operator k = recordOf k 0 0
+-- a record of these fields, the last byte being 0
+abbrev recordWith : Kind → (party action : ℕ) → Record
+recordWith k p a = record { kind = k; fields = record { party = p; action = a; last = 0 } }
 
-unfoldable pub spellAtom : Atom → List ℕ
-spellAtom any = recordOf K.any 0 0
-spellAtom (tries p a) = recordOf K.tries (number p) a
-spellAtom (idle p a) = recordOf K.idle (number p) a
-spellAtom (succeeds a) = recordOf K.succeeds 0 a
-spellAtom (fails a) = recordOf K.fails 0 a
+-- the record of an operator, and of a kind that uses no field
+abbrev pub operator : Kind → Record
+operator k = recordWith k 0 0
+
+abbrev pub atomRecord : Atom → Record
+atomRecord any = operator K.any
+atomRecord (tries p a) = recordWith K.tries (number p) a
+atomRecord (idle p a) = recordWith K.idle (number p) a
+atomRecord (succeeds a) = recordWith K.succeeds 0 a
+atomRecord (fails a) = recordWith K.fails 0 a
+
+abbrev pub literalRecord : Literal → Party → ℕ → Record
+literalRecord duty p a = recordWith K.duty (number p) a
+literalRecord ban p a = recordWith K.ban (number p) a
+literalRecord power p a = recordWith K.power (number p) a
 
 unfoldable pub spellExpression : Expression → List ℕ
-spellExpression (atom x) = spellAtom x
-spellExpression (seq l r) = spellExpression l ++ spellExpression r ++ operator K.seq
-spellExpression (or l r) = spellExpression l ++ spellExpression r ++ operator K.or
-spellExpression (star e) = spellExpression e ++ operator K.star
-
-abbrev pub literalKind : Literal → Kind
-literalKind duty = K.duty
-literalKind ban = K.ban
-literalKind power = K.power
+spellExpression (atom x) = spellRecord (atomRecord x)
+spellExpression (seq l r) = spellExpression l ++ spellExpression r ++ spellRecord (operator K.seq)
+spellExpression (or l r) = spellExpression l ++ spellExpression r ++ spellRecord (operator K.or)
+spellExpression (star e) = spellExpression e ++ spellRecord (operator K.star)
 
 unfoldable pub spell : Clause → List ℕ
-spell (literal l p a) = recordOf (literalKind l) (number p) a
-spell (both l r) = spell l ++ spell r ++ operator K.both
-spell (then l r) = spell l ++ spell r ++ operator K.then
-spell (repair l r) = spell l ++ spell r ++ operator K.repair
-spell (repeat c) = spell c ++ operator K.repeat
-spell (when e c) = spellExpression e ++ spell c ++ operator K.when
-spell (until c e) = spell c ++ spellExpression e ++ operator K.until
+spell (literal l p a) = spellRecord (literalRecord l p a)
+spell (both l r) = spell l ++ spell r ++ spellRecord (operator K.both)
+spell (then l r) = spell l ++ spell r ++ spellRecord (operator K.then)
+spell (repair l r) = spell l ++ spell r ++ spellRecord (operator K.repair)
+spell (repeat c) = spell c ++ spellRecord (operator K.repeat)
+spell (when e c) = spellExpression e ++ spell c ++ spellRecord (operator K.when)
+spell (until c e) = spell c ++ spellExpression e ++ spellRecord (operator K.until)
 
 -- how many records a tree has
 unfoldable pub expressionRecords : Expression → ℕ
@@ -72,22 +76,18 @@ abbrev pub treeRecords : (s : Sort) → Tree s → ℕ
 treeRecords K.clause c = records c
 treeRecords K.expression e = expressionRecords e
 
--- every action is one of those that there are; the parties are 1 and 2 by their type
-abbrev pub AtomInRange : Atom → Type 0
-AtomInRange any = Unit {0}
-AtomInRange (tries p a) = a < actions
-AtomInRange (idle p a) = a < actions
-AtomInRange (succeeds a) = a < actions
-AtomInRange (fails a) = a < actions
+-- the fields of every record are in the ranges of its kind; an operator's are 0
+abbrev pub Allowed : Record → Type 0
+Allowed r = goodFields (line (r .kind)) (r .fields) ≡ true
 
 unfoldable pub ExpressionInRange : Expression → Type 0
-ExpressionInRange (atom x) = AtomInRange x
+ExpressionInRange (atom x) = Allowed (atomRecord x)
 ExpressionInRange (seq l r) = ExpressionInRange l × ExpressionInRange r
 ExpressionInRange (or l r) = ExpressionInRange l × ExpressionInRange r
 ExpressionInRange (star e) = ExpressionInRange e
 
 unfoldable pub InRange : Clause → Type 0
-InRange (literal l p a) = a < actions
+InRange (literal l p a) = Allowed (literalRecord l p a)
 InRange (both l r) = InRange l × InRange r
 InRange (then l r) = InRange l × InRange r
 InRange (repair l r) = InRange l × InRange r
@@ -95,7 +95,7 @@ InRange (repeat c) = InRange c
 InRange (when e c) = ExpressionInRange e × InRange c
 InRange (until c e) = InRange c × ExpressionInRange e
 
--- the bytes spell this clause, and it is one that a contract may be: 1 to 64 records, actions in range, and no expression under `when` or
+-- the bytes spell this clause, and it is one that a contract may be: 1 to 64 records, fields in range, and no expression under `when` or
 -- `until` that holds the empty list
 pub record Spells (l : List ℕ) (c : Clause) : Type 0 where
   pub bytes : l ≡ spell c

@@ -1,9 +1,10 @@
--- The one fixed table: what a record of each kind completes, its operands and the fields it uses. Document 01, "Records".
-use Prim.Native.Nat.{ℕ}
-use mathlib.Core.Bool.{Bool, true, false, cond}
+-- The one fixed table: what a record of each kind completes, its operands, and what its fields may be. Document 01, "Records".
+use Prim.Native.Nat.{ℕ, _-_}
+use mathlib.Core.Bool.{Bool, _&&_, cond}
 use mathlib.Core.List.{List, [], _∷_}
 use mathlib.Core.Option.{Option, none, some}
-use lib.Dec.{eqb}
+use lib.Dec.{eqb, leb}
+use Rattle.periods.specs.Limits.{actions}
 
 -- what a record completes, and what an operand is
 pub data Sort : Type 0 where
@@ -13,36 +14,60 @@ pub data Kind : Type 0 where
   duty ban power both then repair repeat when until : Kind
   any tries idle succeeds fails seq or star : Kind
 
--- a line of the table: the kind's number, what its record completes, the sorts of its operands in the order in which they are read, and
--- whether it uses the party and the action; no kind uses the last byte
+-- the numbers from the least to the greatest
+pub record Range : Type 0 where
+  pub least : ℕ
+  pub greatest : ℕ
+
+abbrev pub range : (least greatest : ℕ) → Range
+range m n = record { least = m; greatest = n }
+
+abbrev pub within : Range → ℕ → Bool
+within r n = leb (r .least) n && leb n (r .greatest)
+
+-- "A field that a kind doesn't use is 0."
+abbrev pub unused : Range
+unused = range 0 0
+
+-- "party (1 or 2)"
+abbrev pub parties : Range
+parties = range 1 2
+
+-- "action (0 to 15)"
+abbrev pub actionNumbers : Range
+actionNumbers = range 0 (actions - 1)
+
+-- a line of the table: the kind's number, what its record completes, the sorts of its operands in the order in which they are read, and the
+-- range of each of its fields
 pub record Line : Type 0 where
   pub number : ℕ
   pub completes : Sort
   pub operands : List Sort
-  pub usesParty : Bool
-  pub usesAction : Bool
+  pub party : Range
+  pub action : Range
+  pub last : Range
 
-abbrev entry : ℕ → Sort → List Sort → (usesParty usesAction : Bool) → Line
-entry n c os p a = record { number = n; completes = c; operands = os; usesParty = p; usesAction = a }
+abbrev entry : ℕ → Sort → List Sort → (party action last : Range) → Line
+entry n c os p a z = record { number = n; completes = c; operands = os; party = p; action = a; last = z }
 
 abbrev pub line : Kind → Line
-line duty = entry 1 clause [] true true
-line ban = entry 2 clause [] true true
-line power = entry 3 clause [] true true
-line both = entry 4 clause (clause ∷ clause ∷ []) false false
-line then = entry 5 clause (clause ∷ clause ∷ []) false false
-line repair = entry 6 clause (clause ∷ clause ∷ []) false false
-line repeat = entry 7 clause (clause ∷ []) false false
-line when = entry 8 clause (expression ∷ clause ∷ []) false false
-line until = entry 9 clause (clause ∷ expression ∷ []) false false
-line any = entry 16 expression [] false false
-line tries = entry 17 expression [] true true
-line idle = entry 18 expression [] true true
-line succeeds = entry 19 expression [] false true
-line fails = entry 20 expression [] false true
-line seq = entry 21 expression (expression ∷ expression ∷ []) false false
-line or = entry 22 expression (expression ∷ expression ∷ []) false false
-line star = entry 23 expression (expression ∷ []) false false
+line duty = entry 1 clause [] parties actionNumbers unused
+line ban = entry 2 clause [] parties actionNumbers unused
+line power = entry 3 clause [] parties actionNumbers unused
+line both = entry 4 clause (clause ∷ clause ∷ []) unused unused unused
+line then = entry 5 clause (clause ∷ clause ∷ []) unused unused unused
+line repair = entry 6 clause (clause ∷ clause ∷ []) unused unused unused
+line repeat = entry 7 clause (clause ∷ []) unused unused unused
+line when = entry 8 clause (expression ∷ clause ∷ []) unused unused unused
+line until = entry 9 clause (clause ∷ expression ∷ []) unused unused unused
+line any = entry 16 expression [] unused unused unused
+line tries = entry 17 expression [] parties actionNumbers unused
+line idle = entry 18 expression [] parties actionNumbers unused
+line succeeds = entry 19 expression [] unused actionNumbers unused
+line fails = entry 20 expression [] unused actionNumbers unused
+line seq = entry 21 expression (expression ∷ expression ∷ []) unused unused unused
+line or = entry 22 expression (expression ∷ expression ∷ []) unused unused unused
+line star = entry 23 expression (expression ∷ []) unused unused unused
 
 -- every kind, in the table's order
 abbrev pub kinds : List Kind

@@ -1,13 +1,14 @@
 -- A record with its operands makes a tree: a clause or an expression. Document 01, "Records".
 use Prim.Native.Nat.{ℕ}
-use mathlib.Core.Bool.{Bool, true, false}
+use mathlib.Core.Bool.{Bool, _&&_, cond}
 use mathlib.Core.List.{List, [], _∷_}
-use Rattle.periods.specs.Periods.{Party}
+use lib.Dec.{eqb}
+use Rattle.periods.specs.Periods.{Party, party1, party2}
 use Rattle.contract.specs.Expressions as E
 use Rattle.contract.specs.Expressions.{Expression}
 use Rattle.contract.specs.Meaning as M
 use Rattle.contract.specs.Meaning.{Literal, Clause, literal}
-use Rattle.reader.specs.Table.{Sort, clause, expression, Kind, duty, ban, power, both, then, repair, repeat, when, until, any, tries, idle, succeeds, fails, seq, or, star, line}
+use Rattle.reader.specs.Table.{Sort, clause, expression, Kind, duty, ban, power, both, then, repair, repeat, when, until, any, tries, idle, succeeds, fails, seq, or, star, within, Line, line}
 
 -- the trees of a sort
 abbrev pub Tree : Sort → Type 0
@@ -19,21 +20,29 @@ abbrev pub Trees : List Sort → Type 0
 Trees [] = Unit {0}
 Trees (s ∷ ss) = Tree s × Trees ss
 
--- what a field holds: nothing where it is not used
-abbrev pub Used : Bool → Type 0 → Type 0
-Used true A = A
-Used false A = Unit {0}
+-- a record's fields, a byte each
+pub record Fields : Type 0 where
+  pub party : ℕ
+  pub action : ℕ
+  pub last : ℕ
 
--- the fields of a record of a kind
-pub record Fields (k : Kind) : Type 0 where
-  pub party : Used (line k .usesParty) Party
-  pub action : Used (line k .usesAction) ℕ
+pub record Record : Type 0 where
+  pub kind : Kind
+  pub fields : Fields
+
+-- each field is in the range that the kind's line gives
+unfoldable pub goodFields : Line → Fields → Bool
+goodFields l f = within (l .party) (f .party) && within (l .action) (f .action) && within (l .last) (f .last)
+
+-- the party of a field that is 1 or 2
+abbrev pub partyNamed : ℕ → Party
+partyNamed n = cond (eqb n 1) party1 party2
 
 -- the tree that a record makes of its operands
-unfoldable pub node : (k : Kind) → Fields k → Trees (line k .operands) → Tree (line k .completes)
-node duty f ts = literal Literal.duty (f .party) (f .action)
-node ban f ts = literal Literal.ban (f .party) (f .action)
-node power f ts = literal Literal.power (f .party) (f .action)
+unfoldable pub node : (k : Kind) → Fields → Trees (line k .operands) → Tree (line k .completes)
+node duty f ts = literal Literal.duty (partyNamed (f .party)) (f .action)
+node ban f ts = literal Literal.ban (partyNamed (f .party)) (f .action)
+node power f ts = literal Literal.power (partyNamed (f .party)) (f .action)
 node both f ts = M.both (ts .0) (ts .1 .0)
 node then f ts = M.then (ts .0) (ts .1 .0)
 node repair f ts = M.repair (ts .0) (ts .1 .0)
@@ -41,8 +50,8 @@ node repeat f ts = M.repeat (ts .0)
 node when f ts = M.when (ts .0) (ts .1 .0)
 node until f ts = M.until (ts .0) (ts .1 .0)
 node any f ts = E.atom E.any
-node tries f ts = E.atom (E.tries (f .party) (f .action))
-node idle f ts = E.atom (E.idle (f .party) (f .action))
+node tries f ts = E.atom (E.tries (partyNamed (f .party)) (f .action))
+node idle f ts = E.atom (E.idle (partyNamed (f .party)) (f .action))
 node succeeds f ts = E.atom (E.succeeds (f .action))
 node fails f ts = E.atom (E.fails (f .action))
 node seq f ts = E.seq (ts .0) (ts .1 .0)

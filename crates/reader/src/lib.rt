@@ -4,9 +4,9 @@ ghost use mathlib.Core.List.{[]};
 ghost use Prim.Native.Nat.{_+_, _≤_};
 ghost use lib.ListN.{length, drop, getD};
 ghost use Rattle.reader.specs.Limits.{recordBytes};
-ghost use Rattle.reader.specs.Table.{kindOf};
+ghost use Rattle.reader.specs.Table.{range, within, kindOf};
 ghost use Rattle.reader.specs.Reader.{next, readRecords, justOne, contractRecords, testOf, readTest};
-ghost use Rattle.reader.specs.Codes.{lookupOf, operandCount, goodParty, goodAction, goodFields, expressionCode, sortOf, goodOperands, emptyUnder, completed, stepOf, HasRecords};
+ghost use Rattle.reader.specs.Codes.{named, lookupOf, operandCount, inRanges, expressionCode, sortOf, goodOperands, emptyUnder, completed, stepOf, HasRecords};
 use records::Fault;
 use records::Test;
 
@@ -28,30 +28,81 @@ const EXPRESSION: u8 = 2;
 // The code of an expression that holds the empty list.
 pub const EMPTY: u8 = 3;
 
-// A line of the table: how many operands, the sorts of the first and the second in the order in which they are read, whether the party is
-// used, and whether the action is.
-pub struct Entry(pub u8, pub u8, pub u8, pub bool, pub bool);
+// The last action's number.
+const LAST_ACTION: u8 = periods::ACTIONS as u8 - 1;
 
-// A line for each of the kinds 1 to 9, then 16 to 23.
-const TABLE: [Entry; 17] = [
-    Entry(0, NONE, NONE, true, true), // 1 duty
-    Entry(0, NONE, NONE, true, true), // 2 ban
-    Entry(0, NONE, NONE, true, true), // 3 power
-    Entry(2, CLAUSE, CLAUSE, false, false), // 4 both
-    Entry(2, CLAUSE, CLAUSE, false, false), // 5 then
-    Entry(2, CLAUSE, CLAUSE, false, false), // 6 repair
-    Entry(1, CLAUSE, NONE, false, false), // 7 repeat
-    Entry(2, EXPRESSION, CLAUSE, false, false), // 8 when
-    Entry(2, CLAUSE, EXPRESSION, false, false), // 9 until
-    Entry(0, NONE, NONE, false, false), // 16 any
-    Entry(0, NONE, NONE, true, true), // 17 tries
-    Entry(0, NONE, NONE, true, true), // 18 idle
-    Entry(0, NONE, NONE, false, true), // 19 succeeds
-    Entry(0, NONE, NONE, false, true), // 20 fails
-    Entry(2, EXPRESSION, EXPRESSION, false, false), // 21 seq
-    Entry(2, EXPRESSION, EXPRESSION, false, false), // 22 or
-    Entry(1, EXPRESSION, NONE, false, false), // 23 star
+// A line of the table, in the order of an entry's fields.
+pub struct EntryLine(
+    pub u8,
+    pub u8,
+    pub u8,
+    pub u8,
+    pub u8,
+    pub u8,
+    pub u8,
+    pub u8,
+    pub u8,
+);
+
+// A line for each of the kinds 1 to 9, then 16 to 23. A field that a kind does not use is 0 to 0.
+const TABLE: [EntryLine; 17] = [
+    EntryLine(0, NONE, NONE, 1, 2, 0, LAST_ACTION, 0, 0), // 1 duty
+    EntryLine(0, NONE, NONE, 1, 2, 0, LAST_ACTION, 0, 0), // 2 ban
+    EntryLine(0, NONE, NONE, 1, 2, 0, LAST_ACTION, 0, 0), // 3 power
+    EntryLine(2, CLAUSE, CLAUSE, 0, 0, 0, 0, 0, 0), // 4 both
+    EntryLine(2, CLAUSE, CLAUSE, 0, 0, 0, 0, 0, 0), // 5 then
+    EntryLine(2, CLAUSE, CLAUSE, 0, 0, 0, 0, 0, 0), // 6 repair
+    EntryLine(1, CLAUSE, NONE, 0, 0, 0, 0, 0, 0), // 7 repeat
+    EntryLine(2, EXPRESSION, CLAUSE, 0, 0, 0, 0, 0, 0), // 8 when
+    EntryLine(2, CLAUSE, EXPRESSION, 0, 0, 0, 0, 0, 0), // 9 until
+    EntryLine(0, NONE, NONE, 0, 0, 0, 0, 0, 0), // 16 any
+    EntryLine(0, NONE, NONE, 1, 2, 0, LAST_ACTION, 0, 0), // 17 tries
+    EntryLine(0, NONE, NONE, 1, 2, 0, LAST_ACTION, 0, 0), // 18 idle
+    EntryLine(0, NONE, NONE, 0, 0, 0, LAST_ACTION, 0, 0), // 19 succeeds
+    EntryLine(0, NONE, NONE, 0, 0, 0, LAST_ACTION, 0, 0), // 20 fails
+    EntryLine(2, EXPRESSION, EXPRESSION, 0, 0, 0, 0, 0, 0), // 21 seq
+    EntryLine(2, EXPRESSION, EXPRESSION, 0, 0, 0, 0, 0, 0), // 22 or
+    EntryLine(1, EXPRESSION, NONE, 0, 0, 0, 0, 0, 0), // 23 star
 ];
+
+// The least and the greatest number that a field may be.
+pub struct Range {
+    pub least: u8,
+    pub greatest: u8,
+}
+
+// What a line says of its kind: how many operands, the sorts of the first and the second in the order in which they are read, and the ranges
+// of the party, the action and the last byte.
+pub struct Entry {
+    pub operands: u8,
+    pub first: u8,
+    pub second: u8,
+    pub party: Range,
+    pub action: Range,
+    pub last: Range,
+}
+
+fn named(l: EntryLine) -> Entry
+    ensures { λ r. ⌜ r ≡ named l ⌝ }
+{
+    Entry {
+        operands: l.0,
+        first: l.1,
+        second: l.2,
+        party: Range {
+            least: l.3,
+            greatest: l.4,
+        },
+        action: Range {
+            least: l.5,
+            greatest: l.6,
+        },
+        last: Range {
+            least: l.7,
+            greatest: l.8,
+        },
+    }
+}
 
 // What the table has for a kind's number.
 pub enum Lookup {
@@ -63,8 +114,8 @@ fn entry_of(kind: u8) -> Lookup
     ensures { λ r. ⌜ r ≡ lookupOf (kindOf kind) ⌝ }
 {
     match kind {
-        1..=9 => Lookup::Found(TABLE[kind as usize - 1]),
-        16..=23 => Lookup::Found(TABLE[kind as usize - 7]),
+        1..=9 => Lookup::Found(named(TABLE[kind as usize - 1])),
+        16..=23 => Lookup::Found(named(TABLE[kind as usize - 7])),
         _ => Lookup::Unknown,
     }
 }
@@ -75,44 +126,30 @@ pub fn operands(kind: u8) -> u8
 {
     let found = entry_of(kind);
     match found {
-        Lookup::Found(e) => e.0,
+        Lookup::Found(e) => e.operands,
         Lookup::Unknown => 0,
     }
 }
 
 // ---- a record
 
-fn good_party(used: bool, party: u8) -> bool
-    ensures { λ r. ⌜ r ≡ goodParty used party ⌝ }
+fn within(f: Range, x: u8) -> bool
+    ensures { λ r. ⌜ r ≡ within (range (f .least) (f .greatest)) x ⌝ }
 {
-    match party {
-        0 => !used,
-        1..=2 => used,
-        _ => false,
-    }
+    f.least <= x && x <= f.greatest
 }
 
-fn good_action(used: bool, action: u8) -> bool
-    ensures { λ r. ⌜ r ≡ goodAction used action ⌝ }
-{
-    if used {
-        periods::is_action(records::wide(action))
-    } else {
-        action == 0
-    }
-}
-
-// Whether the fields that a kind uses are in range, and the others 0.
+// Whether each field is one that the kind allows.
 fn good_fields(e: Entry, party: u8, action: u8, last: u8) -> bool
-    ensures { λ r. ⌜ r ≡ goodFields e party action last ⌝ }
+    ensures { λ r. ⌜ r ≡ inRanges e party action last ⌝ }
 {
-    if !good_party(e.3, party) {
+    if !within(e.party, party) {
         return false;
     }
-    if !good_action(e.4, action) {
+    if !within(e.action, action) {
         return false;
     }
-    last == 0
+    within(e.last, last)
 }
 
 // The sort of an operand's code.
@@ -124,13 +161,13 @@ fn sort(code: u8) -> u8
 
 // Whether the two operands on top are those that a kind asks for.
 fn good_operands(e: Entry, below: u8, top: u8) -> bool
-    ensures { λ r. ⌜ r ≡ goodOperands e below top ⌝ }
+    ensures { λ r. ⌜ r ≡ goodOperands (e .operands) (e .first) (e .second) below top ⌝ }
 {
-    let operands = e.0;
+    let operands = e.operands;
     match operands {
         0 => true,
-        1 => sort(top) == e.1,
-        _ => sort(below) == e.1 && sort(top) == e.2,
+        1 => sort(top) == e.first,
+        _ => sort(below) == e.first && sort(top) == e.second,
     }
 }
 
@@ -193,7 +230,7 @@ fn read_record(contract: &[u8], at: usize, below: u8, top: u8) -> Step
     if empty_under(kind, below, top) {
         return Step::Bad(Fault::EmptyList);
     }
-    Step::Completed(e.0, completed(kind, below, top))
+    Step::Completed(e.operands, completed(kind, below, top))
 }
 
 // ---- the contract

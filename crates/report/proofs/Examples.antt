@@ -8,9 +8,9 @@ use Rattle.periods.specs.Periods.{tries, bit, periodFrom}
 use Rattle.periods.specs.Traces.{wholeRecords, markedAs, periodAt, marksTest, traceTest, periodsOf}
 use Rattle.contract.specs.Meaning.{meaning, repeatMeaning}
 use Rattle.reader.specs.Table.{numbered, kindOf}
-use Rattle.reader.specs.Trees.{node}
+use Rattle.reader.specs.Trees.{goodFields, node}
 use Rattle.reader.specs.Reader as Reader
-use Rattle.reader.specs.Reader.{fieldsOf, operandsOf, readRecord, readRecords, read}
+use Rattle.reader.specs.Reader.{operandsOf, readRecord, readRecords, read}
 use Rattle.report.specs.Texts.{digits, decimal, periodLine, decidedLine, refusedLine}
 use Rattle.report.specs.Split.{firstPeriod, contractLength}
 use Rattle.report.specs.Reports.{meantLine, periodLines, lines, onTrace, report}
@@ -20,7 +20,7 @@ use Rattle.report.proofs.Reports.{longer}
 pub report-vectors : ReportVectors
 unfolding
     report contractLength firstPeriod firstFailing formOf wholeRecords markedAs marked read Reader.goodLength Reader.contractRecords readRecords readRecord numbered
-    kindOf fieldsOf operandsOf node onTrace traceTest marksTest lines periodLines meantLine periodsOf periodAt periodFrom field value meaning repeatMeaning
+    kindOf goodFields operandsOf node onTrace traceTest marksTest lines periodLines meantLine periodsOf periodAt periodFrom field value meaning repeatMeaning
     tries bit periodLine decidedLine refusedLine decimal digits
 report-vectors =
     record {

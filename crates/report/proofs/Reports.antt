@@ -34,7 +34,7 @@ use Rattle.reader.specs.Limits.{maxRecords}
 use Rattle.reader.specs.Reader.{Result, refused, taken, read, contractRecords, readTest}
 use Rattle.reader.proofs.Reader.{taken-count, taken-spells}
 use Rattle.reader.proofs.Places.{place-most}
-use Rattle.image.specs.Widths.{bufferBytes}
+use Rattle.image.specs.Limits.{bufferBytes}
 use Rattle.image.specs.Images.{imageFor}
 use Rattle.image.specs.Monitors.{Monitors}
 use Rattle.compiler.specs.Calls.{compileTest, compileReplyBytes, compile, Usable}

@@ -8,7 +8,7 @@ ghost use Rattle.layout.specs.Limits.{maxRows};
 ghost use Rattle.states.specs.Limits.{headBytes};
 ghost use Rattle.reader.specs.Limits.{maxRecords};
 ghost use Rattle.reader.specs.Reader.{read};
-ghost use Rattle.image.specs.Widths.{bufferBytes};
+ghost use Rattle.image.specs.Limits.{bufferBytes};
 ghost use Rattle.report.specs.Limits.{inputBytes, nameBytes, lineBytes, textBytes};
 ghost use Rattle.report.specs.Texts.{ascii, decimal, periodLine, decidedLine, refusedLine, Puts};
 ghost use Rattle.report.specs.Split.{contractLength, contractOf, traceOf};

@@ -9,7 +9,7 @@ use Rattle.records.specs.declared.Test.the-variants.{Passed}
 use Rattle.records.proofs.Refusals.{refused-first}
 use Rattle.reader.specs.Limits.{maxRecords}
 use Rattle.reader.specs.Reader.{readTest}
-use Rattle.image.specs.Widths.{bufferBytes}
+use Rattle.image.specs.Limits.{bufferBytes}
 use Rattle.compiler.specs.Calls.{compileTest}
 use Rattle.compiler.proofs.Calls.{few-records}
 use Rattle.compiler.proofs.compile_test.Statement.{statement}

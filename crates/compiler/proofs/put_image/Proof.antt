@@ -3,7 +3,7 @@ use borrow.Author.Needs.{needs}
 use native.Mathlib.Omega.{arith}
 use mathlib.Core.Path.{_≡_}
 use Rattle.image.specs.Widths.{firstRow, laterRow, fixedRows}
-use Rattle.emitter.specs.Plans.{Emitted}
+use Rattle.emitter.specs.Blocks.{Emitted}
 use Rattle.emitter.proofs.emit.Reads as emit-reads
 use Rattle.compiler.proofs.Whole.{begun, begun-rows, emits, end-room, image-is, count-is}
 use Rattle.compiler.proofs.put_image.Statement.{statement}

@@ -1,22 +1,25 @@
 -- `emitter::emit` meets its contract: with the rows of the operands written, the record's own rows round them are the tree's.
 -- The measure is the number of records.
-use Prim.Native.Nat.{ℕ, _+_, _*_, _-_, _<_}
+use Prim.Native.Nat.{ℕ, _+_, _-_, _<_}
 use native.Mathlib.Omega.{arith}
+use mathlib.Core.List.{List}
 use mathlib.Core.Path.{_≡_, refl, _∙_}
-use lib.ListN.{getD, length}
+use lib.ListN.{length}
 use borrow.Author.Needs.{needs}
 use borrow.Fn.Kinds.{In}
 use borrow.Fn.PlainCycle.{Measures, is, falls, and}
-use Rattle.records.proofs.wide.Reads as wide-reads
-use Rattle.reader.specs.Limits.{recordBytes}
 use Rattle.reader.specs.Table.{kindOf}
-use Rattle.reader.proofs.Codes.{operandCount-most}
+use Rattle.reader.proofs.Codes.{operandCount-max}
 use Rattle.reader.proofs.operands.Reads as operands-reads
-use Rattle.emitter.specs.Plans.{wiresOf, Emitted}
+use Rattle.emitter.specs.declared.Block.{Block}
+use Rattle.emitter.specs.Blocks.{basesOf, wiresOf, Emitted}
+use Rattle.emitter.specs.Premises.{RecordRows}
 use Rattle.emitter.proofs.emit.Reads as emit
 use Rattle.emitter.proofs.emit.Kinds as emit-kinds
-use Rattle.emitter.proofs.Emitting.{Reads, Written, some-record, few-inside, wires-small, right-emits, left-emits, record-rows, written-no, written-one, written-two, emitted}
+use Rattle.emitter.proofs.Emitting.{Reads, Written, written-no, written-one, written-two, emitted}
+use Rattle.emitter.proofs.Room.{some-record, few-inside, wires-small, right-emits, left-emits, record-rows}
 use Rattle.emitter.proofs.+emit.Lts-emit as emit-lts
+use Rattle.emitter.proofs.last_record.Reads as last-record-reads
 use Rattle.emitter.proofs.no_block.Reads as no-block-reads
 use Rattle.emitter.proofs.plan_of.Reads as plan-of-reads
 use Rattle.emitter.proofs.put_record.Reads as put-record-reads
@@ -36,8 +39,8 @@ emit-below t = and 2 emit-kinds.ps (falls 2 emit-kinds.ps _<_ μ-emit t) emit.Pr
 -- what is known of the functions that it calls
 abbrev callees : ℕ → emit-lts.Claims
 callees t = (
-  wide-reads.Asked,
-  wide-reads.Learnt,
+  last-record-reads.Asked,
+  last-record-reads.Learnt,
   plan-of-reads.Asked,
   plan-of-reads.Learnt,
   operands-reads.Asked,
@@ -52,248 +55,189 @@ callees t = (
   emit.Post,
 )
 
--- what the record holds, its plan and how many operands it has
-reads : (t : ℕ) (c : emit-lts.After-struct-known (callees t) (emit-at t) emit.Post)
-    → let a = c .before .before .before .before .before .before .before .before .before .before .args in
-    Reads (a .contract .now) (a .n) (getD (a .contract .now) (recordBytes * (a .n - 1) + 2) 0) (c .before .before .before .before .before .wide .result)
-    (c .before .before .before .wide2 .result) (c .before .operands .result) (c .before .before .plan-of .result)
-reads t c =
-    record {
-      kind-is = refl;
-      party-is = c .before .before .before .before .before .wide .ensures .0;
-      action-is = c .before .before .before .wide2 .ensures .0;
-      plan-is = c .before .before .plan-of .ensures;
-      count-is = c .before .operands .ensures;
-    }
+module _ (t : ℕ) where
+  -- the last record, its plan and how many operands it has
+  reads : (p : emit-lts.After-struct-known (callees t) (emit-at t) emit.Post)
+      → let a = p .before .before .before .before .before .before .args in
+      Reads (a .contract .now) (a .n) (p .before .before .before .last-record .result) (p .before .operands .result) (p .before .before .plan-of .result)
+  reads p =
+      record {
+        bytes-are = p .before .before .before .last-record .ensures;
+        plan-is = p .before .before .plan-of .ensures;
+        count-is = p .before .operands .ensures;
+      }
 
-emit-sub-last : (t : ℕ) → emit-lts.Need-sub-last (callees t) (emit-at t) emit.Post
-emit-sub-last t c = some-record (c .before .before .pre .1) .0
+  -- its operands' rows are written, and these are their blocks
+  abbrev WrittenAt : emit-lts.After-struct-known (callees t) (emit-at t) emit.Post → (later : List ℕ) (left right : Block) → Type 0
+  WrittenAt p later left right =
+      let a = p .before .before .before .before .before .before .args in
+      let plan = p .before .before .plan-of .result in
+      Written (a .contract .now) (a .n - 1) (p .before .operands .result) (a .image .now) (a .at + plan .before) (a .s)
+      (wiresOf plan (a .at) (a .s) (a .k)) later left right
 
-emit-mul-start : (t : ℕ) → emit-lts.Need-mul-start (callees t) (emit-at t) emit.Post
-emit-mul-start t c =
-    let h = some-record (c .before .before .pre .1) in
-    let g = c .before .before .good .0 in
-    record { fits = omega arith }
+  -- there is room for its own rows
+  rows-at : (p : emit-lts.After-struct-known (callees t) (emit-at t) emit.Post) {later : List ℕ} {left right : Block} → WrittenAt p later left right
+      → let a = p .before .before .before .before .before .before .args in
+      let r = p .before .before .before .last-record .result in
+      length later ≡ length (a .image .now)
+      → RecordRows later (p .before .before .plan-of .result) (a .at) (left .next) (basesOf (a .at) (a .s) (a .k) left right (r .party) (r .action))
+  rows-at p w l =
+      let bytes = p .before .before .before .last-record .ok in
+      record-rows (p .before .before .before .before .before .before .pre .1) (reads p) w l (omega arith, omega arith)
 
-emit-add-kind : (t : ℕ) → emit-lts.Need-add-kind (callees t) (emit-at t) emit.Post
-emit-add-kind t c =
-    let h = some-record (c .before .before .pre .1) in
-    let g = c .before .before .good .0 in
-    record { fits = omega arith }
+  last-record-requires : emit-lts.Need-last-record-requires (callees t) (emit-at t) emit.Post
+  last-record-requires c κs = some-record (c .before .before .pre .1)
 
-emit-shared-slice-read-kind : (t : ℕ) → emit-lts.Need-shared-slice-read-kind (callees t) (emit-at t) emit.Post
-emit-shared-slice-read-kind t c =
-    let h = some-record (c .before .before .before .pre .1) in
-    omega arith
+  sub-before : emit-lts.Need-sub-before (callees t) (emit-at t) emit.Post
+  sub-before c = some-record (c .before .before .before .pre .1) .0
 
-emit-add-wide : (t : ℕ) → emit-lts.Need-add-wide (callees t) (emit-at t) emit.Post
-emit-add-wide t c =
-    let h = some-record (c .before .before .before .pre .1) in
-    let g = c .before .before .before .good .0 in
-    record { fits = omega arith }
+  plan-of-requires : emit-lts.Need-plan-of-requires (callees t) (emit-at t) emit.Post
+  plan-of-requires c κs = search needs
 
-emit-shared-slice-read-wide : (t : ℕ) → emit-lts.Need-shared-slice-read-wide (callees t) (emit-at t) emit.Post
-emit-shared-slice-read-wide t c =
-    let h = some-record (c .before .before .before .before .pre .1) in
-    omega arith
+  operands-requires : emit-lts.Need-operands-requires (callees t) (emit-at t) emit.Post
+  operands-requires c κs = search needs
 
-emit-wide-requires : (t : ℕ) → emit-lts.Need-wide-requires (callees t) (emit-at t) emit.Post
-emit-wide-requires t c κs = search needs
+  cast-inside : emit-lts.Need-cast-inside (callees t) (emit-at t) emit.Post
+  cast-inside p = let h = few-inside (p .before .before .before .before .before .before .pre .1) (reads p) in record { fits = omega arith }
 
-emit-add-wide-2 : (t : ℕ) → emit-lts.Need-add-wide-2 (callees t) (emit-at t) emit.Post
-emit-add-wide-2 t c =
-    let h = some-record (c .before .before .before .before .before .pre .1) in
-    let g = c .before .before .before .before .before .good .0 in
-    record { fits = omega arith }
+  add-inside : emit-lts.Need-add-inside (callees t) (emit-at t) emit.Post
+  add-inside p = let h = few-inside (p .before .before .before .before .before .before .pre .1) (reads p) in record { fits = omega arith }
 
-emit-shared-slice-read-wide-2 : (t : ℕ) → emit-lts.Need-shared-slice-read-wide-2 (callees t) (emit-at t) emit.Post
-emit-shared-slice-read-wide-2 t c =
-    let h = some-record (c .before .before .before .before .before .before .pre .1) in
-    omega arith
+  no-block-requires : emit-lts.Need-no-block-requires (callees t) (emit-at t) emit.Post
+  no-block-requires c κs = search needs
 
-emit-wide-requires-2 : (t : ℕ) → emit-lts.Need-wide-requires-2 (callees t) (emit-at t) emit.Post
-emit-wide-requires-2 t c κs = search needs
+  -- without operands
+  written-none-at : (c : emit-lts.After-put-record-arg (callees t) (emit-at t) emit.Post)
+      → let p = c .before .before .before in
+      WrittenAt p (p .before .before .before .before .before .before .args .image .now) (c .before .no-block .result) (c .before .no-block .result)
+  written-none-at c = rw (c .before .before .if1 .taken, c .before .no-block .ensures) written-no
 
-emit-plan-of-requires : (t : ℕ) → emit-lts.Need-plan-of-requires (callees t) (emit-at t) emit.Post
-emit-plan-of-requires t c κs = search needs
+  put-record-requires : emit-lts.Need-put-record-requires (callees t) (emit-at t) emit.Post
+  put-record-requires c κs = rows-at (c .before .before .before) (written-none-at c) refl
 
-emit-operands-requires : (t : ℕ) → emit-lts.Need-operands-requires (callees t) (emit-at t) emit.Post
-emit-operands-requires t c κs = search needs
+  same-length : emit-lts.Need-same-length (callees t) (emit-at t) emit.Post
+  same-length c = search needs
 
-emit-cast-inside : (t : ℕ) → emit-lts.Need-cast-inside (callees t) (emit-at t) emit.Post
-emit-cast-inside t c = let h = few-inside (c .before .before .before .before .before .before .before .before .before .before .pre .1) (reads t c) in record { fits = omega arith }
+  returns : emit-lts.Need-returns (callees t) (emit-at t) emit.Post
+  returns c =
+      let q = c .before .before .before in
+      let r = c .before .before .put-record in
+      emitted (reads (q .before .before .before)) _ _ _ (written-none-at q) (r .ensures .0) (r .ensures .1)
 
-emit-add-inside : (t : ℕ) → emit-lts.Need-add-inside (callees t) (emit-at t) emit.Post
-emit-add-inside t c = let h = few-inside (c .before .before .before .before .before .before .before .before .before .before .pre .1) (reads t c) in record { fits = omega arith }
+  wires-of-requires : emit-lts.Need-wires-of-requires (callees t) (emit-at t) emit.Post
+  wires-of-requires c κs = wires-small (c .before .before .before .before .before .before .before .pre .1) (reads (c .before))
 
-emit-no-block-requires : (t : ℕ) → emit-lts.Need-no-block-requires (callees t) (emit-at t) emit.Post
-emit-no-block-requires t c κs = search needs
+  emit-requires : emit-lts.Need-emit-requires (callees t) (emit-at t) emit.Post
+  emit-requires c κs =
+      let p = c .before .before .before in
+      let pre = p .before .before .before .before .before .before .pre in
+      let h = some-record (pre .1) .0 in
+      let m = pre .0 in
+      (omega arith, rw (c .before .wires-of .ensures) (right-emits (pre .1) (reads p) (c .before .before .if1 .left)))
 
--- without operands
-written-none-at : (t : ℕ) (c : emit-lts.After-put-record-arg (callees t) (emit-at t) emit.Post)
-    → let p = c .before .before .before in
-    let a = p .before .before .before .before .before .before .before .before .before .before .args in
-    Written (a .contract .now) (a .n - 1) (p .before .operands .result) (a .image .now) (a .at + p .before .before .plan-of .result .before) (a .s)
-    (wiresOf (p .before .before .plan-of .result) (a .at) (a .s) (a .k)) (a .image .now) (c .before .no-block .result) (c .before .no-block .result)
-written-none-at t c = rw (c .before .before .if1 .taken, c .before .no-block .ensures) written-no
+  -- the right operand's rows, or the only one's
+  right-at : (r : emit-lts.After-emit (callees t) (emit-at t) emit.Post)
+      → let p = r .before .before .before .before in
+      let a = p .before .before .before .before .before .before .args in
+      let w = wiresOf (p .before .before .plan-of .result) (a .at) (a .s) (a .k) in
+      Emitted (a .contract .now) (a .n - 1) (a .image .now) (a .at + p .before .before .plan-of .result .before) (w .start) (w .go) (r .emit .last .1 .1 .0)
+      (r .emit .result)
+  right-at r = rw (← r .before .before .wires-of .ensures) (r .emit .ensures)
 
-emit-put-record-requires : (t : ℕ) → emit-lts.Need-put-record-requires (callees t) (emit-at t) emit.Post
-emit-put-record-requires t c κs =
-    let p = c .before .before .before in
-    record-rows (p .before .before .before .before .before .before .before .before .before .before .pre .1) (reads t p) (written-none-at t c) refl (p .before .before .before .before .before .wide .ensures .1) (p .before .before .before .wide2 .ensures .1)
+  no-block-requires-2 : emit-lts.Need-no-block-requires-2 (callees t) (emit-at t) emit.Post
+  no-block-requires-2 c κs = search needs
 
-emit-same-length : (t : ℕ) → emit-lts.Need-same-length (callees t) (emit-at t) emit.Post
-emit-same-length t c = search needs
+  -- with one operand
+  written-one-at : (c : emit-lts.After-put-record-arg2 (callees t) (emit-at t) emit.Post)
+      → let r = c .before .before .before .before .before in
+      WrittenAt (r .before .before .before .before) (r .emit .last .1 .1 .0) (c .before .no-block2 .result) (r .emit .result)
+  written-one-at c = rw (c .before .before .if2 .taken, c .before .no-block2 .ensures) (written-one (right-at (c .before .before .before .before .before)))
 
-emit-returns : (t : ℕ) → emit-lts.Need-returns (callees t) (emit-at t) emit.Post
-emit-returns t c =
-    let q = c .before .before .before in
-    let p = q .before .before .before in
-    let a = p .before .before .before .before .before .before .before .before .before .before .args in
-    let r = c .before .before .put-record in
-    emitted (reads t p) (a .at) (a .s) (a .k) (written-none-at t q) (r .ensures .0) (r .ensures .1)
+  put-record-requires-2 : emit-lts.Need-put-record-requires-2 (callees t) (emit-at t) emit.Post
+  put-record-requires-2 c κs =
+      let r = c .before .before .before .before .before in
+      rows-at (r .before .before .before .before) (written-one-at c) (r .emit .kept .1 .1 .0)
 
-emit-wires-of-requires : (t : ℕ) → emit-lts.Need-wires-of-requires (callees t) (emit-at t) emit.Post
-emit-wires-of-requires t c κs = wires-small (c .before .before .before .before .before .before .before .before .before .before .before .pre .1) (reads t (c .before))
+  same-length-2 : emit-lts.Need-same-length-2 (callees t) (emit-at t) emit.Post
+  same-length-2 c = search needs
 
-emit-emit-requires : (t : ℕ) → emit-lts.Need-emit-requires (callees t) (emit-at t) emit.Post
-emit-emit-requires t c κs =
-    let p = c .before .before .before in
-    let pre = p .before .before .before .before .before .before .before .before .before .before .pre in
-    let h = some-record (pre .1) .0 in
-    let m = pre .0 in
-    (omega arith, rw (c .before .wires-of .ensures) (right-emits (pre .1) (reads t p) (c .before .before .if1 .left)))
+  returns-2 : emit-lts.Need-returns-2 (callees t) (emit-at t) emit.Post
+  returns-2 c =
+      let q = c .before .before .before in
+      let r = c .before .before .put-record2 in
+      emitted (reads (q .before .before .before .before .before .before .before .before .before)) _ _ _ (written-one-at q) (r .ensures .0) (r .ensures .1)
 
--- the right operand's rows, or the only one's
-right-at : (t : ℕ) (c : emit-lts.After-emit (callees t) (emit-at t) emit.Post)
-    → let p = c .before .before .before .before in
-    let a = p .before .before .before .before .before .before .before .before .before .before .args in
-    let w = wiresOf (p .before .before .plan-of .result) (a .at) (a .s) (a .k) in
-    Emitted (a .contract .now) (a .n - 1) (a .image .now) (a .at + p .before .before .plan-of .result .before) (w .start) (w .go) (c .emit .last .1 .1 .0)
-    (c .emit .result)
-right-at t c = rw (← c .before .before .wires-of .ensures) (c .emit .ensures)
+  emit-requires-2 : emit-lts.Need-emit-requires-2 (callees t) (emit-at t) emit.Post
+  emit-requires-2 c κs =
+      let r = c .before .before .before .before in
+      let p = r .before .before .before .before in
+      let pre = p .before .before .before .before .before .before .pre in
+      let h = some-record (pre .1) .0 in
+      let m = pre .0 in
+      let l = left-emits (pre .1) (reads p) (r .before .before .before .if1 .left) (c .before .if2 .left) (right-at r) (r .emit .kept .1 .1 .0) in
+      (omega (arith, l .1), rw (r .before .before .wires-of .ensures) (l .0))
 
-right-length : (t : ℕ) (c : emit-lts.After-emit (callees t) (emit-at t) emit.Post)
-    → length (c .emit .last .1 .1 .0) ≡ length (c .before .before .before .before .before .before .before .before .before .before .before .before .before .before .args .image .now)
-right-length t c = c .emit .kept .1 .1 .0
+  -- with two operands
+  left-at : (c : emit-lts.After-emit2 (callees t) (emit-at t) emit.Post)
+      → let r = c .before .before .before .before .before in
+      let p = r .before .before .before .before in
+      let a = p .before .before .before .before .before .before .args in
+      let w = wiresOf (p .before .before .plan-of .result) (a .at) (a .s) (a .k) in
+      Emitted (a .contract .now) (r .emit .result .before) (r .emit .last .1 .1 .0) (r .emit .result .next) (a .s) (w .keep) (c .emit2 .last .1 .1 .0)
+      (c .emit2 .result)
+  left-at c = rw (← c .before .before .before .before .before .before .before .wires-of .ensures) (c .emit2 .ensures)
 
-emit-no-block-requires-2 : (t : ℕ) → emit-lts.Need-no-block-requires-2 (callees t) (emit-at t) emit.Post
-emit-no-block-requires-2 t c κs = search needs
+  two-operands : (c : emit-lts.After-emit2 (callees t) (emit-at t) emit.Post) → c .before .before .before .before .before .before .before .before .before .before .operands .result ≡ 2
+  two-operands c =
+      let r = c .before .before .before .before .before in
+      let p = r .before .before .before .before in
+      let h = r .before .before .before .if1 .left in
+      let i = c .before .before .if2 .left in
+      let m = operandCount-max (kindOf (p .before .before .before .last-record .result .kind)) in
+      let e = p .before .operands .ensures in
+      omega arith
 
--- with one operand
-written-one-at : (t : ℕ) (c : emit-lts.After-put-record-arg2 (callees t) (emit-at t) emit.Post)
-    → let r = c .before .before .before .before .before in
-    let p = r .before .before .before .before in
-    let a = p .before .before .before .before .before .before .before .before .before .before .args in
-    Written (a .contract .now) (a .n - 1) (p .before .operands .result) (a .image .now) (a .at + p .before .before .plan-of .result .before) (a .s)
-    (wiresOf (p .before .before .plan-of .result) (a .at) (a .s) (a .k)) (r .emit .last .1 .1 .0) (c .before .no-block2 .result) (r .emit .result)
-written-one-at t c = rw (c .before .before .if2 .taken, c .before .no-block2 .ensures) (written-one (right-at t (c .before .before .before .before .before)))
+  written-two-at : (c : emit-lts.After-emit2 (callees t) (emit-at t) emit.Post)
+      → let r = c .before .before .before .before .before in
+      WrittenAt (r .before .before .before .before) (c .emit2 .last .1 .1 .0) (c .emit2 .result) (r .emit .result)
+  written-two-at c = rw (two-operands c) (written-two (right-at (c .before .before .before .before .before)) (left-at c))
 
-emit-put-record-requires-2 : (t : ℕ) → emit-lts.Need-put-record-requires-2 (callees t) (emit-at t) emit.Post
-emit-put-record-requires-2 t c κs =
-    let r = c .before .before .before .before .before in
-    let p = r .before .before .before .before in
-    record-rows (p .before .before .before .before .before .before .before .before .before .before .pre .1) (reads t p) (written-one-at t c) (right-length t r) (p .before .before .before .before .before .wide .ensures .1) (p .before .before .before .wide2 .ensures .1)
+  put-record-requires-3 : emit-lts.Need-put-record-requires-3 (callees t) (emit-at t) emit.Post
+  put-record-requires-3 c κs =
+      let l = c .before .before .before in
+      let r = l .before .before .before .before .before in
+      rows-at (r .before .before .before .before) (written-two-at l) (l .emit2 .kept .1 .1 .0 ∙ r .emit .kept .1 .1 .0)
 
-emit-same-length-2 : (t : ℕ) → emit-lts.Need-same-length-2 (callees t) (emit-at t) emit.Post
-emit-same-length-2 t c = search needs
+  same-length-3 : emit-lts.Need-same-length-3 (callees t) (emit-at t) emit.Post
+  same-length-3 c = search needs
 
-emit-returns-2 : (t : ℕ) → emit-lts.Need-returns-2 (callees t) (emit-at t) emit.Post
-emit-returns-2 t c =
-    let q = c .before .before .before in
-    let p = q .before .before .before .before .before .before .before .before .before in
-    let a = p .before .before .before .before .before .before .before .before .before .before .args in
-    let r = c .before .before .put-record2 in
-    emitted (reads t p) (a .at) (a .s) (a .k) (written-one-at t q) (r .ensures .0) (r .ensures .1)
-
-emit-emit-requires-2 : (t : ℕ) → emit-lts.Need-emit-requires-2 (callees t) (emit-at t) emit.Post
-emit-emit-requires-2 t c κs =
-    let r = c .before .before .before .before in
-    let p = r .before .before .before .before in
-    let pre = p .before .before .before .before .before .before .before .before .before .before .pre in
-    let h = some-record (pre .1) .0 in
-    let m = pre .0 in
-    let l = left-emits (pre .1) (reads t p) (r .before .before .before .if1 .left) (c .before .if2 .left) (right-at t r) (right-length t r) in
-    (omega (arith, l .1), rw (r .before .before .wires-of .ensures) (l .0))
-
--- with two operands
-left-at : (t : ℕ) (c : emit-lts.After-emit2 (callees t) (emit-at t) emit.Post)
-    → let r = c .before .before .before .before .before in
-    let p = r .before .before .before .before in
-    let a = p .before .before .before .before .before .before .before .before .before .before .args in
-    let w = wiresOf (p .before .before .plan-of .result) (a .at) (a .s) (a .k) in
-    Emitted (a .contract .now) (r .emit .result .before) (r .emit .last .1 .1 .0) (r .emit .result .next) (a .s) (w .keep) (c .emit2 .last .1 .1 .0)
-    (c .emit2 .result)
-left-at t c = rw (← c .before .before .before .before .before .before .before .wires-of .ensures) (c .emit2 .ensures)
-
-left-length : (t : ℕ) (c : emit-lts.After-emit2 (callees t) (emit-at t) emit.Post)
-    → length (c .emit2 .last .1 .1 .0) ≡ length (c .before .before .before .before .before .before .before .before .before .before .before .before .before .before .before .before .before .before .before .args .image .now)
-left-length t c = c .emit2 .kept .1 .1 .0 ∙ right-length t (c .before .before .before .before .before)
-
-two-operands : (t : ℕ) (c : emit-lts.After-emit2 (callees t) (emit-at t) emit.Post) → c .before .before .before .before .before .before .before .before .before .before .operands .result ≡ 2
-two-operands t c =
-    let r = c .before .before .before .before .before in
-    let p = r .before .before .before .before in
-    let h = r .before .before .before .if1 .left in
-    let i = c .before .before .if2 .left in
-    let m = operandCount-most (kindOf (getD (p .before .before .before .before .before .before .before .before .before .before .args .contract .now) (recordBytes * (p .before .before .before .before .before .before .before .before .before .before .args .n - 1) + 2) 0)) in
-    let e = p .before .operands .ensures in
-    omega arith
-
-written-two-at : (t : ℕ) (c : emit-lts.After-emit2 (callees t) (emit-at t) emit.Post)
-    → let r = c .before .before .before .before .before in
-    let p = r .before .before .before .before in
-    let a = p .before .before .before .before .before .before .before .before .before .before .args in
-    Written (a .contract .now) (a .n - 1) (p .before .operands .result) (a .image .now) (a .at + p .before .before .plan-of .result .before) (a .s)
-    (wiresOf (p .before .before .plan-of .result) (a .at) (a .s) (a .k)) (c .emit2 .last .1 .1 .0) (c .emit2 .result) (r .emit .result)
-written-two-at t c = rw (two-operands t c) (written-two (right-at t (c .before .before .before .before .before)) (left-at t c))
-
-emit-put-record-requires-3 : (t : ℕ) → emit-lts.Need-put-record-requires-3 (callees t) (emit-at t) emit.Post
-emit-put-record-requires-3 t c κs =
-    let l = c .before .before .before in
-    let p = l .before .before .before .before .before .before .before .before .before in
-    record-rows (p .before .before .before .before .before .before .before .before .before .before .pre .1) (reads t p) (written-two-at t l) (left-length t l) (p .before .before .before .before .before .wide .ensures .1) (p .before .before .before .wide2 .ensures .1)
-
-emit-same-length-3 : (t : ℕ) → emit-lts.Need-same-length-3 (callees t) (emit-at t) emit.Post
-emit-same-length-3 t c = search needs
-
-emit-returns-3 : (t : ℕ) → emit-lts.Need-returns-3 (callees t) (emit-at t) emit.Post
-emit-returns-3 t c =
-    let l = c .before .before .before .before .before .before in
-    let p = l .before .before .before .before .before .before .before .before .before in
-    let a = p .before .before .before .before .before .before .before .before .before .before .args in
-    let r = c .before .before .put-record3 in
-    emitted (reads t p) (a .at) (a .s) (a .k) (written-two-at t l) (r .ensures .0) (r .ensures .1)
+  returns-3 : emit-lts.Need-returns-3 (callees t) (emit-at t) emit.Post
+  returns-3 c =
+      let l = c .before .before .before .before .before .before in
+      let r = c .before .before .put-record3 in
+      emitted (reads (l .before .before .before .before .before .before .before .before .before)) _ _ _ (written-two-at l) (r .ensures .0) (r .ensures .1)
 
 pub +emit-spec : {M : Type 1} → statement M
 +emit-spec = close μ-emit λ t. emit-lts.spec (callees t)
     (emit-at t)
     emit.Post
-    (emit-sub-last t)
-    (emit-mul-start t)
-    (emit-add-kind t)
-    (emit-shared-slice-read-kind t)
-    (emit-add-wide t)
-    (emit-shared-slice-read-wide t)
-    (emit-wide-requires t)
-    (emit-add-wide-2 t)
-    (emit-shared-slice-read-wide-2 t)
-    (emit-wide-requires-2 t)
-    (emit-plan-of-requires t)
-    (emit-operands-requires t)
-    (emit-cast-inside t)
-    (emit-add-inside t)
-    (emit-no-block-requires t)
-    (emit-put-record-requires t)
-    (emit-same-length t)
-    (emit-returns t)
-    (emit-wires-of-requires t)
-    (emit-emit-requires t)
-    (emit-no-block-requires-2 t)
-    (emit-put-record-requires-2 t)
-    (emit-same-length-2 t)
-    (emit-returns-2 t)
-    (emit-emit-requires-2 t)
-    (emit-put-record-requires-3 t)
-    (emit-same-length-3 t)
-    (emit-returns-3 t)
+    (last-record-requires t)
+    (sub-before t)
+    (plan-of-requires t)
+    (operands-requires t)
+    (cast-inside t)
+    (add-inside t)
+    (no-block-requires t)
+    (put-record-requires t)
+    (same-length t)
+    (returns t)
+    (wires-of-requires t)
+    (emit-requires t)
+    (no-block-requires-2 t)
+    (put-record-requires-2 t)
+    (same-length-2 t)
+    (returns-2 t)
+    (emit-requires-2 t)
+    (put-record-requires-3 t)
+    (same-length-3 t)
+    (returns-3 t)

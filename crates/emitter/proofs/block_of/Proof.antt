@@ -5,21 +5,22 @@ use mathlib.Core.Path.{_≡_}
 use borrow.Author.Needs.{needs}
 use borrow.Author.Tests.{eq-eqb, ne-eqb}
 use lib.Dec.{eqb}
-use Rattle.emitter.specs.Plans.{recordBlock}
+use Rattle.periods.specs.Periods.{party2, number}
+use Rattle.emitter.specs.Blocks.{recordBlock}
 use Rattle.emitter.proofs.block_of.Statement.{statement}
 use Rattle.emitter.proofs.block_of.Tie as tie
+
+cast-next : tie.Need-cast-next
+cast-next c = search needs
+
+add-next : tie.Need-add-next
+add-next c = search needs
 
 value-at-requires : tie.Need-value-at-requires
 value-at-requires c κs = search needs
 
 value-at-requires-2 : tie.Need-value-at-requires-2
 value-at-requires-2 c κs = search needs
-
-cast-t16 : tie.Need-cast-t16
-cast-t16 c = search needs
-
-add-t17 : tie.Need-add-t17
-add-t17 c = search needs
 
 value-at-requires-3 : tie.Need-value-at-requires-3
 value-at-requires-3 c κs = search needs
@@ -30,23 +31,27 @@ completed-requires c κs = search needs
 returns : tie.Need-returns
 unfolding recordBlock
 returns c =
-    let a = c .before .before .before .before .before .before .args in
-    let own = c .before .before .before .before .before .value-at in
-    let others = c .before .before .before .before .value-at2 in
-    let second : c .before .before .if1 .t24 ≡ cond (eqb (a .party) 2) (others .result) (own .result) =
-    ⊎-elim (λ w. rw (eq-eqb _ _ (w .0 .taken)) (w .1)) (λ w. rw (ne-eqb _ _ (w .0 .left)) (w .1)) (c .before .before .if1 .came) in
-    let third : c .before .if2 .t28 ≡ cond (eqb (a .party) 2) (own .result) (others .result) =
-    ⊎-elim (λ w. rw (eq-eqb _ _ (w .0 .taken)) (w .1)) (λ w. rw (ne-eqb _ _ (w .0 .left)) (w .1)) (c .before .if2 .came) in
-    rw (c .before .before .before .value-at3 .ensures, second, third, own .ensures, others .ensures, c .completed .ensures)
+    let two = c .before in
+    let one = two .before .before in
+    let known = one .before in
+    let others = known .before .value-at3 in
+    let own = known .before .before .value-at2 in
+    let sat = known .before .before .before .value-at in
+    let second = eqb (known .before .before .before .before .before .before .args .r .party) (number party2) in
+    let one-is : one .if1 .one ≡ cond second (others .result) (own .result) =
+    ⊎-elim (λ w. rw (eq-eqb _ _ (w .0 .taken)) (w .1)) (λ w. rw (ne-eqb _ _ (w .0 .left)) (w .1)) (one .if1 .came) in
+    let two-is : two .if2 .two ≡ cond second (own .result) (others .result) =
+    ⊎-elim (λ w. rw (eq-eqb _ _ (w .0 .taken)) (w .1)) (λ w. rw (ne-eqb _ _ (w .0 .left)) (w .1)) (two .if2 .came) in
+    rw (sat .ensures, one-is, two-is, own .ensures, others .ensures, c .completed .ensures)
 
 pub block-of-spec : {M : Type 1} → statement M
 block-of-spec =
     tie.close
     (tie.spec
+    cast-next
+    add-next
     value-at-requires
     value-at-requires-2
-    cast-t16
-    add-t17
     value-at-requires-3
     completed-requires
     returns)

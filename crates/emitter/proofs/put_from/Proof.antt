@@ -10,7 +10,7 @@ use lib.Seq.{sets}
 use Rattle.layout.specs.Limits.{rowBytes}
 use Rattle.layout.specs.Rows.{rowRecord}
 use Rattle.emitter.specs.declared.TableRow.{TableRow}
-use Rattle.emitter.specs.Plans.{unpacked, valueAt, tableRows, writtenRows}
+use Rattle.emitter.specs.Rows.{unpacked, valueAt, tableRows, writtenRows}
 use Rattle.emitter.proofs.Writing.{length-written, written-none, noRow, written-next}
 use Rattle.emitter.proofs.put_from.Statement.{statement}
 use Rattle.emitter.proofs.put_from.Tie as tie

@@ -1,6 +1,6 @@
 -- `emitter::put_own` meets its contract: both runs of the record's own rows are written.
 use borrow.Author.Needs.{needs}
-use Rattle.emitter.specs.Plans.{recordWritten}
+use Rattle.emitter.specs.Blocks.{recordWritten}
 use Rattle.emitter.proofs.Writing.{length-written}
 use Rattle.emitter.proofs.put_own.Statement.{statement}
 use Rattle.emitter.proofs.put_own.Tie as tie

@@ -3,7 +3,7 @@ use native.Mathlib.Omega.{arith}
 use mathlib.Core.Logic.{⊎-elim}
 use mathlib.Core.Path.{sym, ap, _∙_}
 use borrow.Author.Needs.{needs}
-use Rattle.emitter.specs.Plans.{tableRows, writtenRows}
+use Rattle.emitter.specs.Rows.{tableRows, writtenRows}
 use Rattle.emitter.proofs.Writing.{written-none, in-leaves, in-nodes}
 use Rattle.emitter.proofs.put_rows.Statement.{statement}
 use Rattle.emitter.proofs.put_rows.Tie as tie

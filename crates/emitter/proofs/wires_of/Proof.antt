@@ -1,7 +1,7 @@
 -- `emitter::wires_of` meets its contract: the plan's three fields are looked up among the bases, which for these need no operands.
 use mathlib.Core.Path.{_≡_}
 use borrow.Author.Needs.{needs}
-use Rattle.emitter.specs.Plans.{noBlock, basesOf, wiresOf}
+use Rattle.emitter.specs.Blocks.{noBlock, basesOf, wiresOf}
 use Rattle.emitter.proofs.wires_of.Statement.{statement}
 use Rattle.emitter.proofs.wires_of.Tie as tie
 

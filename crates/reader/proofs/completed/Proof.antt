@@ -6,7 +6,8 @@ use mathlib.Core.Path.{_≡_, _∙_}
 use mathlib.Core.Logic.{⊎-elim}
 use mathlib.Core.Bool.{_&&_, _||_, and-false}
 use lib.Dec.{eqb}
-use Rattle.reader.specs.Codes.{completed}
+use Rattle.reader.specs.Table.{until, line}
+use Rattle.reader.specs.Codes.{emptyCode, completed}
 use Rattle.reader.proofs.completed.Statement.{statement}
 use Rattle.reader.proofs.completed.Tie as tie
 use Rattle.reader.proofs.completed.Reads as reads
@@ -21,7 +22,7 @@ expression-requires-2 c κs = search needs
 
 -- where the ways of `below == EMPTY && top == EMPTY` meet, and of the same with `||`
 both : (c : lts.Joined1 (expression-reads.Asked, expression-reads.Learnt) reads.Pre reads.Post)
-    → c .if1 .expression ≡ (eqb (c .before .before .args .below) 3 && eqb (c .before .before .args .top) 3)
+    → c .if1 .expression ≡ (eqb (c .before .before .args .below) emptyCode && eqb (c .before .before .args .top) emptyCode)
 both c =
     ⊎-elim
     (λ w. rw (eq-eqb _ _ (w .0 .taken)) (w .1))
@@ -29,7 +30,7 @@ both c =
     (c .if1 .came)
 
 either : (c : lts.Joined2 (expression-reads.Asked, expression-reads.Learnt) reads.Pre reads.Post)
-    → c .if2 .expression ≡ (eqb (c .before .before .args .below) 3 || eqb (c .before .before .args .top) 3)
+    → c .if2 .expression ≡ (eqb (c .before .before .args .below) emptyCode || eqb (c .before .before .args .top) emptyCode)
 either c =
     ⊎-elim
     (λ w. rw (eq-eqb _ _ (w .0 .taken)) (w .1 ∙ eq-eqb _ _ (w .0 .taken)))
@@ -52,13 +53,13 @@ returns-4 : tie.Need-returns-4
 unfolding completed
 returns-4 c =
     let h = c .if4 .taken in
-    rw (le-leb 1 (c .before .before .before .args .kind) (c .before .if3 .left), le-leb (c .before .before .before .args .kind) 9 (omega arith))
+    rw (le-leb _ _ (c .before .if3 .left), le-leb (c .before .before .before .args .kind) (line until .number) (omega arith))
 
 returns-5 : tie.Need-returns-5
 unfolding completed
 returns-5 c =
     let r = c .before .match .rest in
-    rw (lt-leb 1 (c .before .before .args .kind) (c .if3 .taken), ne-eqb _ _ (r .0 .0 .1), ne-eqb _ _ (r .0 .1), ne-eqb _ _ (r .1))
+    rw (lt-leb _ _ (c .if3 .taken), ne-eqb _ _ (r .0 .0 .1), ne-eqb _ _ (r .0 .1), ne-eqb _ _ (r .1))
 
 returns-6 : tie.Need-returns-6
 unfolding completed
@@ -66,7 +67,7 @@ returns-6 c =
     let h = c .if4 .left in
     let r = c .before .before .match .rest in
     rw (
-      lt-leb (c .before .before .before .args .kind) 9 (omega arith),
+      lt-leb (c .before .before .before .args .kind) (line until .number) (omega arith),
       and-false,
       ne-eqb _ _ (r .0 .0 .1),
       ne-eqb _ _ (r .0 .1),

@@ -6,36 +6,42 @@ use Rattle.reader.proofs.Table.{known-clause, known-expression, unknown
 use Rattle.reader.proofs.entry_of.Statement.{statement}
 use Rattle.reader.proofs.entry_of.Tie as tie
 
-sub-t23 : tie.Need-sub-t23
-sub-t23 c = search needs
+sub-named : tie.Need-sub-named
+sub-named c = search needs
 
-mul-t24 : tie.Need-mul-t24
-mul-t24 c = search needs
+mul-named : tie.Need-mul-named
+mul-named c = search needs
 
-array-copy-out-t27 : tie.Need-array-copy-out-t27
-array-copy-out-t27 c = search needs
+array-copy-out-named : tie.Need-array-copy-out-named
+array-copy-out-named c = search needs
 
-sub-t47 : tie.Need-sub-t47
-sub-t47 c = search needs
+named-requires : tie.Need-named-requires
+named-requires c κs = search needs
 
-mul-t48 : tie.Need-mul-t48
-mul-t48 c = search needs
+sub-named-2 : tie.Need-sub-named-2
+sub-named-2 c = search needs
 
-array-copy-out-t51 : tie.Need-array-copy-out-t51
-array-copy-out-t51 c = search needs
+mul-named-2 : tie.Need-mul-named-2
+mul-named-2 c = search needs
+
+array-copy-out-named-2 : tie.Need-array-copy-out-named-2
+array-copy-out-named-2 c = search needs
+
+named-requires-2 : tie.Need-named-requires-2
+named-requires-2 c κs = search needs
 
 returns : tie.Need-returns
 returns c =
-    let t = c .before in
+    let t = c .before .before in
     let h = t .before .if1 .left in
     let i = t .if2 .taken in
-    sym (known-clause _ (t .before .before .args .kind) h (omega arith))
+    rw (c .named .ensures) (sym (known-clause _ (t .before .before .args .kind) (h, omega arith)))
 
 returns-2 : tie.Need-returns-2
 returns-2 c =
-    let t = c .before in
+    let t = c .before .before in
     let i = t .if4 .taken in
-    sym (known-expression _ (t .before .before .before .before .args .kind) (t .before .if3 .left) (omega arith))
+    rw (c .named2 .ensures) (sym (known-expression _ (t .before .before .before .before .args .kind) (t .before .if3 .left, omega arith)))
 
 returns-3 : tie.Need-returns-3
 returns-3 c =
@@ -57,12 +63,14 @@ pub entry-of-spec : {M : Type 1} → statement M
 entry-of-spec =
     tie.close
     (tie.spec
-    sub-t23
-    mul-t24
-    array-copy-out-t27
-    sub-t47
-    mul-t48
-    array-copy-out-t51
+    sub-named
+    mul-named
+    array-copy-out-named
+    named-requires
+    sub-named-2
+    mul-named-2
+    array-copy-out-named-2
+    named-requires-2
     returns
     returns-2
     returns-3

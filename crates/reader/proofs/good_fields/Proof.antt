@@ -2,31 +2,35 @@
 use borrow.Author.Needs.{needs}
 use borrow.Author.Tests.{not-true, not-false}
 use mathlib.Core.Path.{sym, _∙_}
-use Rattle.reader.specs.Codes.{goodFields}
+use Rattle.reader.specs.Codes.{inRanges}
 use Rattle.reader.proofs.good_fields.Statement.{statement}
 use Rattle.reader.proofs.good_fields.Tie as tie
 
-good-party-requires : tie.Need-good-party-requires
-good-party-requires c κs = search needs
+within-requires : tie.Need-within-requires
+within-requires c κs = search needs
 
 returns : tie.Need-returns
-unfolding goodFields
-returns c = rw (sym (c .before .good-party .ensures) ∙ not-true _ (c .if1 .taken))
+unfolding inRanges
+returns c = rw (sym (c .before .within .ensures) ∙ not-true _ (c .if1 .taken))
 
-good-action-requires : tie.Need-good-action-requires
-good-action-requires c κs = search needs
+within-requires-2 : tie.Need-within-requires-2
+within-requires-2 c κs = search needs
 
 returns-2 : tie.Need-returns-2
-unfolding goodFields
+unfolding inRanges
 returns-2 c =
     let b = c .before .before in
-    rw (sym (b .before .good-party .ensures) ∙ not-false _ (b .if1 .left), sym (c .before .good-action .ensures) ∙ not-true _ (c .if2 .taken))
+    rw (sym (b .before .within .ensures) ∙ not-false _ (b .if1 .left), sym (c .before .within2 .ensures) ∙ not-true _ (c .if2 .taken))
+
+within-requires-3 : tie.Need-within-requires-3
+within-requires-3 c κs = search needs
 
 returns-3 : tie.Need-returns-3
-unfolding goodFields
+unfolding inRanges
 returns-3 c =
-    let b = c .before .before in
-    rw (sym (b .before .good-party .ensures) ∙ not-false _ (b .if1 .left), sym (c .before .good-action .ensures) ∙ not-false _ (c .if2 .left))
+    let a = c .before in
+    let b = a .before .before in
+    rw (sym (b .before .within .ensures) ∙ not-false _ (b .if1 .left), sym (a .before .within2 .ensures) ∙ not-false _ (a .if2 .left)) (c .within3 .ensures)
 
 pub good-fields-spec : {M : Type 1} → statement M
-good-fields-spec = tie.close (tie.spec good-party-requires returns good-action-requires returns-2 returns-3)
+good-fields-spec = tie.close (tie.spec within-requires returns within-requires-2 returns-2 within-requires-3 returns-3)

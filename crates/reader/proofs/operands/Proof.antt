@@ -9,9 +9,9 @@ use Rattle.reader.specs.Codes.{entryOf, lookupOf, operandCount}
 use Rattle.reader.proofs.operands.Statement.{statement}
 use Rattle.reader.proofs.operands.Tie as tie
 
-found : (o : Option Kind) (e : Entry) → lookupOf o ≡ Found e → e .0 ≡ operandCount o
+found : (o : Option Kind) (e : Entry) → lookupOf o ≡ Found e → e .operands ≡ operandCount o
 found none e h = cc
-found (some k) e h = let i : entryOf k ≡ e = cc in sym (ap (λ (x : Entry). x .0) i)
+found (some k) e h = let i : entryOf k ≡ e = cc in sym (ap (λ (x : Entry). x .operands) i)
 
 not-found : (o : Option Kind) → lookupOf o ≡ Unknown → operandCount o ≡ 0
 not-found none h = refl

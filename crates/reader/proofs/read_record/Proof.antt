@@ -126,7 +126,7 @@ last : (o : lts.Else3 (marked-reads.Asked, marked-reads.Learnt, entry-of-reads.A
     let kind = getD (a .contract .now) (a .at + 2) 0 in
     stepOf (drop (a .at) (a .contract .now)) (a .below) (a .top)
     ≡ cond (emptyUnder kind (a .below) (a .top)) (Bad EmptyList)
-    (Completed (o .before .before .before .before .before .before .before .before .found .given .0 .0 .0) (completed kind (a .below) (a .top)))
+    (Completed (o .before .before .before .before .before .before .before .before .found .given .0 .0 .operands) (completed kind (a .below) (a .top)))
 last o =
     let g = o .before .before in
     let n = g .before .before .before .before .before .before in

@@ -1,0 +1,90 @@
+-- What holds of every plan: each rule is one computed test over the kinds.
+use Prim.Native.Nat.{ℕ, _+_, _/_, _%_, _≤_, _<_}
+use native.Mathlib.Omega.{arith}
+use mathlib.Core.Bool.{Bool, true, false, _&&_, _||_, and-eq-true-iff}
+use mathlib.Core.List.{List}
+use mathlib.Core.Logic.{_⊎_, inl, inr, ⊎-elim}
+use mathlib.Core.Path.{_≡_, refl, sym}
+use lib.Dec.{eqb, ltb, leb}
+use lib.ListN.{length}
+use borrow.Author.Tests.{eqb-true, ltb-true, leb-true}
+use Rattle.reader.specs.Trees.{Record}
+use Rattle.reader.proofs.Table.{of-records}
+use Rattle.image.specs.Widths.{width, operandsFrom}
+use Rattle.image.proofs.Sizes.{⊹-plus}
+use Rattle.emitter.specs.declared.Plan.{Plan}
+use Rattle.emitter.specs.declared.Wires.{Wires}
+use Rattle.emitter.specs.Rows.{ZERO, S, K, B, N, leafRows, rowTable, valueAt, tableRows}
+use Rattle.emitter.specs.Plans.{planOf}
+use Rattle.emitter.specs.Blocks.{noBlock, basesOf, wiresOf}
+use Rattle.emitter.proofs.Writing.{length-listed}
+
+-- as many rows stand before the operands' rows as the widths say
+pub before-is : (r : Record) → planOf r .before ≡ width r .before
+before-is r = eqb-true (planOf r .before) (width r .before) (of-records (λ r. eqb (planOf r .before) (width r .before)) (λ f. refl) r)
+
+pub inside-is : (r : Record) (b : ℕ) → b + planOf r .before ≡ operandsFrom r b
+inside-is r b = rw (before-is r) (sym (⊹-plus b (width r .before)))
+
+-- where a record's own rows end in the tables
+abbrev pub end : Plan → ℕ
+end p = p .from + p .before + p .after
+
+-- the tables have them
+pub listed : (r : Record) → end (planOf r) ≤ length rowTable
+listed r = leb-true (end (planOf r)) (length rowTable) (of-records (λ r. leb (end (planOf r)) (length rowTable)) (λ f. refl) r)
+
+either : (s t : Bool) → s || t ≡ true → (s ≡ true) ⊎ (t ≡ true)
+either true t h = inl refl
+either false t h = inr h
+
+-- all of them in the first table, or all in the second
+pub in-one-table : (r : Record) → (end (planOf r) ≤ length leafRows) ⊎ (length leafRows ≤ planOf r .from)
+in-one-table r =
+    let first = length leafRows in
+    ⊎-elim (λ h. inl (leb-true (end (planOf r)) first h)) (λ h. inr (leb-true first (planOf r .from) h))
+    (either (leb (end (planOf r)) first) (leb first (planOf r .from))
+    (of-records (λ r. leb (end (planOf r)) first || leb first (planOf r .from)) (λ f. refl) r))
+
+pub length-kindRows : (bases : List ℕ) (r : Record)
+    → let p = planOf r in
+    (length (tableRows bases rowTable (p .from) (p .before)) ≡ p .before) × (length (tableRows bases rowTable (p .from + p .before) (p .after)) ≡ p .after)
+length-kindRows bases r =
+    let p = planOf r in
+    let h = listed r in
+    (length-listed bases rowTable (p .from) (p .before) (omega arith), length-listed bases rowTable (p .from + p .before) (p .after) h)
+
+-- what tells the operands when they read is what tells the record itself, or one of its own rows before theirs
+abbrev knownWire : Record → ℕ → Bool
+knownWire r x = eqb x ZERO || (eqb x S || (eqb x K || (leb B x && ltb x N && ltb x (B + width r .before))))
+
+wire-inside : (r : Record) (x b s k : ℕ) → s < b → k < b → knownWire r x ≡ true
+    → valueAt (basesOf b s k (noBlock 0 0) (noBlock 0 0) 0 0) x < operandsFrom r b
+wire-inside r x b s k h i t =
+    let m = ⊹-plus b (width r .before) in
+    ⊎-elim (λ e. rw (eqb-true x ZERO e) (omega arith))
+    (λ t. ⊎-elim (λ e. rw (eqb-true x S e) (omega arith))
+    (λ t. ⊎-elim (λ e. rw (eqb-true x K e) (omega arith))
+    (λ t.
+    let u = and-eq-true-iff (leb B x && ltb x N) (ltb x (B + width r .before)) .0 t in
+    let v = and-eq-true-iff (leb B x) (ltb x N) .0 (u .0) in
+    let from : B ≤ x = leb-true B x (v .0) in
+    let to : x < N = ltb-true x N (v .1) in
+    let few : x < B + width r .before = ltb-true x (B + width r .before) (u .1) in
+    let base : x / 16 ≡ 3 = omega arith in
+    rw (base, ⊹-plus b (x % 16)) (omega arith))
+    (either (eqb x K) _ t)) (either (eqb x S) _ t)) (either (eqb x ZERO) _ t)
+
+pub record WiresInside (w : Wires) (b : ℕ) : Type 0 where
+  pub start-is : w .start < b
+  pub go-is : w .go < b
+  pub keep-is : w .keep < b
+
+pub wires-inside : (r : Record) (b s k : ℕ) → s < b → k < b → WiresInside (wiresOf (planOf r) b s k) (operandsFrom r b)
+unfolding wiresOf
+wires-inside r b s k h i =
+    record {
+      start-is = wire-inside r (planOf r .start) b s k h i (of-records (λ r. knownWire r (planOf r .start)) (λ f. refl) r);
+      go-is = wire-inside r (planOf r .go) b s k h i (of-records (λ r. knownWire r (planOf r .go)) (λ f. refl) r);
+      keep-is = wire-inside r (planOf r .keep) b s k h i (of-records (λ r. knownWire r (planOf r .keep)) (λ f. refl) r);
+    }

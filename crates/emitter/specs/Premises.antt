@@ -1,0 +1,51 @@
+-- The premises of the functions that write rows.
+use Prim.Native.Nat.{ℕ, _+_, _*_, _^_, _≤_, _<_}
+use mathlib.Core.List.{List}
+use mathlib.Core.Logic.{_⊎_}
+use lib.ListN.{length, getD}
+use Rattle.layout.specs.Limits.{rowBytes, maxRows}
+use Rattle.reader.specs.Table.{Sort}
+use Rattle.reader.specs.Trees.{Tree}
+use Rattle.reader.specs.Taken.{Contract}
+use Rattle.image.specs.Limits.{bufferBytes}
+use Rattle.emitter.specs.declared.Plan.{Plan}
+use Rattle.emitter.specs.Rows.{leafRows, rowTable}
+use Rattle.emitter.specs.Blocks.{afterTree, EndsWith}
+
+-- no number needs more than two bytes
+pub record Small (l : List ℕ) : Type 0 where
+  pub small : (i : ℕ) → getD l i 0 < 256 ^ 2
+
+-- there is room for so many rows from row b on, and a table of so many rows has them
+pub record RoomFrom (image : List ℕ) (b : ℕ) (bases : List ℕ) (rows from count : ℕ) : Type 0 where
+  pub bases-small : Small bases
+  pub short : rows < 256
+  pub listed : from + count ≤ rows
+  pub room : rowBytes * (b + count) ≤ length image
+  pub few : b + count ≤ maxRows
+
+-- the two tables together have them, and they all stand in one of the two
+pub record RoomForRows (image : List ℕ) (b : ℕ) (bases : List ℕ) (from count : ℕ) : Type 0 where
+  pub has-room : RoomFrom image b bases (length rowTable) from count
+  pub in-one : (from + count ≤ length leafRows) ⊎ (length leafRows ≤ from)
+
+-- there is room for a record's own rows, n being the first row after its operands' rows
+pub record RecordRows (image : List ℕ) (p : Plan) (b n : ℕ) (bases : List ℕ) : Type 0 where
+  pub first : RoomForRows image b bases (p .from) (p .before)
+  pub second : RoomForRows image n bases (p .from + p .before) (p .after)
+
+-- the first n records end with a tree, and its rows have room
+pub record Emits (contract : List ℕ) (n : ℕ) (image : List ℕ) (b S K : ℕ) : Type 0 where
+  pub before : ℕ
+  pub sort : Sort
+  pub tree : Tree sort
+  pub ends : EndsWith contract n before sort tree
+  pub room : rowBytes * afterTree sort tree b ≤ length image
+  pub few : afterTree sort tree b ≤ maxRows
+  pub begins : S < b
+  pub goes-on : K < b
+
+-- the contract is taken with n records, and there is room for as many rows as it may have
+pub record Writes (contract : List ℕ) (n : ℕ) (image : List ℕ) : Type 0 where
+  pub taken : Contract contract n
+  pub room : bufferBytes n ≤ length image

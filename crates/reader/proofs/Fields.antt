@@ -1,0 +1,97 @@
+-- The fields of a record and of the node that it makes: the node keeps those that the kind uses, and of fields in range all.
+use Prim.Native.Nat.{ℕ, _≤_, _<_}
+use native.Mathlib.Omega.{arith}
+use mathlib.Core.Bool.{Bool, true, false, _&&_, _||_, not, cond, and-eq-true-iff}
+use mathlib.Core.Path.{_≡_, refl, sym}
+use lib.Dec.{eqb, ltb, leb}
+use borrow.Author.Tests.{eqb-true, eqb-false, leb-true, le-leb, ltb-true, ltb-false}
+use Rattle.periods.specs.Limits.{actions}
+use Rattle.periods.specs.Periods.{party1, party2, number}
+use Rattle.reader.specs.Table.{Kind, Range, within, parties, Line, line}
+use Rattle.reader.specs.Trees.{Fields, Record, goodFields, partyNamed}
+use Rattle.reader.specs.Spelling.{Allowed}
+use Rattle.reader.proofs.Table.{of-all}
+
+abbrev uses : Range → Bool
+uses r = ltb 0 (r .greatest)
+
+-- what a node keeps
+abbrev pub used : Kind → Fields → Fields
+used k f =
+    record {
+      party = cond (uses (line k .party)) (number (partyNamed (f .party))) 0;
+      action = cond (uses (line k .action)) (f .action) 0;
+      last = cond (uses (line k .last)) (f .last) 0;
+    }
+
+-- the record of a node
+abbrev pub recordOf : Kind → Fields → Record
+recordOf k f = record { kind = k; fields = used k f }
+
+-- ---- fields in range
+
+inside : (r : Range) (n : ℕ) → within r n ≡ true → (r .least ≤ n) × (n ≤ r .greatest)
+inside r n h =
+    let g = and-eq-true-iff (leb (r .least) n) (leb n (r .greatest)) .0 h in
+    (leb-true (r .least) n (g .0), leb-true n (r .greatest) (g .1))
+
+record Each (l : Line) (f : Fields) : Type 0 where
+  party : within (l .party) (f .party) ≡ true
+  action : within (l .action) (f .action) ≡ true
+  last : within (l .last) (f .last) ≡ true
+
+each : (l : Line) (f : Fields) → goodFields l f ≡ true → Each l f
+unfolding goodFields
+each l f h =
+    let g = and-eq-true-iff (within (l .party) (f .party) && within (l .action) (f .action)) (within (l .last) (f .last)) .0 h in
+    let i = and-eq-true-iff (within (l .party) (f .party)) (within (l .action) (f .action)) .0 (g .0) in
+    record { party = i .0; action = i .1; last = g .1 }
+
+used-number : (r : Range) (n : ℕ) → within r n ≡ true → cond (uses r) n 0 ≡ n
+used-number r n h = go (uses r) refl
+  where
+    go : (t : Bool) → uses r ≡ t → cond t n 0 ≡ n
+    go true e = refl
+    go false e = omega (arith, ltb-false 0 (r .greatest) e, inside r n h)
+
+number-named : (n : ℕ) → within parties n ≡ true → number (partyNamed n) ≡ n
+number-named n h = go (eqb n 1) refl
+  where
+    go : (t : Bool) → eqb n 1 ≡ t → number (cond t party1 party2) ≡ n
+    go true e = sym (eqb-true n 1 e)
+    go false e = let d : n ≡ 1 → ⊥ = eqb-false n 1 e in omega (arith, inside parties n h)
+
+-- a range of parties' numbers, or of 0 alone
+abbrev ofParties : Range → Bool
+ofParties r = not (uses r) || (leb (parties .least) (r .least) && leb (r .greatest) (parties .greatest))
+
+used-party : (r : Range) → ofParties r ≡ true → (n : ℕ) → within r n ≡ true → cond (uses r) (number (partyNamed n)) 0 ≡ n
+used-party r g n h = go (uses r) refl
+  where
+    go : (t : Bool) → uses r ≡ t → cond t (number (partyNamed n)) 0 ≡ n
+    go true e =
+        let b = and-eq-true-iff (leb (parties .least) (r .least)) (leb (r .greatest) (parties .greatest)) .0 (rw e at g) in
+        let l : parties .least ≤ r .least = leb-true (parties .least) (r .least) (b .0) in
+        let m : r .greatest ≤ parties .greatest = leb-true (r .greatest) (parties .greatest) (b .1) in
+        let i = inside r n h in
+        number-named n (rw (le-leb (parties .least) n (omega arith), le-leb n (parties .greatest) (omega arith)))
+    go false e = rw e at (used-number r n h)
+
+pub used-same : (k : Kind) (f : Fields) → goodFields (line k) f ≡ true → used k f ≡ f
+used-same k f h =
+    let l = line k in
+    let e = each l f h in
+    rw (
+      used-party (l .party) (of-all (λ J. ofParties (line J .party)) refl k) (f .party) (e .party),
+      used-number (l .action) (f .action) (e .action),
+      used-number (l .last) (f .last) (e .last),
+    )
+
+-- an action in range is one of those that there are
+pub allowed-action : (r : Record) → Allowed r → r .fields .action < actions
+allowed-action r h =
+    let l = line (r .kind) in
+    let i = inside (l .action) (r .fields .action) (each l (r .fields) h .action) in
+    let m : l .action .greatest < actions =
+    ltb-true (l .action .greatest) actions (of-all (λ J. ltb (line J .action .greatest) actions) refl (r .kind)) in
+    omega arith
