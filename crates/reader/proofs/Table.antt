@@ -10,11 +10,10 @@ use lib.Dec.{eqb, ltb, leb}
 use lib.ListN.{length, getD}
 use borrow.Author.Tests.{eqb-true, lt-ltb, le-leb}
 use Rattle.records.proofs.Numbers.{lt-or-le}
-use Rattle.reader.specs.declared.EntryLine.{EntryLine}
 use Rattle.reader.specs.declared.Lookup.the-variants.{Found, Unknown}
 use Rattle.reader.specs.Table.{Kind, kinds, numbered, kindOf, line, duty, ban, power, both, then, repair, repeat, when, until, any, tries, idle, succeeds, fails, seq, or, star}
 use Rattle.reader.specs.Trees.{Fields, Record}
-use Rattle.reader.specs.Codes.{entryLine, named, lookupOf}
+use Rattle.reader.specs.Codes.{entryOf, packed, unpacked, lookupOf}
 
 pub kind-number : (k : Kind) → kindOf (line k .number) ≡ some k
 unfolding kindOf numbered
@@ -147,15 +146,35 @@ table-at f d i h = go kinds i h
     go (K ∷ Ks) (suc i) h = go Ks i (omega arith)
 
 -- the program's table
-abbrev pub lines : List EntryLine
-lines = map entryLine kinds
+-- each line is packed and unpacked again
+unpacked-line : (k : Kind) → unpacked (packed (entryOf k)) ≡ entryOf k
+unpacked-line duty = refl
+unpacked-line ban = refl
+unpacked-line power = refl
+unpacked-line both = refl
+unpacked-line then = refl
+unpacked-line repair = refl
+unpacked-line repeat = refl
+unpacked-line when = refl
+unpacked-line until = refl
+unpacked-line any = refl
+unpacked-line tries = refl
+unpacked-line idle = refl
+unpacked-line succeeds = refl
+unpacked-line fails = refl
+unpacked-line seq = refl
+unpacked-line or = refl
+unpacked-line star = refl
 
-module _ (d : EntryLine) where
-  pub known-clause : (n : ℕ) → OfClause n → lookupOf (kindOf n) ≡ Found (named (getD lines (clausePlace n) d))
-  known-clause n h = rw (clause-kind n h, table-at entryLine d (clausePlace n) (omega arith))
+abbrev pub lines : List ℕ
+lines = map (λ (k : Kind). packed (entryOf k)) kinds
 
-  pub known-expression : (n : ℕ) → OfExpression n → lookupOf (kindOf n) ≡ Found (named (getD lines (expressionPlace n) d))
-  known-expression n h = rw (expression-kind n h, table-at entryLine d (expressionPlace n) (omega arith))
+module _ (d : ℕ) where
+  pub known-clause : (n : ℕ) → OfClause n → lookupOf (kindOf n) ≡ Found (unpacked (getD lines (clausePlace n) d))
+  known-clause n h = rw (clause-kind n h, table-at (λ (k : Kind). packed (entryOf k)) d (clausePlace n) (omega arith), unpacked-line)
+
+  pub known-expression : (n : ℕ) → OfExpression n → lookupOf (kindOf n) ≡ Found (unpacked (getD lines (expressionPlace n) d))
+  known-expression n h = rw (expression-kind n h, table-at (λ (k : Kind). packed (entryOf k)) d (expressionPlace n) (omega arith), unpacked-line)
 
 pub unknown : (n : ℕ) → ¬ OfClause n → ¬ OfExpression n → lookupOf (kindOf n) ≡ Unknown
 unknown n no-clause no-expression = rw (no-kind n no-clause no-expression)

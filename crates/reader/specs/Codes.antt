@@ -1,6 +1,6 @@
 -- What the reader's program computes with: the table in numbers, and a code for each operand on the stack. That this is the reading of
 -- Reader.antt is shown in proofs/Codes.antt.
-use Prim.Native.Nat.{ℕ, _≤_, _*_}
+use Prim.Native.Nat.{ℕ, _≤_, _+_, _*_, _/_, _%_}
 use mathlib.Core.Bool.{Bool, true, false, _&&_, _||_, cond}
 use mathlib.Core.List.{List, map}
 use mathlib.Core.Option.{Option, none, some}
@@ -9,7 +9,6 @@ use lib.ListN.{length, getD}
 use Rattle.records.specs.Marks.{contractMark, marked}
 use Rattle.contract.specs.Expressions.{holdsEmpty}
 use Rattle.records.specs.declared.Fault.the-variants.{ContractMark, UnknownKind, BadField, BadOperands, EmptyList}
-use Rattle.reader.specs.declared.EntryLine.{EntryLine}
 use Rattle.reader.specs.declared.Entry.{Entry}
 use Rattle.reader.specs.declared.Lookup.{Lookup}
 use Rattle.reader.specs.declared.Lookup.the-variants.{Found, Unknown}
@@ -29,34 +28,34 @@ sortNumber expression = 2
 abbrev pub operandSort : Kind → ℕ → ℕ
 operandSort k i = getD (map sortNumber (line k .operands)) i 0
 
-abbrev pub entryLine : Kind → EntryLine
-entryLine k =
-    record {
-      0 = length (line k .operands);
-      1 = operandSort k 0;
-      2 = operandSort k 1;
-      3 = line k .party .least;
-      4 = line k .party .greatest;
-      5 = line k .action .least;
-      6 = line k .action .greatest;
-      7 = line k .last .least;
-      8 = line k .last .greatest;
-    }
-
--- a line's fields by their names
-abbrev pub named : EntryLine → Entry
-named l =
-    record {
-      operands = l .0;
-      first = l .1;
-      second = l .2;
-      party = record { least = l .3; greatest = l .4 };
-      action = record { least = l .5; greatest = l .6 };
-      last = record { least = l .7; greatest = l .8 };
-    }
-
 abbrev pub entryOf : Kind → Entry
-entryOf k = named (entryLine k)
+entryOf k =
+    record {
+      operands = length (line k .operands);
+      first = operandSort k 0;
+      second = operandSort k 1;
+      party = record { least = line k .party .least; greatest = line k .party .greatest };
+      action = record { least = line k .action .least; greatest = line k .action .greatest };
+      last = record { least = line k .last .least; greatest = line k .last .greatest };
+    }
+
+-- a line as one number: from its lowest bits up two bits each for the operands, the sorts and the parties, five for the actions, four for the last
+-- byte
+abbrev pub packed : Entry → ℕ
+packed e =
+    e .operands + 4 * e .first + 16 * e .second + 64 * e .party .least + 256 * e .party .greatest
+    + 1024 * e .action .least + 32768 * e .action .greatest + 1048576 * e .last .least + 16777216 * e .last .greatest
+
+abbrev pub unpacked : ℕ → Entry
+unpacked v =
+    record {
+      operands = v % 4;
+      first = v / 4 % 4;
+      second = v / 16 % 4;
+      party = record { least = v / 64 % 4; greatest = v / 256 % 4 };
+      action = record { least = v / 1024 % 32; greatest = v / 32768 % 32 };
+      last = record { least = v / 1048576 % 16; greatest = v / 16777216 % 16 };
+    }
 
 abbrev pub lookupOf : Option Kind → Lookup
 lookupOf none = Unknown

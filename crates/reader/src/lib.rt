@@ -6,7 +6,7 @@ ghost use lib.ListN.{length, drop, getD};
 ghost use Rattle.reader.specs.Limits.{recordBytes};
 ghost use Rattle.reader.specs.Table.{range, within, kindOf};
 ghost use Rattle.reader.specs.Reader.{next, readRecords, justOne, contractRecords, testOf, readTest};
-ghost use Rattle.reader.specs.Codes.{named, lookupOf, operandCount, inRanges, expressionCode, sortOf, goodOperands, emptyUnder, completed, stepOf, HasRecords};
+ghost use Rattle.reader.specs.Codes.{unpacked, lookupOf, operandCount, inRanges, expressionCode, sortOf, goodOperands, emptyUnder, completed, stepOf, HasRecords};
 use records::Fault;
 use records::Test;
 
@@ -28,41 +28,50 @@ const EXPRESSION: u8 = 2;
 // The code of an expression that holds the empty list.
 pub const EMPTY: u8 = 3;
 
-// The last action's number.
-const LAST_ACTION: u8 = periods::ACTIONS as u8 - 1;
+// Where a line of the table is one number, the factors of its parts: how many operands, the sorts of the first and the second in the order in
+// which they are read, and the least and the greatest number of the party, of the action and of the last byte.
+const OPERANDS: u32 = 1;
 
-// A line of the table, in the order of an entry's fields.
-pub struct EntryLine(
-    pub u8,
-    pub u8,
-    pub u8,
-    pub u8,
-    pub u8,
-    pub u8,
-    pub u8,
-    pub u8,
-    pub u8,
-);
+const FIRST: u32 = 4;
 
-// A line for each of the kinds 1 to 9, then 16 to 23. A field that a kind does not use is 0 to 0.
-const TABLE: [EntryLine; 17] = [
-    EntryLine(0, NONE, NONE, 1, 2, 0, LAST_ACTION, 0, 0), // 1 duty
-    EntryLine(0, NONE, NONE, 1, 2, 0, LAST_ACTION, 0, 0), // 2 ban
-    EntryLine(0, NONE, NONE, 1, 2, 0, LAST_ACTION, 0, 0), // 3 power
-    EntryLine(2, CLAUSE, CLAUSE, 0, 0, 0, 0, 0, 0), // 4 both
-    EntryLine(2, CLAUSE, CLAUSE, 0, 0, 0, 0, 0, 0), // 5 then
-    EntryLine(2, CLAUSE, CLAUSE, 0, 0, 0, 0, 0, 0), // 6 repair
-    EntryLine(1, CLAUSE, NONE, 0, 0, 0, 0, 0, 0), // 7 repeat
-    EntryLine(2, EXPRESSION, CLAUSE, 0, 0, 0, 0, 0, 0), // 8 when
-    EntryLine(2, CLAUSE, EXPRESSION, 0, 0, 0, 0, 0, 0), // 9 until
-    EntryLine(0, NONE, NONE, 0, 0, 0, 0, 0, 0), // 16 any
-    EntryLine(0, NONE, NONE, 1, 2, 0, LAST_ACTION, 0, 0), // 17 tries
-    EntryLine(0, NONE, NONE, 1, 2, 0, LAST_ACTION, 0, 0), // 18 idle
-    EntryLine(0, NONE, NONE, 0, 0, 0, LAST_ACTION, 0, 0), // 19 succeeds
-    EntryLine(0, NONE, NONE, 0, 0, 0, LAST_ACTION, 0, 0), // 20 fails
-    EntryLine(2, EXPRESSION, EXPRESSION, 0, 0, 0, 0, 0, 0), // 21 seq
-    EntryLine(2, EXPRESSION, EXPRESSION, 0, 0, 0, 0, 0, 0), // 22 or
-    EntryLine(1, EXPRESSION, NONE, 0, 0, 0, 0, 0, 0), // 23 star
+const SECOND: u32 = 16;
+
+const PARTY_LEAST: u32 = 64;
+
+const PARTY_GREATEST: u32 = 256;
+
+const ACTION_LEAST: u32 = 1024;
+
+const ACTION_GREATEST: u32 = 32768;
+
+const LAST_LEAST: u32 = 1048576;
+
+const LAST_GREATEST: u32 = 16777216;
+
+// A party is 1 or 2, an action one of those that there are. A field that a kind does not use is 0 to 0.
+const PARTIES: u32 = PARTY_LEAST * 1 + PARTY_GREATEST * 2;
+
+const ACTIONS: u32 = ACTION_GREATEST * (periods::ACTIONS - 1);
+
+// A line for each of the kinds 1 to 9, then 16 to 23.
+const TABLE: [u32; 17] = [
+    PARTIES + ACTIONS, // 1 duty
+    PARTIES + ACTIONS, // 2 ban
+    PARTIES + ACTIONS, // 3 power
+    OPERANDS * 2 + FIRST * CLAUSE as u32 + SECOND * CLAUSE as u32, // 4 both
+    OPERANDS * 2 + FIRST * CLAUSE as u32 + SECOND * CLAUSE as u32, // 5 then
+    OPERANDS * 2 + FIRST * CLAUSE as u32 + SECOND * CLAUSE as u32, // 6 repair
+    OPERANDS * 1 + FIRST * CLAUSE as u32, // 7 repeat
+    OPERANDS * 2 + FIRST * EXPRESSION as u32 + SECOND * CLAUSE as u32, // 8 when
+    OPERANDS * 2 + FIRST * CLAUSE as u32 + SECOND * EXPRESSION as u32, // 9 until
+    0, // 16 any
+    PARTIES + ACTIONS, // 17 tries
+    PARTIES + ACTIONS, // 18 idle
+    ACTIONS, // 19 succeeds
+    ACTIONS, // 20 fails
+    OPERANDS * 2 + FIRST * EXPRESSION as u32 + SECOND * EXPRESSION as u32, // 21 seq
+    OPERANDS * 2 + FIRST * EXPRESSION as u32 + SECOND * EXPRESSION as u32, // 22 or
+    OPERANDS * 1 + FIRST * EXPRESSION as u32, // 23 star
 ];
 
 // The least and the greatest number that a field may be.
@@ -71,8 +80,7 @@ pub struct Range {
     pub greatest: u8,
 }
 
-// What a line says of its kind: how many operands, the sorts of the first and the second in the order in which they are read, and the ranges
-// of the party, the action and the last byte.
+// What a line says of its kind.
 pub struct Entry {
     pub operands: u8,
     pub first: u8,
@@ -82,24 +90,24 @@ pub struct Entry {
     pub last: Range,
 }
 
-fn named(l: EntryLine) -> Entry
-    ensures { λ r. ⌜ r ≡ named l ⌝ }
+fn unpacked(line: u32) -> Entry
+    ensures { λ r. ⌜ r ≡ unpacked line ⌝ }
 {
     Entry {
-        operands: l.0,
-        first: l.1,
-        second: l.2,
+        operands: (line % 4) as u8,
+        first: (line / FIRST % 4) as u8,
+        second: (line / SECOND % 4) as u8,
         party: Range {
-            least: l.3,
-            greatest: l.4,
+            least: (line / PARTY_LEAST % 4) as u8,
+            greatest: (line / PARTY_GREATEST % 4) as u8,
         },
         action: Range {
-            least: l.5,
-            greatest: l.6,
+            least: (line / ACTION_LEAST % 32) as u8,
+            greatest: (line / ACTION_GREATEST % 32) as u8,
         },
         last: Range {
-            least: l.7,
-            greatest: l.8,
+            least: (line / LAST_LEAST % 16) as u8,
+            greatest: (line / LAST_GREATEST % 16) as u8,
         },
     }
 }
@@ -113,9 +121,10 @@ pub enum Lookup {
 fn entry_of(kind: u8) -> Lookup
     ensures { λ r. ⌜ r ≡ lookupOf (kindOf kind) ⌝ }
 {
+    let table = TABLE;
     match kind {
-        1..=9 => Lookup::Found(named(TABLE[kind as usize - 1])),
-        16..=23 => Lookup::Found(named(TABLE[kind as usize - 7])),
+        1..=9 => Lookup::Found(unpacked(table[kind as usize - 1])),
+        16..=23 => Lookup::Found(unpacked(table[kind as usize - 7])),
         _ => Lookup::Unknown,
     }
 }
