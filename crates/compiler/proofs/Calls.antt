@@ -47,7 +47,7 @@ module _ (contract buffer reply : List ℕ) (c : Clause) (e : read contract ≡ 
   usable : Usable contract (sets buffer 0 (imageFor contract)) (sets reply 0 (fieldsBytes (replyFields Passed (rowCount (imageFor contract)) [])))
   usable =
       let n : ℕ = rowCount (imageFor contract) in
-      let small : n < 256 ^ 4 = omega (arith, good .most) in
+      let small : n < 256 ^ 4 = omega (arith, good .few-rows) in
       record {
         count = n;
         number-is = field-back [] (four 0) (four n ∷ eight 0 ∷ []) reply h (lit< tt);

@@ -31,14 +31,14 @@ use Rattle.emitter.proofs.Plans.{after-tree}
 -- ---- the fixed rows
 
 -- a buffer with them written
-abbrev pub begun : List ℕ → List ℕ
-begun image = writtenRows image 0 (map numbersOf (never ∷ initial ∷ negation firstRow ∷ []))
+abbrev pub withFixedRows : List ℕ → List ℕ
+withFixedRows image = writtenRows image 0 (map numbersOf (never ∷ initial ∷ negation firstRow ∷ []))
 
 -- one after the other
-pub begun-rows : (image : List ℕ)
-    → sets (sets (sets image 0 (rowRecord 0 0 0)) 8 (rowRecord 1 0 0)) 16 (rowRecord 3 1 0) ≡ begun image
+pub fixed-rows-written : (image : List ℕ)
+    → sets (sets (sets image 0 (rowRecord 0 0 0)) 8 (rowRecord 1 0 0)) 16 (rowRecord 3 1 0) ≡ withFixedRows image
 unfolding writtenRows numbersBytes bytes
-begun-rows image = refl
+fixed-rows-written image = refl
 
 -- ---- the image of a clause
 
@@ -49,7 +49,7 @@ module _ (c : Clause) where
   after-rows = omega (arith, after-tree clause c fixedRows firstRow laterRow)
 
   rows-written : (image : List ℕ)
-      → writtenRows (begun image) fixedRows (map numbersOf (clauseRows c fixedRows firstRow laterRow [])) ≡ sets image 0 (rowsBytes (rowsFor c))
+      → writtenRows (withFixedRows image) fixedRows (map numbersOf (clauseRows c fixedRows firstRow laterRow [])) ≡ sets image 0 (rowsBytes (rowsFor c))
   unfolding rowsFor writtenRows
   rows-written image = written-after image 0 fixedRows _ _ refl ∙ ap (sets image 0) (numbers-bytes (rowsFor c))
 
@@ -85,7 +85,7 @@ module _ (contract : List ℕ) (n : ℕ) (image : List ℕ) (w : Writes contract
   room : rowBytes * (afterClause c fixedRows + 1) ≤ length image
   room = omega (arith, after-rows c, rows-allowed c, w .taken .count, w .room)
 
-  pub emits : Emits contract n (begun image) fixedRows firstRow laterRow
+  pub emits : Emits contract n (withFixedRows image) fixedRows firstRow laterRow
   emits =
       record {
         before = 0;
@@ -98,7 +98,7 @@ module _ (contract : List ℕ) (n : ℕ) (image : List ℕ) (w : Writes contract
         goes-on = omega arith;
       }
 
-  module _ (later : List ℕ) (r : Block) (e : Emitted contract n (begun image) fixedRows firstRow laterRow later r) where
+  module _ (later : List ℕ) (r : Block) (e : Emitted contract n (withFixedRows image) fixedRows firstRow laterRow later r) where
     block-is : r ≡ blockOf clause c 0 fixedRows firstRow
     block-is = e .tree-is 0 clause c ends .1
 

@@ -85,7 +85,7 @@ module _ {contract : List ℕ} {last : ℕ} {image : List ℕ} {b S : ℕ} {w : 
 -- ---- what the program knows of the last record
 
 -- its bytes, its plan and how many operands it has
-pub record Reads (contract : List ℕ) (n : ℕ) (r : RecordBytes) (count : ℕ) (p : Plan) : Type 0 where
+pub record RecordRead (contract : List ℕ) (n : ℕ) (r : RecordBytes) (count : ℕ) (p : Plan) : Type 0 where
   pub bytes-are : r ≡ lastRecord contract n
   pub plan-is : (k : Kind) → kindOf (r .kind) ≡ some k → p ≡ planOf (recordFrom k r)
   pub count-is : count ≡ operandCount (kindOf (r .kind))
@@ -106,7 +106,7 @@ next-left (s ∷ s′ ∷ []) ts m b S w h =
     (omega (arith, after-tree s′ (ts .1 .0) b (w .start) (w .go), after-tree s (ts .0) (afterTree s′ (ts .1 .0) b) S (w .keep)))
 next-left (s ∷ s′ ∷ s″ ∷ ss) ts m b S w h = absurd (omega arith)
 
-module _ {contract : List ℕ} {n : ℕ} {r : RecordBytes} {count : ℕ} {p : Plan} (reads : Reads contract n r count p) where
+module _ {contract : List ℕ} {n : ℕ} {r : RecordBytes} {count : ℕ} {p : Plan} (reads : RecordRead contract n r count p) where
   pub known : (own : Record) → Last contract n own → Known own r count p
   known own l =
       let e : r ≡ bytesOf own = reads .bytes-are ∙ l .is in

@@ -26,7 +26,7 @@ use Rattle.emitter.specs.Premises.{Small, RecordRows, Emits}
 use Rattle.emitter.proofs.Plans.{leftBlock, rightBlock, after-node}
 use Rattle.emitter.proofs.Tables.{inside-is, end, listed, in-one-table, WiresInside, wires-inside}
 use Rattle.emitter.proofs.Operands.{View, view, seen, ends-last, OperandsEnd, ends-operands}
-use Rattle.emitter.proofs.Emitting.{Written, Reads, Known, known}
+use Rattle.emitter.proofs.Emitting.{Written, RecordRead, Known, known}
 
 -- ---- the rows that a block gives out
 
@@ -189,7 +189,7 @@ module _ {contract : List ℕ} {n : ℕ} {image : List ℕ} {b S K : ℕ} (e : E
       at : (s : Sort) (t : Tree s) → View s t → EndsWith contract n (e .before) s t → 1 ≤ n
       at s t (view k f ts) i = ends-last contract n (e .before) k f ts i .some-record
 
-  module _ {r : RecordBytes} {count : ℕ} {p : Plan} (reads : Reads contract n r count p) where
+  module _ {r : RecordBytes} {count : ℕ} {p : Plan} (reads : RecordRead contract n r count p) where
     opened : Opened contract n image b S K r count p
     opened = at (e .sort) (e .tree) (seen (e .sort) (e .tree)) (e .ends) (e .room) (e .few)
       where

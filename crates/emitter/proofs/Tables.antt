@@ -63,9 +63,9 @@ wire-inside : (r : Record) (x b s k : ℕ) → s < b → k < b → knownWire r x
 wire-inside r x b s k h i t =
     let m = ⊹-plus b (width r .before) in
     ⊎-elim (λ e. rw (eqb-true x ZERO e) (omega arith))
-    (λ t. ⊎-elim (λ e. rw (eqb-true x S e) (omega arith))
-    (λ t. ⊎-elim (λ e. rw (eqb-true x K e) (omega arith))
-    (λ t.
+    (λ (t : (eqb x S || (eqb x K || (leb B x && ltb x N && ltb x (B + width r .before)))) ≡ true). ⊎-elim (λ e. rw (eqb-true x S e) (omega arith))
+    (λ (t : (eqb x K || (leb B x && ltb x N && ltb x (B + width r .before))) ≡ true). ⊎-elim (λ e. rw (eqb-true x K e) (omega arith))
+    (λ (t : (leb B x && ltb x N && ltb x (B + width r .before)) ≡ true).
     let u = and-eq-true-iff (leb B x && ltb x N) (ltb x (B + width r .before)) .0 t in
     let v = and-eq-true-iff (leb B x) (ltb x N) .0 (u .0) in
     let from : B ≤ x = leb-true B x (v .0) in

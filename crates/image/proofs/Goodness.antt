@@ -180,8 +180,8 @@ module _ (c : Clause) (i : InRange c) where
       let a = after-clause c fixedRows in
       let o = inside-clause c fixedRows (omega arith) in
       record {
-        least = omega arith;
-        most = omega arith;
+        some-rows = omega arith;
+        few-rows = omega arith;
         fits = λ k j. good-fits (length (rowsFor c)) k j (omega arith) (getD (rowsFor c) k never) (good-row k j);
         names = λ k j. good-names (length (rowsFor c)) k (getD (rowsFor c) k never) (good-row k j);
         small-S = omega arith;

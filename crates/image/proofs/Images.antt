@@ -7,7 +7,8 @@ use Rattle.states.proofs.Fresh.{fresh-read}
 use Rattle.contract.specs.Meaning.{Clause}
 use Rattle.reader.specs.Reader.{taken, read}
 use Rattle.reader.proofs.Reader.{taken-spells, taken-count}
-use Rattle.image.specs.Images.{image, imageFor, RightFor, SizedFor}
+use Rattle.image.specs.Images.{image, imageFor}
+use Rattle.image.specs.Rightness.{RightFor, SizedFor}
 use Rattle.image.proofs.Sizes.{length-rows, rows-max, rows-allowed}
 use Rattle.image.proofs.Goodness.{writable}
 use Rattle.image.proofs.Root.{shows}

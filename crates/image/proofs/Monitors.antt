@@ -34,7 +34,8 @@ use Rattle.runner.proofs.StepCalls.{accepted-passed, accepted-step, refused-ste
 use Rattle.contract.specs.Meaning.{Clause, Decision, undecided, satisfied, violated, meaning}
 use Rattle.contract.specs.Verdicts.{verdict}
 use Rattle.reader.specs.Reader.{taken, read}
-use Rattle.image.specs.Images.{imageFor, Shows, RightFor}
+use Rattle.image.specs.Images.{imageFor}
+use Rattle.image.specs.Rightness.{Shows, RightFor}
 use Rattle.image.specs.Monitors.{callTest, accepts, periodsAfter, meantReply, AnswersCall, AnswersCalls, Monitors}
 use Rattle.image.proofs.Images.{right-for}
 

@@ -22,7 +22,8 @@ use Rattle.contract.proofs.Verdicts.{stands}
 use Rattle.reader.specs.Limits.{maxRecords}
 use Rattle.reader.specs.Spelling.{records, InRange}
 use Rattle.image.specs.Widths.{firstRow, laterRow, fixedRows}
-use Rattle.image.specs.Images.{rowsFor, image, outcome, Shows}
+use Rattle.image.specs.Images.{rowsFor, image}
+use Rattle.image.specs.Rightness.{outcome, Shows}
 use Rattle.image.proofs.Signals.{Signal, at, isFirst, _≐_, Obeys, isMet, blames, isBroken, Says}
 use Rattle.image.proofs.RowLaws.{values, signal, obeys}
 use Rattle.image.proofs.Goodness.{writable}

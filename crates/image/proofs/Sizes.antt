@@ -16,7 +16,7 @@ use Rattle.reader.specs.Trees.{Record}
 use Rattle.reader.specs.Spelling.{atomRecord, literalRecord, expressionRecords, records}
 use Rattle.reader.proofs.Table.{of-records}
 use Rattle.image.specs.Limits.{allowedRows}
-use Rattle.image.specs.Widths.{size, maxSize, neverRow, maxRowsFor, _⊹_, inside, afterRecord, expressionSize, clauseSize, fixedRows, afterExpression, afterClause}
+use Rattle.image.specs.Widths.{width, size, maxSize, neverRow, maxRowsFor, _⊹_, inside, operandsFrom, afterRecord, expressionSize, clauseSize, fixedRows, afterExpression, afterClause}
 use Rattle.image.specs.Blocks.{joinRow, endRow, liveRow, ifEmpty, expressionRows, Outputs, blaming, outputsOf, clauseRows}
 use Rattle.image.specs.Images.{rowsFor}
 
@@ -31,7 +31,7 @@ pub ⊹-plus : (b k : ℕ) → b ⊹ k ≡ b + k
 
 -- the first row after a record without operands, and after a tree's rows
 after-record : (r : Record) (b : ℕ) → afterRecord r (λ n. n) b ≡ b + size r
-after-record r b = rw (⊹-plus, ⊹-plus) (omega arith)
+after-record r b = omega (arith, ⊹-plus (operandsFrom r b) (width r .after), ⊹-plus b (width r .before))
 
 pub after-expression : (e : Expression) (b : ℕ) → afterExpression e b ≡ b + expressionSize e
 unfolding afterExpression expressionSize

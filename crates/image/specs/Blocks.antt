@@ -160,7 +160,7 @@ literalRows power p a b S rest =
 -- then, repair: the right starts in the period after the left was satisfied, was violated; the left says nothing more.
 -- repeat: the clause starts with the whole, and in the period after each of its satisfactions.
 -- when: the expression reads until it is accepted, and then the clause starts. `reading`: it was neither accepted nor rejected before this period.
--- `begun`: what has been read is in the set, or begins a list of it. `rejected`: now.
+-- `alive`: what has been read is in the set, or begins a list of it. `rejected`: now.
 -- until: clause and expression read until the whole has decided. `accepted`: now, and the clause is not violated now.
 unfoldable pub clauseRows : Clause → (b S K : ℕ) → List Row → List Row
 clauseRows (literal l p a) b S K rest = literalRows l p a b S rest
@@ -208,12 +208,12 @@ clauseRows (when e c) b S K rest =
     let end = endRow e left S in
     let live = liveRow e left in
     let reading = n ⊹ 2 in
-    let begun = n ⊹ 3 in
+    let alive = n ⊹ 3 in
     let rejected = n ⊹ 5 in
     handOver end K b λ start go. clauseRows c right start go
     (expressionRows e left S go
     (previous live ∷ conjunction go n ∷ disjunction S (n ⊹ 1)
-    ∷ disjunction end live ∷ negation begun ∷ conjunction reading (n ⊹ 4) ∷ disjunction (outputsOf c right .sat) rejected ∷ rest))
+    ∷ disjunction end live ∷ negation alive ∷ conjunction reading (n ⊹ 4) ∷ disjunction (outputsOf c right .sat) rejected ∷ rest))
 clauseRows (until c e) b S K rest =
     let right = inside Table.until b in
     let left = afterExpression e right in

@@ -1,22 +1,11 @@
--- The image of a clause, and the image of a contract: it follows from the contract's bytes alone. When an image is right for a contract.
--- Document 01, "Image and row machine".
-use Prim.Native.Nat.{ℕ, _+_, _≤_}
+-- The image of a clause, and the image of a contract: it follows from the contract's bytes alone. Document 01, "Image and row machine".
+use Prim.Native.Nat.{ℕ}
 use mathlib.Core.List.{List, [], _∷_}
-use mathlib.Core.Path.{_≡_}
-use lib.ListN.{replicate}
-use Rattle.records.specs.declared.Test.the-variants.{Passed}
-use Rattle.periods.specs.Periods.{Period}
 use Rattle.layout.specs.Rows.{Row, never, initial, negation}
-use Rattle.layout.specs.Images.{Image, imageBytes, rowCount, imageOf}
-use Rattle.layout.specs.Refusals.{imageTest}
-use Rattle.states.specs.Limits.{headBytes}
-use Rattle.states.specs.States.{State, stateOf}
-use Rattle.machine.specs.Machine.{afterPeriods}
-use Rattle.contract.specs.Meaning.{Clause, Decision, undecided, satisfied, violated, meaning}
-use Rattle.contract.specs.Verdicts.{decisionPeriod, blame}
-use Rattle.reader.specs.Reader.{Result, refused, taken, read, contractRecords}
-use Rattle.image.specs.Limits.{allowedRows}
-use Rattle.image.specs.Widths.{clauseSize, firstRow, laterRow, fixedRows, maxRowsFor}
+use Rattle.layout.specs.Images.{Image, imageBytes}
+use Rattle.contract.specs.Meaning.{Clause}
+use Rattle.reader.specs.Reader.{Result, refused, taken, read}
+use Rattle.image.specs.Widths.{firstRow, laterRow, fixedRows}
 use Rattle.image.specs.Blocks.{outputsOf, clauseRows}
 
 -- the clause's block after the fixed rows: it begins to read in period 1 and goes on in every later one
@@ -35,30 +24,3 @@ imageOfResult (taken c) = imageBytes (image c)
 
 unfoldable pub imageFor : (contract : List ℕ) → List ℕ
 imageFor contract = imageOfResult (read contract)
-
--- ---- when an image is right
-
--- a state shows a decision: "outcome (0 undecided, 1 satisfied, 2 violated); blame; .. decision period (.. 0 for none)"
-abbrev pub outcome : Decision → ℕ
-outcome undecided = 0
-outcome (satisfied k) = 1
-outcome (violated k b) = 2
-
-pub record Shows (d : Decision) (s : State) : Type 0 where
-  pub outcome-is : s .outcome ≡ outcome d
-  pub blame-is : s .blame ≡ blame d
-  pub decision-is : s .decision ≡ decisionPeriod d
-
--- The image is right for the clause, whatever rows it has: refusal 9 does not apply, and the row machine on it, begun with a state of zeros, shows
--- after every list of periods what the clause means on it.
-pub record RightFor (clause : Clause) (image : List ℕ) : Type 0 where
-  pub good : imageTest image ≡ Passed
-  pub shows : (w : List Period)
-      → Shows (meaning clause w) (afterPeriods (imageOf image) (stateOf (replicate (headBytes + rowCount image) 0)) w)
-
--- how many rows it has, for a contract that means this clause: as many as the widths of the contract's records and the fixed rows add up to, no
--- more than the widest records would have, and so within what refusal 8 makes room for
-pub record SizedFor (contract : List ℕ) (clause : Clause) (image : List ℕ) : Type 0 where
-  pub rows-are : rowCount image ≡ clauseSize clause + fixedRows
-  pub rows-max : rowCount image ≤ maxRowsFor (contractRecords contract)
-  pub rows-allowed : rowCount image ≤ allowedRows (contractRecords contract)

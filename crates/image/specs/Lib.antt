@@ -3,5 +3,6 @@ pub mod Limits
 pub mod Widths
 pub mod Blocks
 pub mod Images
+pub mod Rightness
 pub mod Monitors
 pub mod Examples

@@ -51,8 +51,8 @@ decode-row rs rest k h f =
 
 -- an image that has bytes: 1 to the most rows, whose fields fit and name rows of the image, as the end record does
 pub record Writable (m : Image) : Type 0 where
-  pub least : 1 ≤ length (m .rows)
-  pub most : length (m .rows) ≤ maxRows
+  pub some-rows : 1 ≤ length (m .rows)
+  pub few-rows : length (m .rows) ≤ maxRows
   pub fits : (k : ℕ) → k < length (m .rows) → Fits (getD (m .rows) k never)
   pub names : (k : ℕ) → k < length (m .rows) → namesRows k (length (m .rows)) (getD (m .rows) k never) ≡ true
   pub small-S : m .S < length (m .rows)
@@ -118,8 +118,8 @@ module _ (m : Image) (w : Writable m) where
   imageBytes-good =
       record {
         count = rw rowCount-imageBytes (length-imageBytes m);
-        least = rw rowCount-imageBytes (w .least);
-        most = rw rowCount-imageBytes (w .most);
+        some-rows = rw rowCount-imageBytes (w .some-rows);
+        few-rows = rw rowCount-imageBytes (w .few-rows);
         each = λ k h. rw rowCount-imageBytes (good-row-at k (rw rowCount-imageBytes at h));
         ends = rw rowCount-imageBytes good-end-at;
       }

@@ -53,8 +53,8 @@ module _ (l : List ℕ) where
 
 pub record GoodImage (l : List ℕ) : Type 0 where
   pub count : length l ≡ rowBytes * (rowCount l + 1)
-  pub least : 1 ≤ rowCount l
-  pub most : rowCount l ≤ maxRows
+  pub some-rows : 1 ≤ rowCount l
+  pub few-rows : rowCount l ≤ maxRows
   pub each : (k : ℕ) → k < rowCount l → goodRowAt l (rowCount l) k ≡ true
   pub ends : goodEnd l (rowCount l) ≡ true
 
@@ -84,8 +84,8 @@ passed-good l e =
     let b = eqb-true bad n (require-passed (eqb bad n) BadImage bad (v .0)) in
     record {
       count = f .0;
-      least = f .1;
-      most = f .2;
+      some-rows = f .1;
+      few-rows = f .2;
       each = all-passed (goodRowAt l n) n b;
       ends = require-passed (goodEnd l n) BadImage n (v .1);
     }
@@ -94,7 +94,7 @@ pub good-passed : (l : List ℕ) → GoodImage l → imageTest l ≡ Passed
 unfolding imageTest
 good-passed l g =
     let n = rowCount l in
-    rw (counted-length l n (g .count) (g .least) (g .most), eq-eqb (firstFailing (goodRowAt l n) 0 n) n (all-pass (goodRowAt l n) n (g .each)), g .ends)
+    rw (counted-length l n (g .count) (g .some-rows) (g .few-rows), eq-eqb (firstFailing (goodRowAt l n) 0 n) n (all-pass (goodRowAt l n) n (g .each)), g .ends)
 
 -- ---- the rows that bytes hold
 

@@ -18,9 +18,9 @@ use Rattle.records.specs.Refusals.{require, firstFailing, onlyFor}
 use Rattle.records.proofs.Written.{drop-take}
 use Rattle.records.proofs.Refusals.{all-passed, first-passed, require-passed, only-require, only-first}
 use Rattle.periods.specs.declared.Form.{Form}
-use Rattle.periods.specs.Forms.{formMark, maskBytes, periodBytes, formOf}
+use Rattle.periods.specs.Forms.{maskBytes, periodBytes, formOf}
 use Rattle.periods.specs.Periods.{periodFrom}
-use Rattle.periods.specs.Traces.{wholeRecords, markedAs, periodRecords, recordAt, periodAt, periodsOf, markedAt, marksAre, marksTest, recordTest, traceTest, periodFaults}
+use Rattle.periods.specs.Traces.{markedAs, periodRecords, recordAt, periodAt, periodsOf, markedAt, marksAre, marksTest, recordTest, traceTest, periodFaults}
 use Rattle.periods.proofs.Forms.{record-inside, one-record}
 
 pub length-periodsOf : (trace : List ℕ) (n : ℕ) → length (periodsOf trace n) ≡ n

@@ -9,7 +9,7 @@ ghost use Rattle.records.specs.Refusals.{firstFailing};
 ghost use Rattle.periods.specs.Limits.{actions};
 ghost use Rattle.periods.specs.Forms.{formMark, periodBytes, formOf};
 ghost use Rattle.periods.specs.Periods.{Party, number, bit, tries, periodOf, periodFrom, HoldsPeriod};
-ghost use Rattle.periods.specs.Traces.{wholeRecords, periodRecords, periodAt, markedAs, marksAre, marksTest, recordTest, traceTest};
+ghost use Rattle.periods.specs.Traces.{wholeRecords, periodRecords, periodAt, marksAre, marksTest, recordTest, traceTest};
 use records::Fault;
 use records::Test;
 

@@ -1,6 +1,4 @@
 -- What a caller of the reader knows by what its tests find: a contract is taken exactly when its bytes spell one clause, with that clause's records.
-use native.Mathlib.Omega.{arith}
-use mathlib.Core.Bool.{true}
 use mathlib.Core.List.{List}
 use mathlib.Core.Path.{_≡_, refl, sym}
 use Prim.Native.Nat.{ℕ}

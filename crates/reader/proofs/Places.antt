@@ -245,8 +245,8 @@ refused-end l k h = go (refusal l NotOneClause k h)
     go (at-end w st g e i) = (sym i, faultless-fronts l (contractRecords l) st (le-refl (contractRecords l)) g)
 
 -- a place is never above the most records
-pub place-most : (l : List ℕ) (f : Fault) (k : ℕ) → read l ≡ refused f k → k ≤ maxRecords
-place-most l f k h = go (refusal l f k h)
+pub place-max : (l : List ℕ) (f : Fault) (k : ℕ) → read l ≡ refused f k → k ≤ maxRecords
+place-max l f k h = go (refusal l f k h)
   where
     go : Refusal l f k → k ≤ maxRecords
     go (at-length g e i) = omega arith

@@ -139,13 +139,13 @@ module _ (l : List ℕ) (c : Clause) (h : read l ≡ taken c) where
 -- ---- what spells a clause is taken as it
 
 -- a tree's bytes put it on the stack
-Reads : (s : Sort) → Tree s → Type 0
-Reads s t = Good s t → (k n : ℕ) (st : List Operand) (rest : List ℕ)
+ReadsTree : (s : Sort) → Tree s → Type 0
+ReadsTree s t = Good s t → (k n : ℕ) (st : List Operand) (rest : List ℕ)
     → readRecords k (treeRecords s t + n) st (spellTree s t ++ rest) ≡ readRecords (k + treeRecords s t) n (operand s t ∷ st) rest
 
-reads-trees : (ss : List Sort) (ts : Trees ss) → All Reads ss ts → All Good ss ts → (k n : ℕ) (st : List Operand) (rest : List ℕ)
+reads-trees : (ss : List Sort) (ts : Trees ss) → All ReadsTree ss ts → All Good ss ts → (k n : ℕ) (st : List Operand) (rest : List ℕ)
     → readRecords k (treesRecords ss ts + n) st (spellTrees ss ts ++ rest) ≡ readRecords (k + treesRecords ss ts) n (onto ss ts st) rest
-unfolding Reads
+unfolding ReadsTree
 reads-trees [] ts h g k n st rest = rw (zero-add, add-zero)
 reads-trees (s ∷ ss) ts h g k n st rest =
     rw (add-assoc, append-assoc, h .0 (g .0), reads-trees ss (ts .1) (h .1) (g .1), add-assoc)
@@ -157,9 +157,9 @@ read-next : (kind : Kind) (f : Fields) (ts : Trees (line kind .operands)) → go
 unfolding readRecords spellRecord
 read-next kind f ts g e k n st rest = rw (read-node k kind f ts st rest g, e)
 
-reads-node : (k : Kind) (f : Fields) → used k f ≡ f → (ts : Trees (line k .operands)) → All Reads (line k .operands) ts
-    → Reads (line k .completes) (node k f ts)
-unfolding Reads
+reads-node : (k : Kind) (f : Fields) → used k f ≡ f → (ts : Trees (line k .operands)) → All ReadsTree (line k .operands) ts
+    → ReadsTree (line k .completes) (node k f ts)
+unfolding ReadsTree
 reads-node kind f u ts h good k n st rest =
     let g = good-node kind f ts .0 good in
     let m : ℕ = treesRecords (line kind .operands) ts in
@@ -171,17 +171,17 @@ reads-node kind f u ts h good k n st rest =
     (reads-trees (line kind .operands) ts h (g .1) k (suc n) st (bytes ++ rest)
     ∙ read-next kind f ts (sym (ap (goodFields (line kind)) u) ∙ g .0) (g .2) (k + m) n st rest)
 
-reads : (s : Sort) (t : Tree s) → Reads s t
-reads = on-tree Reads reads-node
+reads-tree : (s : Sort) (t : Tree s) → ReadsTree s t
+reads-tree = on-tree ReadsTree reads-node
 
 pub spelled-taken : (c : Clause) → records c ≤ maxRecords → InRange c → EmptyFree c → read (spell c) ≡ taken c
-unfolding read readRecords Reads
+unfolding read readRecords ReadsTree
 spelled-taken c n r e =
     let count : contractRecords (spell c) ≡ records c = unfold contractRecords in rw length-spell (omega arith) in
     let w : WholeRecords (spell c) =
     record { some-records = rw count (some-records c); few-records = rw count n; whole = rw count (length-spell c) } in
     let s : readRecords 0 (records c) [] (spell c) ≡ taken (operand clause c ∷ []) =
-    rw (add-zero, append-nil) at (reads clause c (r, e) 0 0 [] []) in
+    rw (add-zero, append-nil) at (reads-tree clause c (r, e) 0 0 [] []) in
     rw (good-length (spell c) .1 w, count, s)
 
 pub spells-taken : (l : List ℕ) (c : Clause) → Spells l c → read l ≡ taken c

@@ -9,7 +9,7 @@ use mathlib.Core.List.{List, [], _∷_, _++_, map}
 use mathlib.Core.Path.{_≡_, refl, sym, ap, _∙_}
 use borrow.Author.Tests.{not-true, not-false, eqb-true, eqb-false}
 use lib.Dec.{eqb}
-use lib.ListN.{length, take, drop, getD, set, replicate, length-set, length-drop}
+use lib.ListN.{length, take, drop, getD, set, replicate, length-set, length-drop, length-map}
 use lib.Seq.{getD-drop, drop-drop, drop-at, set-split, length-take-le}
 use Rattle.records.specs.declared.Fault.{Fault}
 use Rattle.records.specs.declared.Test.the-variants.{Passed, Refused}
@@ -55,16 +55,12 @@ replaced stack top m c h i =
     let split : set stack at c ≡ take at stack ++ (c ∷ drop (suc at) stack) = set-split stack at c (omega arith) in
     rw (split, drop-at (take at stack) (c ∷ drop (suc at) stack) at (length-take-le at stack (omega arith)), e, drop-drop)
 
-length-map : (st : List Operand) → length (map codeOf st) ≡ length st
-length-map [] = refl
-length-map (x ∷ st) = ap suc (length-map st)
-
 module _ {l : List ℕ} {n : ℕ} {stack : List ℕ} {top k : ℕ} (r : Read l n stack top k) where
   pub code-at : (i : ℕ) → getD stack (top + i) 0 ≡ codeAt (r .operands) i
   code-at i = sym (getD-drop top stack i 0) ∙ ap (λ (cs : List ℕ). getD cs i 0) (r .codes)
 
   pub operand-count : length (r .operands) ≡ maxRecords - top
-  operand-count = sym (length-map (r .operands)) ∙ ap length (sym (r .codes)) ∙ length-drop top stack ∙ ap (λ (m : ℕ). m - top) (sym (r .sized))
+  operand-count = sym (length-map (r .operands) codeOf) ∙ ap length (sym (r .codes)) ∙ length-drop top stack ∙ ap (λ (m : ℕ). m - top) (sym (r .sized))
 
   module _ (h : k < n) where
     abbrev here : List ℕ

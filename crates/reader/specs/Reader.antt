@@ -1,7 +1,7 @@
 -- How a contract's bytes are read: record by record onto a stack of operands, to a clause or the first refusal.
 -- Document 01, "Records" and, for refusals 1 to 7, "Replies that refuse".
 use Prim.Native.Nat.{ℕ, zero, suc, _*_, _/_, _%_, _≤_}
-use mathlib.Core.Bool.{Bool, true, false, _&&_, not, cond}
+use mathlib.Core.Bool.{Bool, false, _&&_, not}
 use mathlib.Core.List.{List, [], _∷_}
 use mathlib.Core.Option.{Option, none, some}
 use mathlib.Core.Path.{_≡_}

@@ -24,9 +24,9 @@ module _ (ok : ℕ → Bool) where
   unfolding firstFailing
   failing-none k = refl
 
-  pub failing-past : (k n : ℕ) → ok k ≡ true → firstFailing ok k (suc n) ≡ firstFailing ok (suc k) n
+  pub failing-on : (k n : ℕ) → ok k ≡ true → firstFailing ok k (suc n) ≡ firstFailing ok (suc k) n
   unfolding firstFailing
-  failing-past k n e = rw e
+  failing-on k n e = rw e
 
   pub failing-stop : (k n : ℕ) → ok k ≡ false → firstFailing ok k (suc n) ≡ k
   unfolding firstFailing
@@ -38,7 +38,7 @@ module _ (ok : ℕ → Bool) where
   failing-next k n h e =
       let s : n - k ≡ suc (n - (k + 1)) = omega arith in
       let t : k + 1 ≡ suc k = omega arith in
-      rw (s, failing-past k (n - (k + 1)) e, t)
+      rw (s, failing-on k (n - (k + 1)) e, t)
 
   pub failing-here : (k n : ℕ) → k < n → ok k ≡ false → firstFailing ok k (n - k) ≡ k
   failing-here k n h e =
@@ -52,11 +52,11 @@ module _ (ok : ℕ → Bool) where
 
   -- ---- what the result says
 
-  pub failing-most : (k n : ℕ) → firstFailing ok k n ≤ k + n
-  failing-most k zero = rw (failing-none k, add-zero) (le-refl k)
-  failing-most k (suc n) =
+  pub failing-max : (k n : ℕ) → firstFailing ok k n ≤ k + n
+  failing-max k zero = rw (failing-none k, add-zero) (le-refl k)
+  failing-max k (suc n) =
       ⊎-elim
-      (λ e. rw (failing-past k n e, add-suc, ← suc-add) (failing-most (suc k) n))
+      (λ e. rw (failing-on k n e, add-suc, ← suc-add) (failing-max (suc k) n))
       (λ e. rw (failing-stop k n e) (omega arith))
       (true-or-false (ok k))
 
@@ -65,7 +65,7 @@ module _ (ok : ℕ → Bool) where
   failing-below k zero i h b = let b′ = rw failing-none at b in absurd (omega arith)
   failing-below k (suc n) i h b =
       ⊎-elim
-      (λ e. let b′ = rw (failing-past k n e) at b in
+      (λ e. let b′ = rw (failing-on k n e) at b in
       ⊎-elim
       (λ l. let s : i ≡ k = omega arith in rw s e)
       (λ l. failing-below (suc k) n i l b′)
@@ -78,7 +78,7 @@ module _ (ok : ℕ → Bool) where
   failing-fails k zero b = let b′ = rw (failing-none, add-zero) at b in absurd (omega arith)
   failing-fails k (suc n) b =
       ⊎-elim
-      (λ e. rw (failing-past k n e) (failing-fails (suc k) n (rw (failing-past k n e, add-suc, ← suc-add) at b)))
+      (λ e. rw (failing-on k n e) (failing-fails (suc k) n (rw (failing-on k n e, add-suc, ← suc-add) at b)))
       (λ e. rw (failing-stop k n e) e)
       (true-or-false (ok k))
 
@@ -86,7 +86,7 @@ module _ (ok : ℕ → Bool) where
   pub none-fails : (k n : ℕ) → ((i : ℕ) → k ≤ i → i < k + n → ok i ≡ true) → firstFailing ok k n ≡ k + n
   none-fails k zero h = failing-none k ∙ sym (add-zero k)
   none-fails k (suc n) h =
-      rw (failing-past k n (h k (le-refl k) (omega arith)), add-suc, ← suc-add)
+      rw (failing-on k n (h k (le-refl k) (omega arith)), add-suc, ← suc-add)
       (none-fails (suc k) n (λ i a b. h i (omega arith) (omega arith)))
 
   pub none-failed : (k n : ℕ) → firstFailing ok k n ≡ k + n → (i : ℕ) → k ≤ i → i < k + n → ok i ≡ true

@@ -2,7 +2,7 @@
 use Prim.Native.Nat.{ℕ, _+_, _^_, _≤_, _<_}
 use native.Mathlib.Nat.{zero-add, add-assoc, mod-eq-of-lt}
 use native.Mathlib.Omega.{arith}
-use mathlib.Core.Path.{_≡_, refl, sym, ap, _∙_}
+use mathlib.Core.Path.{_≡_, refl, _∙_}
 use mathlib.Core.List.{List, [], _∷_, _++_, append-assoc, append-nil}
 use lib.ListN.{length, drop, length-append}
 use lib.Seq.{sets}
@@ -11,7 +11,7 @@ use Rattle.records.specs.Fields.{bytes, field}
 use Rattle.records.specs.declared.Test.{Test}
 use Rattle.records.specs.declared.Test.the-variants.{Passed, Refused}
 use Rattle.records.specs.Refusals.{numberOf, placeOf}
-use Rattle.records.specs.Replies.{Field, fieldsBytes, size, replyFields, zeros, After, Gives, unwritten, written, answered, call}
+use Rattle.records.specs.Replies.{Field, fieldsBytes, size, replyFields, zeros, Gives, unwritten, written, answered, call}
 use Rattle.records.proofs.Fields.{length-bytes}
 use Rattle.records.proofs.Written.{sets-append, drop-after, field-in, field-spelled}
 
@@ -60,8 +60,8 @@ field-back before f others area h small =
     ∙ mod-eq-of-lt small
 
 -- the bytes past a reply are as they were
-pub past-fields : (fs : List Field) (area : List ℕ) → drop (size fs) (sets area 0 (fieldsBytes fs)) ≡ drop (size fs) area
-past-fields fs area = drop-after area 0 (fieldsBytes fs) (size fs) (rw length-fields (omega arith))
+pub after-fields : (fs : List Field) (area : List ℕ) → drop (size fs) (sets area 0 (fieldsBytes fs)) ≡ drop (size fs) area
+after-fields fs area = drop-after area 0 (fieldsBytes fs) (size fs) (rw length-fields (omega arith))
 
 -- ---- what a call leaves
 

@@ -10,7 +10,6 @@ use lib.ListN.{length, replicate, take, drop}
 use lib.Seq.{sets}
 use Rattle.records.specs.Fields.{HoldsField}
 use Rattle.records.specs.Verdicts.{Verdict, «open», met, broken, met-after, broken-after, verdictNumber}
-use Rattle.records.specs.declared.Test.the-variants.{Passed}
 use Rattle.records.specs.Replies.{four, eight, fieldsBytes, Gives}
 use Rattle.records.proofs.Replies.{field-back}
 use Rattle.periods.specs.Forms.{periodBytes, formOf}
@@ -19,7 +18,7 @@ use Rattle.periods.specs.Traces.{periodRecords, markedAt, periodsOf, recordAt}
 use Rattle.periods.proofs.Forms.{few-whole}
 use Rattle.periods.proofs.Traces.{length-periodsOf, trace-marks, record-period, record-test}
 use Rattle.states.specs.Limits.{maxPeriods}
-use Rattle.runner.specs.Calls.{beginReplyBytes, stepReplyBytes, stepReply, begin, step}
+use Rattle.runner.specs.Calls.{beginReplyBytes, stepReplyBytes, begin, step}
 use Rattle.runner.specs.StepCalls.{StepCall, stateAfterCall}
 use Rattle.contract.specs.Meaning.{Clause, only, bothParties, Decision, undecided, satisfied, violated, meaning}
 use Rattle.contract.specs.Verdicts.{decisionPeriod, blame, verdict}

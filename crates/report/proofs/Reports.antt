@@ -1,5 +1,5 @@
 -- Laws of the report: longer than the limit, refused by compile, refused by the trace's test, or followed.
-use Prim.Native.Nat.{ℕ, _+_, _*_, _-_, _^_, _≤_, _<_}
+use Prim.Native.Nat.{ℕ, _+_, _*_, _-_, _≤_, _<_}
 use native.Mathlib.Nat.{zero-add, le-refl}
 use native.Mathlib.Omega.{arith}
 use mathlib.Core.List.{List, [], _∷_}
@@ -33,7 +33,7 @@ use Rattle.contract.specs.Meaning.{Clause}
 use Rattle.reader.specs.Limits.{maxRecords}
 use Rattle.reader.specs.Reader.{Result, refused, taken, read, contractRecords, readTest}
 use Rattle.reader.proofs.Reader.{taken-count, taken-spells}
-use Rattle.reader.proofs.Places.{place-most}
+use Rattle.reader.proofs.Places.{place-max}
 use Rattle.image.specs.Limits.{bufferBytes}
 use Rattle.image.specs.Images.{imageFor}
 use Rattle.image.specs.Monitors.{Monitors}
@@ -42,7 +42,7 @@ use Rattle.report.specs.declared.Compiled.{Compiled}
 use Rattle.report.specs.Limits.{inputBytes, textBytes}
 use Rattle.report.specs.Texts.{refusedLine, Puts}
 use Rattle.report.specs.Split.{contractLength, contractOf, traceOf}
-use Rattle.report.specs.Reports.{lines, onTrace, onContract, report}
+use Rattle.report.specs.Reports.{onTrace, onContract, report}
 use Rattle.report.specs.Putting.{Compiling, Following, Followed}
 use Rattle.report.proofs.Split.{contract-within}
 
@@ -89,7 +89,7 @@ module _ {contract buffer later : List ℕ} {r : Compiled} (h : Compiling contra
 
   place-of : (f : Fault) (k : ℕ) → read contract ≡ refused f k → r .place ≡ k
   place-of f k i =
-      h .place-is ∙ rw (refused-reply f k i) (field-back (four (faultNumber f) ∷ four 0 ∷ []) (eight k) [] (replicate compileReplyBytes 0) (omega arith) (omega (arith, place-most contract f k i)))
+      h .place-is ∙ rw (refused-reply f k i) (field-back (four (faultNumber f) ∷ four 0 ∷ []) (eight k) [] (replicate compileReplyBytes 0) (omega arith) (omega (arith, place-max contract f k i)))
 
   usable : (c : Clause) → read contract ≡ taken c → Usable contract later (h .reply)
   usable c i = h .compiles .usable c i (le-refl compileReplyBytes) (roomy contract buffer e c i)

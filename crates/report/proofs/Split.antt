@@ -8,7 +8,7 @@ use lib.Dec.{eqb}
 use lib.ListN.{length}
 use borrow.Author.Tests.{eq-eqb, ne-eqb}
 use Rattle.records.specs.Refusals.{firstFailing}
-use Rattle.records.proofs.Refusals.{failing-most}
+use Rattle.records.proofs.Refusals.{failing-max}
 use Rattle.periods.specs.declared.Form.the-variants.{Short}
 use Rattle.periods.specs.Forms.{periodBytes}
 use Rattle.periods.specs.Traces.{wholeRecords, marksAre}
@@ -19,7 +19,7 @@ module _ (input : List ℕ) where
   -- the first with the mark is one of them, or past the last
   pub first-within : firstPeriod input ≤ wholeRecords Short input
   unfolding firstPeriod
-  first-within = omega (arith, failing-most (marksAre false Short input) 0 (wholeRecords Short input))
+  first-within = omega (arith, failing-max (marksAre false Short input) 0 (wholeRecords Short input))
 
   -- n whole six bytes, the first of which with the mark is number k, or k is n where none has it
   module _ (n k : ℕ) (e : n ≡ wholeRecords Short input) (f : k ≡ firstFailing (marksAre false Short input) 0 n) where

@@ -1,7 +1,7 @@
 -- The bytes of step's and run's replies. Document 01, "Calls" and "Replies that refuse".
 use Prim.Native.Nat.{ℕ}
 use mathlib.Core.Path.{_≡_, _∙_}
-use mathlib.Core.List.{List, [], _∷_, append-nil}
+use mathlib.Core.List.{List, [], append-nil}
 use lib.Seq.{sets}
 use Rattle.records.specs.Fields.{bytes}
 use Rattle.records.specs.declared.Test.{Test}

@@ -1,7 +1,7 @@
 -- A run ends as the steps of its records do. A refused one is refused as every step is, by the image or the state; at 0, by a length
 -- that leaves a record cut; or at the record whose step is refused first, except that a wrong mark anywhere (11) goes before the count
 -- (12).
-use Prim.Native.Nat.{ℕ, zero, suc, _+_, _*_, _-_, _%_, _≤_, _<_}
+use Prim.Native.Nat.{ℕ, zero, suc, _+_, _-_, _%_, _≤_, _<_}
 use native.Mathlib.Numerals.{add-one}
 use native.Mathlib.Omega.{arith}
 use mathlib.Core.Bool.{true, false, cond}

@@ -1,6 +1,5 @@
 -- What passed tests of a state and of its count show. Document 01, "Replies that refuse".
 use Prim.Native.Nat.{ℕ, _+_, _-_, _≤_}
-use native.Mathlib.Omega.{arith}
 use mathlib.Core.Path.{_≡_, refl}
 use mathlib.Core.Bool.{true}
 use mathlib.Core.List.{List}

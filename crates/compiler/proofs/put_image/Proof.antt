@@ -5,7 +5,7 @@ use mathlib.Core.Path.{_≡_}
 use Rattle.image.specs.Widths.{firstRow, laterRow, fixedRows}
 use Rattle.emitter.specs.Blocks.{Emitted}
 use Rattle.emitter.proofs.emit.Reads as emit-reads
-use Rattle.compiler.proofs.Whole.{begun, begun-rows, emits, end-room, image-is, count-is}
+use Rattle.compiler.proofs.Whole.{withFixedRows, fixed-rows-written, emits, end-room, image-is, count-is}
 use Rattle.compiler.proofs.put_image.Statement.{statement}
 use Rattle.compiler.proofs.put_image.Tie as tie
 use Rattle.compiler.proofs.put_image.Reads as reads
@@ -25,12 +25,12 @@ put-row-requires-3 c κs = search needs
 -- the fixed rows are written
 fixed : (c : lts.After-emit-arg (put-row-reads.Asked, put-row-reads.Learnt, emit-reads.Asked, emit-reads.Learnt, put-end-reads.Asked, put-end-reads.Learnt) reads.Pre reads.Post)
     → c .before .before .before .put-row3 .last .0
-    ≡ begun (c .before .before .before .before .before .before .before .before .before .before .before .before .before .before .before .args .image .now)
+    ≡ withFixedRows (c .before .before .before .before .before .before .before .before .before .before .before .before .before .before .before .args .image .now)
 fixed c =
     let third = c .before .before .before in
     let second = third .before .before .before .before in
     let first = second .before .before .before .before in
-    rw (third .put-row3 .ensures, second .put-row2 .ensures, first .put-row .ensures) (begun-rows _)
+    rw (third .put-row3 .ensures, second .put-row2 .ensures, first .put-row .ensures) (fixed-rows-written _)
 
 emit-requires : tie.Need-emit-requires
 emit-requires c κs = rw (fixed c) (emits _ _ _ (c .before .before .before .before .before .before .before .before .before .before .before .before .before .before .before .pre))
@@ -38,7 +38,7 @@ emit-requires c κs = rw (fixed c) (emits _ _ _ (c .before .before .before .befo
 -- what `emit` leaves
 emitted : (c : lts.After-emit (put-row-reads.Asked, put-row-reads.Learnt, emit-reads.Asked, emit-reads.Learnt, put-end-reads.Asked, put-end-reads.Learnt) reads.Pre reads.Post)
     → let s = c .before .before .before .before .before .before .before .before .before .before .before .before .before .before .before .before in
-    Emitted (s .args .contract .now) (s .args .n) (begun (s .args .image .now)) fixedRows firstRow laterRow (c .emit .last .1 .1 .0) (c .emit .result)
+    Emitted (s .args .contract .now) (s .args .n) (withFixedRows (s .args .image .now)) fixedRows firstRow laterRow (c .emit .last .1 .1 .0) (c .emit .result)
 emitted c = rw (fixed (c .before)) at (c .emit .ensures)
 
 put-end-requires : tie.Need-put-end-requires

@@ -16,7 +16,7 @@ use Rattle.emitter.specs.Blocks.{basesOf, wiresOf, Emitted}
 use Rattle.emitter.specs.Premises.{RecordRows}
 use Rattle.emitter.proofs.emit.Reads as emit
 use Rattle.emitter.proofs.emit.Kinds as emit-kinds
-use Rattle.emitter.proofs.Emitting.{Reads, Written, written-no, written-one, written-two, emitted}
+use Rattle.emitter.proofs.Emitting.{RecordRead, Written, written-no, written-one, written-two, emitted}
 use Rattle.emitter.proofs.Room.{some-record, few-inside, wires-small, right-emits, left-emits, record-rows}
 use Rattle.emitter.proofs.+emit.Lts-emit as emit-lts
 use Rattle.emitter.proofs.last_record.Reads as last-record-reads
@@ -59,7 +59,7 @@ module _ (t : ℕ) where
   -- the last record, its plan and how many operands it has
   reads : (p : emit-lts.After-struct-known (callees t) (emit-at t) emit.Post)
       → let a = p .before .before .before .before .before .before .args in
-      Reads (a .contract .now) (a .n) (p .before .before .before .last-record .result) (p .before .operands .result) (p .before .before .plan-of .result)
+      RecordRead (a .contract .now) (a .n) (p .before .before .before .last-record .result) (p .before .operands .result) (p .before .before .plan-of .result)
   reads p =
       record {
         bytes-are = p .before .before .before .last-record .ensures;

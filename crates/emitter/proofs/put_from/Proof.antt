@@ -1,14 +1,11 @@
 -- `emitter::put_from` meets its contract: after j turns the first j of the rows are written.
-use Prim.Native.Nat.{_+_, _-_, _*_, _≤_}
+use Prim.Native.Nat.{_+_, _-_, _≤_}
 use native.Mathlib.Numerals.{add-one}
 use native.Mathlib.Omega.{arith}
 use mathlib.Core.Path.{_≡_, sym, ap, _∙_}
 use borrow.Author.Needs.{needs}
 use mathlib.Core.List.{map}
 use lib.ListN.{getD, length-map, List·getD-map}
-use lib.Seq.{sets}
-use Rattle.layout.specs.Limits.{rowBytes}
-use Rattle.layout.specs.Rows.{rowRecord}
 use Rattle.emitter.specs.declared.TableRow.{TableRow}
 use Rattle.emitter.specs.Rows.{unpacked, valueAt, tableRows, writtenRows}
 use Rattle.emitter.proofs.Writing.{length-written, written-none, noRow, written-next}
@@ -69,8 +66,7 @@ loop-again c =
       rw (add-one (l .j)) (written-next (a .bases .now) (map unpacked (a .table .now)) (a .from) (a .image .now) (l .image) (c .before .before .put-row .last .0) (a .at) (l .j)
           (x .result) (y .result) (rw length-map (omega (arith, h .listed))) (l .inv .1) (x .ensures ∙ ap (λ (q : TableRow). valueAt (a .bases .now) (q .x)) r)
           (y .ensures ∙ ap (λ (q : TableRow). valueAt (a .bases .now) (q .y)) r)
-          (c .before .before .put-row .ensures
-          ∙ ap (λ (q : TableRow). sets (l .image) (rowBytes * (a .at + l .j)) (rowRecord (q .kind) (x .result) (y .result))) r)),
+          (rw (← r) (c .before .before .put-row .ensures))),
     )
 
 same-length : tie.Need-same-length Inv-loop μ-loop

@@ -1,9 +1,9 @@
 -- `emitter::put_rows` meets its contract: the rows stand in one of the two tables.
 use native.Mathlib.Omega.{arith}
 use mathlib.Core.Logic.{⊎-elim}
-use mathlib.Core.Path.{sym, ap, _∙_}
+use mathlib.Core.Path.{sym}
 use borrow.Author.Needs.{needs}
-use Rattle.emitter.specs.Rows.{tableRows, writtenRows}
+use Rattle.emitter.specs.Rows.{tableRows}
 use Rattle.emitter.proofs.Writing.{written-none, in-leaves, in-nodes}
 use Rattle.emitter.proofs.put_rows.Statement.{statement}
 use Rattle.emitter.proofs.put_rows.Tie as tie
@@ -32,7 +32,7 @@ returns-2 : tie.Need-returns-2
 returns-2 c =
     let a = c .before .before .before .before .before .before .before .args in
     let i = ⊎-elim (λ i. i) (λ i. absurd (omega arith)) (c .before .before .before .before .before .before .before .pre .in-one) in
-    c .before .before .put-leaf-rows .ensures ∙ ap (writtenRows (a .image .now) (a .at)) (sym (in-leaves (a .bases .now) (a .from) (a .count) i))
+    rw (in-leaves (a .bases .now) (a .from) (a .count) i) (c .before .before .put-leaf-rows .ensures)
 
 put-node-rows-requires : tie.Need-put-node-rows-requires
 put-node-rows-requires c κs =
@@ -51,7 +51,7 @@ same-length-2 c = search needs
 returns-3 : tie.Need-returns-3
 returns-3 c =
     let a = c .before .before .before .before .before .before .before .args in
-    c .before .before .put-node-rows .ensures ∙ ap (writtenRows (a .image .now) (a .at)) (sym (in-nodes (a .bases .now) (a .from) (a .count) (omega arith)))
+    rw (in-nodes (a .bases .now) (a .from) (a .count) (omega arith)) (c .before .before .put-node-rows .ensures)
 
 pub put-rows-spec : {M : Type 1} → statement M
 put-rows-spec =

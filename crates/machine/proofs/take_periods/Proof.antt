@@ -1,5 +1,5 @@
 -- `machine::take_periods` meets its contract: after k turns the state stands for what the first k periods leave.
-use Prim.Native.Nat.{_-_, _*_, _≤_}
+use Prim.Native.Nat.{_-_, _≤_}
 use native.Mathlib.Numerals.{add-one}
 use native.Mathlib.Omega.{arith}
 use mathlib.Core.Bool.{true}

@@ -1,4 +1,4 @@
--- `periods::bit` meets its contract.
+-- `periods::bit` meets its contract: a shift and a mask of 1.
 use borrow.Author.Needs.{needs}
 use Rattle.periods.proofs.Periods.{bit-shift}
 use Rattle.periods.proofs.bit.Statement.{statement}

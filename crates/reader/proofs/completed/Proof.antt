@@ -1,4 +1,4 @@
--- `reader::completed` meets its contract.
+-- `reader::completed` meets its contract, kind by kind.
 use borrow.Author.Needs.{needs}
 use borrow.Author.Tests.{eq-eqb, ne-eqb, le-leb, lt-leb}
 use native.Mathlib.Omega.{arith}

@@ -1,4 +1,4 @@
--- `reader::contract_records` meets its contract.
+-- `reader::contract_records` meets its contract by the length.
 use mathlib.Core.Path.{refl}
 use Rattle.reader.specs.Reader.{contractRecords}
 use Rattle.reader.proofs.contract_records.Statement.{statement}

@@ -1,4 +1,4 @@
--- `reader::empty_under` meets its contract.
+-- `reader::empty_under` meets its contract, kind by kind.
 use borrow.Author.Tests.{ne-eqb}
 use Rattle.reader.specs.Codes.{emptyUnder}
 use Rattle.reader.proofs.empty_under.Statement.{statement}

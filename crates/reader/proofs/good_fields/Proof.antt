@@ -1,4 +1,4 @@
--- `reader::good_fields` meets its contract.
+-- `reader::good_fields` meets its contract: the three ranges, one after the other.
 use borrow.Author.Needs.{needs}
 use borrow.Author.Tests.{not-true, not-false}
 use mathlib.Core.Path.{sym, _∙_}

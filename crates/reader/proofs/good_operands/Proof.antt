@@ -1,4 +1,4 @@
--- `reader::good_operands` meets its contract.
+-- `reader::good_operands` meets its contract, by how many there are.
 use borrow.Author.Needs.{needs}
 use borrow.Author.Tests.{eq-eqb, ne-eqb}
 use Rattle.reader.specs.Codes.{goodOperands}

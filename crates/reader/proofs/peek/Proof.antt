@@ -1,4 +1,4 @@
--- `reader::peek` meets its contract.
+-- `reader::peek` meets its contract, within the stack and beyond it.
 use borrow.Author.Needs.{needs}
 use mathlib.Core.Path.{sym}
 use lib.ListN.{List·getD-eq-default}

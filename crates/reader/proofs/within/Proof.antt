@@ -1,4 +1,4 @@
--- `reader::within` meets its contract.
+-- `reader::within` meets its contract: the two bounds, one after the other.
 use borrow.Author.Tests.{le-leb, lt-leb}
 use Rattle.reader.proofs.within.Statement.{statement}
 use Rattle.reader.proofs.within.Tie as tie

@@ -2,6 +2,8 @@
 use borrow.Author.Needs.{needs}
 use native.Mathlib.Omega.{arith}
 use lib.Dec.{lit<}
+use Rattle.records.specs.declared.Fault.the-variants.{LongInput}
+use Rattle.records.specs.Refusals.{faultNumber}
 use Rattle.report.proofs.Texts.{short-refused}
 use Rattle.report.proofs.Reports.{longer, no-longer}
 use Rattle.report.proofs.put_report.Statement.{statement}
@@ -14,7 +16,7 @@ cast-put-refused : tie.Need-cast-put-refused
 cast-put-refused c = search needs
 
 put-refused-requires : tie.Need-put-refused-requires
-put-refused-requires c κs = rw (c .fault-number .ensures) (omega (arith, short-refused 13 0 (lit< tt) (lit< tt)))
+put-refused-requires c κs = rw (c .fault-number .ensures) (omega (arith, short-refused (faultNumber LongInput) 0 (lit< tt) (lit< tt)))
 
 returns : tie.Need-returns
 returns c = rw (longer _ (c .before .before .before .if1 .taken)) (rw (c .before .fault-number .ensures) at (c .put-refused .ensures))

@@ -41,7 +41,7 @@ row-count-requires c κs = let g = passed-good _ (passed c) in omega (arith, g .
 add-if1 : tie.Need-add-if1
 add-if1 c =
     let g = passed-good _ (passed (c .before)) in
-    omega (arith, g .most, c .row-count .ensures)
+    omega (arith, g .few-rows, c .row-count .ensures)
 
 returns-2 : tie.Need-returns-2
 unfolding beginTest

@@ -41,7 +41,7 @@ row-count-requires c κs = let g = passed-good _ (passed c) in omega (arith, g .
 state-test-requires : tie.Need-state-test-requires
 state-test-requires c κs =
     let g = passed-good _ (passed (c .before)) in
-    omega (arith, g .most, c .row-count .ensures)
+    omega (arith, g .few-rows, c .row-count .ensures)
 
 returns-2 : tie.Need-returns-2
 unfolding readyTest
