@@ -3,17 +3,18 @@ use Prim.Native.Nat.{ℕ, _+_, _*_, _^_, _≤_, _<_}
 use native.Mathlib.Nat.{zero-add}
 use native.Mathlib.Omega.{arith}
 use mathlib.Core.Bool.{true}
-use mathlib.Core.List.{List, [], _∷_}
+use mathlib.Core.List.{List, [], _∷_, _++_}
 use mathlib.Core.Path.{_≡_, refl}
 use lib.Dec.{leb, lit<}
 use lib.ListN.{length, take}
 use lib.Seq.{sets}
 use borrow.Author.Tests.{le-leb, leb-true}
+use Rattle.records.specs.declared.Fault.{Fault}
 use Rattle.records.specs.declared.Fault.the-variants.{ShortBuffer}
 use Rattle.records.specs.declared.Test.the-variants.{Passed}
-use Rattle.records.specs.Refusals.{require, onlyFor}
-use Rattle.records.specs.Replies.{four, eight, fieldsBytes, replyFields}
-use Rattle.records.proofs.Refusals.{first-passed, require-passed, only-require, only-append}
+use Rattle.records.specs.Refusals.{require}
+use Rattle.records.specs.Replies.{four, eight, alone, replyOf}
+use Rattle.records.proofs.Refusals.{first-passed, require-passed, onlyFor, only-require, only-append}
 use Rattle.records.proofs.Replies.{field-back, gives-no-room, gives-refused, gives-passed}
 use Rattle.records.proofs.Written.{take-through}
 use Rattle.layout.specs.Limits.{rowBytes}
@@ -21,15 +22,15 @@ use Rattle.layout.specs.Images.{rowCount}
 use Rattle.layout.proofs.Images.{GoodImage, passed-good}
 use Rattle.contract.specs.Meaning.{Clause}
 use Rattle.reader.specs.Limits.{maxRecords}
-use Rattle.reader.specs.Reader.{taken, read, contractRecords, readTest, readFaults}
-use Rattle.reader.proofs.Places.{read-only}
+use Rattle.reader.specs.Reader.{taken, read, contractRecords, readTest}
+use Rattle.reader.proofs.Places.{readFaults, read-only}
 use Rattle.reader.proofs.Answers.{test-passed}
 use Rattle.image.specs.Limits.{bufferBytes}
 use Rattle.image.specs.Images.{imageFor}
 use Rattle.image.proofs.Images.{right-for, sized-for}
 use Rattle.image.proofs.Monitors.{monitors}
 use Rattle.emitter.specs.Premises.{Writes}
-use Rattle.compiler.specs.Calls.{compileTest, compileFaults, compileReplyBytes, compile, Usable, Compiles}
+use Rattle.compiler.specs.Calls.{compileTest, compileReplyBytes, compile, Usable, Compiles}
 
 -- ---- the image and the reply in their places
 
@@ -44,7 +45,7 @@ module _ (contract buffer reply : List ℕ) (c : Clause) (e : read contract ≡ 
       let few = sized-for contract c e .rows-allowed in
       rw (← good .count) (rw zero-add at (take-through buffer 0 (imageFor contract) (omega (arith, good .count))))
 
-  usable : Usable contract (sets buffer 0 (imageFor contract)) (sets reply 0 (fieldsBytes (replyFields Passed (rowCount (imageFor contract)) [])))
+  usable : Usable contract (sets buffer 0 (imageFor contract)) (sets reply 0 (replyOf Passed (alone (rowCount (imageFor contract)))))
   usable =
       let n : ℕ = rowCount (imageFor contract) in
       let small : n < 256 ^ 4 = omega (arith, good .few-rows) in
@@ -60,6 +61,9 @@ module _ (contract buffer reply : List ℕ) (c : Clause) (e : read contract ≡ 
 
 -- ---- the tests
 
+abbrev pub compileFaults : List Fault
+compileFaults = readFaults ++ (ShortBuffer ∷ [])
+
 module _ (contract buffer : List ℕ) where
   -- a contract that is taken, with a buffer that does not meet 8, passes them
   passes : (c : Clause) → read contract ≡ taken c → bufferBytes (contractRecords contract) ≤ length buffer → compileTest contract buffer ≡ Passed
@@ -74,7 +78,7 @@ module _ (contract buffer : List ℕ) where
       let t = first-passed (readTest contract) (require room ShortBuffer 0) e in
       record { taken = test-passed contract (t .0); room = leb-true (bufferBytes (contractRecords contract)) (length buffer) (require-passed room ShortBuffer 0 (t .1)) }
 
-  -- no other faults are given
+  -- no test gives another fault
   pub compile-only : onlyFor compileFaults (compileTest contract buffer) ≡ true
   unfolding compileTest
   compile-only =
@@ -89,14 +93,14 @@ few-records contract e = let k = test-passed contract e in omega (arith, k .coun
 module _ (contract buffer reply : List ℕ) where
   pub no-room : length reply < compileReplyBytes → Compiles contract buffer reply 0 buffer reply
   unfolding compile
-  no-room h = record { gives = gives-no-room _ _ _ _ _ _ h; usable = λ c e r b. absurd (omega arith) }
+  no-room h = record { gives = gives-no-room _ _ _ _ _ h; usable = λ c e r b. absurd (omega arith) }
 
   pub turned-away : compileReplyBytes ≤ length reply → ¬ (compileTest contract buffer ≡ Passed) → (r : List ℕ)
-      → r ≡ sets reply 0 (fieldsBytes (replyFields (compileTest contract buffer) 0 [])) → Compiles contract buffer reply 1 buffer r
+      → r ≡ sets reply 0 (replyOf (compileTest contract buffer) (alone 0)) → Compiles contract buffer reply 1 buffer r
   unfolding compile
-  turned-away h e r i = record { gives = gives-refused _ _ _ _ _ _ h e r i; usable = λ c t j b. absurd (e (passes contract buffer c t b)) }
+  turned-away h e r i = record { gives = gives-refused _ _ _ _ _ h e r i; usable = λ c t j b. absurd (e (passes contract buffer c t b)) }
 
   pub served : compileReplyBytes ≤ length reply → compileTest contract buffer ≡ Passed → (l r : List ℕ) → l ≡ sets buffer 0 (imageFor contract)
-      → r ≡ sets reply 0 (fieldsBytes (replyFields Passed (rowCount (imageFor contract)) [])) → Compiles contract buffer reply 1 l r
+      → r ≡ sets reply 0 (replyOf Passed (alone (rowCount (imageFor contract)))) → Compiles contract buffer reply 1 l r
   unfolding compile
-  served h e l r i j = record { gives = gives-passed _ _ _ _ _ _ h e l r i j; usable = λ c t k b. rw (i, j) (usable contract buffer reply c t k b) }
+  served h e l r i j = record { gives = gives-passed _ _ _ _ _ h e l r i j; usable = λ c t k b. rw (i, j) (usable contract buffer reply c t k b) }

@@ -1,23 +1,21 @@
 -- What compile leaves in the bytes that it was lent. Document 01, "Calls" and "Replies that refuse".
 -- The contract is lent to be read only, so it is afterwards as it was; the image buffer is the one buffer beside the reply area.
 use Prim.Native.Nat.{ℕ, _+_, _*_, _≤_}
-use mathlib.Core.List.{List, [], _∷_, _++_}
+use mathlib.Core.List.{List}
 use mathlib.Core.Path.{_≡_}
 use lib.Dec.{leb}
 use lib.ListN.{length, take}
 use lib.Seq.{sets}
-use Rattle.records.specs.Fields.{field}
-use Rattle.records.specs.declared.Fault.{Fault}
 use Rattle.records.specs.declared.Fault.the-variants.{ShortBuffer}
 use Rattle.records.specs.declared.Test.{Test}
 use Rattle.records.specs.declared.Test.the-variants.{Passed}
 use Rattle.records.specs.Refusals.{require, firstOf}
-use Rattle.records.specs.Replies.{After, Gives, call}
+use Rattle.records.specs.Replies.{alone, replyBytes, After, Gives, call, numberIn, ownIn, placeIn}
 use Rattle.layout.specs.Limits.{rowBytes}
 use Rattle.layout.specs.Images.{rowCount}
 use Rattle.layout.specs.Refusals.{imageTest}
 use Rattle.contract.specs.Meaning.{Clause}
-use Rattle.reader.specs.Reader.{taken, read, contractRecords, readTest, readFaults}
+use Rattle.reader.specs.Reader.{taken, read, contractRecords, readTest}
 use Rattle.image.specs.Limits.{allowedRows, bufferBytes}
 use Rattle.image.specs.Images.{imageFor}
 use Rattle.image.specs.Monitors.{Monitors}
@@ -27,27 +25,23 @@ unfoldable pub compileTest : (contract buffer : List ℕ) → Test
 compileTest contract buffer =
     firstOf (readTest contract) (require (leb (bufferBytes (contractRecords contract)) (length buffer)) ShortBuffer 0)
 
--- the faults that these tests can give
-abbrev pub compileFaults : List Fault
-compileFaults = readFaults ++ (ShortBuffer ∷ [])
-
--- its reply: number, row count, place
+-- the bytes of its reply: number, row count, place
 abbrev pub compileReplyBytes : ℕ
-compileReplyBytes = 16
+compileReplyBytes = replyBytes (alone 0)
 
 -- "Compile gives a row count; the image is the first 8 × (count + 1) bytes of its buffer, and those beyond keep their old values."
 unfoldable pub compile : (contract buffer reply : List ℕ) → After (List ℕ)
 compile contract buffer reply =
     let image = imageFor contract in
-    call (compileTest contract buffer) (rowCount image) [] buffer (sets buffer 0 image) reply
+    call (compileTest contract buffer) (alone (rowCount image)) buffer (sets buffer 0 image) reply
 
 -- What a host may rely on in the bytes at exit: the reply gives number 0 and a row count, and the first 8 × (count + 1) bytes of the buffer are a
 -- good image that monitors the contract, with at most 32 × records + 64 rows.
 pub record Usable (contract buffer reply : List ℕ) : Type 0 where
   pub count : ℕ
-  pub number-is : field reply 0 4 ≡ 0
-  pub count-is : field reply 4 4 ≡ count
-  pub place-is : field reply 8 8 ≡ 0
+  pub number-is : numberIn reply ≡ 0
+  pub count-is : ownIn reply ≡ count
+  pub place-is : placeIn reply ≡ 0
   pub few : count ≤ allowedRows (contractRecords contract)
   pub good : imageTest (take (rowBytes * (count + 1)) buffer) ≡ Passed
   pub monitors : Monitors contract (take (rowBytes * (count + 1)) buffer)

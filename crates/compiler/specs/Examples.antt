@@ -6,7 +6,7 @@ use Rattle.image.specs.Images.{imageFor}
 use Rattle.image.specs.Examples.{area}
 use Rattle.records.specs.declared.Fault.the-variants.{NotOneClause, ShortBuffer}
 use Rattle.records.specs.declared.Test.the-variants.{Passed, Refused}
-use Rattle.records.specs.Replies.{replyFields, unwritten, written}
+use Rattle.records.specs.Replies.{alone, unwritten, written}
 use Rattle.compiler.specs.Calls.{compileReplyBytes, compile}
 
 -- a contract of one duty, and of one expression
@@ -19,8 +19,8 @@ anyBytes = 0x54 ∷ 0x43 ∷ 0x10 ∷ 0x00 ∷ 0x00 ∷ 0x00 ∷ []
 pub record CompileVectors : Type 0 where
   -- the eleven rows and the end record are 96 bytes; the buffer's other bytes are as they were
   pub taken : compile dutyBytes (area 776) (area compileReplyBytes)
-      ≡ written (imageFor dutyBytes ++ area 680) (area compileReplyBytes) (replyFields Passed 11 [])
-  pub short : compile dutyBytes (area 775) (area compileReplyBytes) ≡ written (area 775) (area compileReplyBytes) (replyFields (Refused ShortBuffer 0) 0 [])
+      ≡ written (imageFor dutyBytes ++ area 680) (area compileReplyBytes) Passed (alone 11)
+  pub short : compile dutyBytes (area 775) (area compileReplyBytes) ≡ written (area 775) (area compileReplyBytes) (Refused ShortBuffer 0) (alone 0)
   -- 6 is tested before 8
-  pub clause-first : compile anyBytes [] (area compileReplyBytes) ≡ written [] (area compileReplyBytes) (replyFields (Refused NotOneClause 1) 0 [])
+  pub clause-first : compile anyBytes [] (area compileReplyBytes) ≡ written [] (area compileReplyBytes) (Refused NotOneClause 1) (alone 0)
   pub no-room : compile dutyBytes (area 776) (area 15) ≡ unwritten (area 776) (area 15)

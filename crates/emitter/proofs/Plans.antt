@@ -16,7 +16,7 @@ use Rattle.contract.specs.Meaning.{Clause}
 use Rattle.reader.specs.Table.{Sort, clause, expression, Kind, duty, ban, power, both, then, repair, repeat, when, until, any, tries, idle, succeeds, fails, seq, or, star, line}
 use Rattle.reader.specs.Trees.{Tree, Trees, Fields, partyNamed, node}
 use Rattle.reader.specs.Codes.{completed}
-use Rattle.reader.specs.Spelling.{operator, treeRecords}
+use Rattle.reader.specs.Spelling.{plainRecord, treeRecords}
 use Rattle.reader.proofs.Codes.{is-empty}
 use Rattle.reader.proofs.Fields.{recordOf}
 use Rattle.image.specs.Widths.{width, operandsFrom, afterExpression, afterClause}
@@ -97,9 +97,9 @@ nodeBases k f ts m b S K =
 
 -- two lists of rows are equal if they are up to an operator's operands' rows, and from there on
 equal-parts : (k : Kind) {xs ys : List RowNumbers}
-    → let n = width (operator k) .before in
+    → let n = width (plainRecord k) .before in
     take n xs ≡ take n ys → drop n xs ≡ drop n ys → xs ≡ ys
-equal-parts k {xs} {ys} p q = let n = width (operator k) .before in sym (take-append-drop n xs) ∙ rw (p, q) (take-append-drop n ys)
+equal-parts k {xs} {ys} p q = let n = width (plainRecord k) .before in sym (take-append-drop n xs) ∙ rw (p, q) (take-append-drop n ys)
 
 -- rows that others follow
 abbrev Followed : (List Row → List Row) → Type 0

@@ -2,7 +2,7 @@
 use Prim.Native.Nat.{ℕ}
 use Rattle.reader.specs.Table.{Kind, duty, ban, power, both, then, repair, repeat, when, until, any, tries, idle, succeeds, fails, seq, or, star}
 use Rattle.reader.specs.Trees.{Record}
-use Rattle.reader.specs.Spelling.{operator}
+use Rattle.reader.specs.Spelling.{plainRecord}
 use Rattle.image.specs.Widths.{width, _⊹_}
 use Rattle.emitter.specs.declared.PlanLine.{PlanLine}
 use Rattle.emitter.specs.declared.Plan.{Plan}
@@ -12,7 +12,7 @@ use Rattle.emitter.specs.Rows.{ZERO, S, K, B, N, LONE, LTWO, RSAT, RONE,
 -- and what its block gives out
 abbrev plan : Kind → (from start go keep sat one two : ℕ) → PlanLine
 plan j from s k l x y z =
-    let w = width (operator j) in
+    let w = width (plainRecord j) in
     record { 0 = from; 1 = w .before; 2 = w .after; 3 = s; 4 = k; 5 = l; 6 = x; 7 = y; 8 = z }
 
 abbrev pub planLine : Kind → PlanLine

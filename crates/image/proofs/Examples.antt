@@ -5,7 +5,7 @@ use Rattle.records.specs.Marks.{marked}
 use Rattle.records.specs.Refusals.{firstFailing}
 use Rattle.periods.specs.Forms.{formOf}
 use Rattle.periods.specs.Periods.{tries, bit, periodFrom}
-use Rattle.periods.specs.Traces.{wholeRecords, markedAs, periodAt, marksTest, recordTest}
+use Rattle.periods.specs.Traces.{wholePeriods, markedAs, periodAt, marksTest, periodTest}
 use Rattle.layout.specs.Rows.{rowOf, encode, decode}
 use Rattle.layout.specs.Images.{imageBytes, rowsBytes, endBytes, rowCount, rowsOf, imageOf, goodLength, goodRowAt, goodEnd}
 use Rattle.layout.specs.Refusals.{imageTest}
@@ -51,5 +51,5 @@ unfolding
     replies repliesFrom read Reader.goodLength Reader.contractRecords readRecords readRecord numbered kindOf goodFields operandsOf node imageFor image
     rowsFor clauseRows outputsOf afterClause imageBytes rowsBytes endBytes encode begin step call beginTest stepTest readyTest fieldsBytes
     imageTest goodLength rowCount firstFailing goodRowAt goodEnd decode rowOf imageOf rowsOf stateTest stateOf stateBytes sound allAtMost allZero
-    recordTest marksTest formOf wholeRecords markedAs countTest afterPeriod valuesAfter newValues computed counted periodAt periodFrom tries bit marked bytes field value
+    periodTest marksTest formOf wholePeriods markedAs countTest afterPeriod valuesAfter newValues computed counted periodAt periodFrom tries bit marked bytes field value
 watch-vector = record { replied = refl }

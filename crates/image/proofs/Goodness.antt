@@ -15,7 +15,7 @@ use Rattle.contract.specs.Meaning.{duty, ban, power, Clause, literal, both, the
 use Rattle.reader.specs.Limits.{maxRecords}
 use Rattle.reader.specs.Table
 use Rattle.reader.specs.Trees.{Record}
-use Rattle.reader.specs.Spelling.{operator, atomRecord, literalRecord, records, ExpressionInRange, InRange}
+use Rattle.reader.specs.Spelling.{plainRecord, atomRecord, literalRecord, records, ExpressionInRange, InRange}
 use Rattle.reader.proofs.Fields.{allowed-action}
 use Rattle.image.specs.Widths.{width, _⊹_, inside, fixedRows, afterExpression, afterClause}
 use Rattle.image.specs.Blocks.{joinRow, endRow, expressionRows, outputsOf, clauseRows}
@@ -115,14 +115,14 @@ module _ (n : ℕ) where
       let inL = inside-expression l (afterExpression r (inside Table.seq b)) S (omega arith) in
       let whole = inside-ifEmpty l S b (h .begins) in
       let ended = inside-ifEmpty r _ _ (inL .end-inside) in
-      before (operator Table.seq) (omega arith) (good-expression r (i .1) (omega arith) (good-expression l (i .0) (omega arith) (after (operator Table.seq) (omega arith) g)))
+      before (plainRecord Table.seq) (omega arith) (good-expression r (i .1) (omega arith) (good-expression l (i .0) (omega arith) (after (plainRecord Table.seq) (omega arith) g)))
   good-expression (or l r) {b} {S} i h g =
       let inR = inside-expression r (inside Table.or b) S (h .begins) in
       let inL = inside-expression l (afterExpression r (inside Table.or b)) S (omega arith) in
-      good-expression r (i .1) (omega arith) (good-expression l (i .0) (omega arith) (after (operator Table.or) (omega arith) g))
+      good-expression r (i .1) (omega arith) (good-expression l (i .0) (omega arith) (after (plainRecord Table.or) (omega arith) g))
   good-expression (star e) {b} i h g =
       let parts = inside-expression e (inside Table.star b) (joinRow b) (omega arith) in
-      before (operator Table.star) (omega arith) (good-expression e i (omega arith) (after (operator Table.star) (omega arith) g))
+      before (plainRecord Table.star) (omega arith) (good-expression e i (omega arith) (after (plainRecord Table.star) (omega arith) g))
 
   good-clause : (c : Clause) {b S K : ℕ} {rest : List Row} → InRange c → InPlace n b S K (afterClause c b)
       → GoodFrom n (afterClause c b) rest → GoodFrom n b (clauseRows c b S K rest)
@@ -138,26 +138,26 @@ module _ (n : ℕ) where
       before (literalRecord power p a) (omega arith) g
   good-clause (both l r) {b} i h g =
       inside-two l r (inside Table.both b) (omega arith) (λ inR inL.
-      before (operator Table.both) (omega arith) (good-clause r (i .1) (omega arith) (good-clause l (i .0) (omega arith) (after (operator Table.both) (omega arith) g))))
+      before (plainRecord Table.both) (omega arith) (good-clause r (i .1) (omega arith) (good-clause l (i .0) (omega arith) (after (plainRecord Table.both) (omega arith) g))))
   good-clause (then l r) {b} i h g =
       inside-two l r (inside Table.then b) (omega arith) (λ inR inL.
-      before (operator Table.then) (omega arith) (good-clause r (i .1) (omega arith) (good-clause l (i .0) (omega arith) (after (operator Table.then) (omega arith) g))))
+      before (plainRecord Table.then) (omega arith) (good-clause r (i .1) (omega arith) (good-clause l (i .0) (omega arith) (after (plainRecord Table.then) (omega arith) g))))
   good-clause (repair l r) {b} i h g =
       inside-two l r (inside Table.repair b) (omega arith) (λ inR inL.
-      before (operator Table.repair) (omega arith) (good-clause r (i .1) (omega arith) (good-clause l (i .0) (omega arith) (after (operator Table.repair) (omega arith) g))))
+      before (plainRecord Table.repair) (omega arith) (good-clause r (i .1) (omega arith) (good-clause l (i .0) (omega arith) (after (plainRecord Table.repair) (omega arith) g))))
   good-clause (repeat c) {b} i h g =
       let parts = inside-clause c (inside Table.repeat b) (omega arith) in
-      before (operator Table.repeat) (omega arith) (good-clause c i (omega arith) g)
+      before (plainRecord Table.repeat) (omega arith) (good-clause c i (omega arith) g)
   good-clause (when e c) {b} {S} i h g =
       let inR = inside-clause c (inside Table.when b) (omega arith) in
       let inL = inside-expression e (afterClause c (inside Table.when b)) S (omega arith) in
-      before (operator Table.when) (omega arith) (good-clause c (i .1) (omega arith) (good-expression e (i .0) (omega arith) (after (operator Table.when) (omega arith) g)))
+      before (plainRecord Table.when) (omega arith) (good-clause c (i .1) (omega arith) (good-expression e (i .0) (omega arith) (after (plainRecord Table.when) (omega arith) g)))
   good-clause (until c e) {b} {S} i h g =
       let inR = inside-expression e (inside Table.until b) S (omega arith) in
       let inL = inside-clause c (afterExpression e (inside Table.until b)) (omega arith) in
-      before (operator Table.until) (omega arith)
+      before (plainRecord Table.until) (omega arith)
       (good-expression e {rest = clauseRows c (afterExpression e (inside Table.until b)) S (b ⊹ 2) _} (i .1) (omega arith)
-      (good-clause c (i .0) (omega arith) (after (operator Table.until) (omega arith) g)))
+      (good-clause c (i .0) (omega arith) (after (plainRecord Table.until) (omega arith) g)))
 
 -- ---- the image
 

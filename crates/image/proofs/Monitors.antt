@@ -6,18 +6,18 @@ use mathlib.Core.Bool.{true, false}
 use mathlib.Core.List.{List, [], _∷_, _++_}
 use mathlib.Core.Logic.{_⊎_, inl, inr, ⊎-elim}
 use mathlib.Core.Path.{_≡_, refl, sym, ap, _∙_}
-use borrow.Author.Tests.{eq-eqb, le-leb, lt-leb, lt-ltb, le-ltb, ltb-true, eqb-false}
+use borrow.Author.Tests.{eq-eqb, le-leb, lt-leb, lt-ltb, le-ltb, ltb-true}
 use lib.Dec.{ltb}
 use lib.ListN.{length, replicate, length-append}
 use Rattle.records.specs.declared.Fault.the-variants.{FullCount}
 use Rattle.records.specs.declared.Test.the-variants.{Passed}
-use Rattle.records.specs.Refusals.{numberOf, require}
+use Rattle.records.specs.Refusals.{require}
 use Rattle.records.proofs.Numbers.{lt-or-le}
-use Rattle.records.proofs.Refusals.{true-or-false, first-passed, require-passed}
+use Rattle.records.proofs.Refusals.{true-or-false, first-passed, require-passed, passed-not}
 use Rattle.records.specs.Replies.{unwritten, written}
 use Rattle.records.proofs.Replies.{call-no-room, call-refused}
 use Rattle.periods.specs.Periods.{Period}
-use Rattle.periods.specs.Traces.{periodAt, recordTest}
+use Rattle.periods.specs.Traces.{periodAt, periodTest}
 use Rattle.layout.specs.Images.{rowCount, imageOf}
 use Rattle.states.specs.Limits.{headBytes, maxPeriods}
 use Rattle.states.specs.States.{State, stateOf, stateBytes}
@@ -27,7 +27,7 @@ use Rattle.states.specs.Verdicts as Shown
 use Rattle.machine.specs.Machine.{afterPeriod, afterPeriods}
 use Rattle.machine.proofs.Machine.{after-snoc, periods-afterPeriods}
 use Rattle.runner.specs.Refusals.{beginTest, readyTest, stepTest}
-use Rattle.runner.specs.Calls.{beginReplyBytes, stepReplyBytes, answer, refusal, begin, step}
+use Rattle.runner.specs.Calls.{beginReplyBytes, stepReplyBytes, stepAnswer, answer, begin, step}
 use Rattle.runner.specs.StepCalls as StepCalls
 use Rattle.runner.specs.StepCalls.{StepCall, stateAfterCall, stateAfter}
 use Rattle.runner.proofs.StepCalls.{accepted-passed, accepted-step, refused-step, taken-read, stays-sound, begin-written, begin-sound}
@@ -36,7 +36,7 @@ use Rattle.contract.specs.Verdicts.{verdict}
 use Rattle.reader.specs.Reader.{taken, read}
 use Rattle.image.specs.Images.{imageFor}
 use Rattle.image.specs.Rightness.{Shows, RightFor}
-use Rattle.image.specs.Monitors.{callTest, accepts, periodsAfter, meantReply, AnswersCall, AnswersCalls, Monitors}
+use Rattle.image.specs.Monitors.{callTest, accepts, periodsAfter, meantAnswer, AnswersCall, AnswersCalls, Monitors}
 use Rattle.image.proofs.Images.{right-for}
 
 -- ---- a state that shows a decision answers with it
@@ -46,8 +46,8 @@ verdict-shown undecided s h = rw (h .outcome-is)
 verdict-shown (satisfied k) s h = rw (h .outcome-is, h .decision-is)
 verdict-shown (violated k b) s h = rw (h .outcome-is, h .decision-is)
 
-answer-meant : (c : Clause) (w : List Period) (s : State) → Shows (meaning c w) s → s .periods ≡ length w → answer s ≡ meantReply c w
-unfolding meantReply
+answer-meant : (c : Clause) (w : List Period) (s : State) → Shows (meaning c w) s → s .periods ≡ length w → answer s ≡ meantAnswer c w
+unfolding meantAnswer
 answer-meant c w s h e = rw (verdict-shown (meaning c w) s h, h .blame-is, h .decision-is, e)
 
 -- ---- the tests of a step on a state of n periods
@@ -102,26 +102,26 @@ module _ (c : Clause) (image : List ℕ) (right : RightFor c image) where
     unfolding callTest
     room-to-count e =
         let t = sym test-at ∙ accepted-passed image state k (accepts-at ∙ e) in
-        let b = first-passed (recordTest (k .period)) (require (ltb (length w) maxPeriods) FullCount 0) t in
+        let b = first-passed (periodTest (k .period)) (require (ltb (length w) maxPeriods) FullCount 0) t in
         ltb-true (length w) maxPeriods (require-passed (ltb (length w) maxPeriods) FullCount 0 (b .1))
 
     no-room-at : length (k .reply) < stepReplyBytes → step image state (k .period) (k .reply) ≡ unwritten state (k .reply)
     unfolding step
-    no-room-at l = call-no-room (stepTest image state (k .period)) _ _ state _ (k .reply) l
+    no-room-at l = call-no-room (stepTest image state (k .period)) _ state _ (k .reply) l
 
     refused-at : stepReplyBytes ≤ length (k .reply) → accepts (length w) k ≡ false
-        → step image state (k .period) (k .reply) ≡ written state (k .reply) (refusal (callTest (length w) (k .period)))
+        → step image state (k .period) (k .reply) ≡ written state (k .reply) (callTest (length w) (k .period)) (stepAnswer 0 0 0)
     unfolding step accepts
     refused-at l e =
         let t = callTest (length w) (k .period) in
-        let some-number = eqb-false (numberOf t) 0 (rw (le-leb stepReplyBytes (length (k .reply)) l) at e) in
-        call-refused (stepTest image state (k .period)) _ _ state _ (k .reply) l (λ p. some-number (ap numberOf (sym test-at ∙ p))) ∙ rw test-at
+        let no = passed-not t (rw (le-leb stepReplyBytes (length (k .reply)) l) at e) in
+        call-refused (stepTest image state (k .period)) _ state _ (k .reply) l (λ p. no (sym test-at ∙ p)) ∙ rw test-at
 
     accepted-at : accepts (length w) k ≡ true
-        → step image state (k .period) (k .reply) ≡ written (stateBytes (reached next)) (k .reply) (meantReply c next)
+        → step image state (k .period) (k .reply) ≡ written (stateBytes (reached next)) (k .reply) Passed (meantAnswer c next)
     accepted-at e =
         accepted-step image state k (accepts-at ∙ e)
-        ∙ rw (later-at, answer-meant c next (reached next) (right .shows next) (periods-at next))
+        ∙ rw later-at (ap (written (stateBytes (reached next)) (k .reply) Passed) (answer-meant c next (reached next) (right .shows next) (periods-at next)))
 
     answers-call : AnswersCall c image state w k
     unfolding periodsAfter
@@ -153,7 +153,7 @@ module _ (c : Clause) (image : List ℕ) (right : RightFor c image) where
   begins state l = rw (right .good, eq-eqb (length state) (headBytes + rowCount image) l)
 
   begun-at : (state reply : List ℕ) → length state ≡ headBytes + rowCount image → beginReplyBytes ≤ length reply
-      → At [] (begin image state reply .lent)
+      → At [] (begin image state reply .buffers)
   unfolding afterPeriods
   begun-at state reply l r =
       let b = begin-written image state reply r (begins state l) in
@@ -165,7 +165,7 @@ module _ (c : Clause) (image : List ℕ) (right : RightFor c image) where
         clause = c;
         means = e;
         answers = λ state reply l r.
-            (begin-written image state reply r (begins state l), λ ks. answers-calls ks [] (begin image state reply .lent) (begun-at state reply l r));
+            (begin-written image state reply r (begins state l), λ ks. answers-calls ks [] (begin image state reply .buffers) (begun-at state reply l r));
       }
 
 -- ---- the theorem

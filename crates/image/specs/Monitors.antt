@@ -2,25 +2,25 @@
 -- in demand 3". The calls are `begin` and `step` as the runner's own contracts have them. What document 01 says there of compile is for compile's
 -- own contract.
 use Prim.Native.Nat.{ℕ, _+_, _≤_, _<_}
-use mathlib.Core.Bool.{Bool, true, false, _&&_, cond}
+use mathlib.Core.Bool.{Bool, true, false, cond}
 use mathlib.Core.List.{List, [], _∷_, _++_}
 use mathlib.Core.Path.{_≡_}
-use lib.Dec.{eqb, ltb, leb}
+use lib.Dec.{ltb}
 use lib.ListN.{length, replicate}
 use lib.Seq.{sets}
 use Rattle.records.specs.Verdicts.{verdictNumber}
 use Rattle.records.specs.declared.Test.{Test}
 use Rattle.records.specs.declared.Fault.the-variants.{FullCount}
 use Rattle.records.specs.declared.Test.the-variants.{Passed}
-use Rattle.records.specs.Refusals.{numberOf, firstOf, require}
-use Rattle.records.specs.Replies.{Field, fieldsBytes, unwritten, written}
+use Rattle.records.specs.Refusals.{firstOf, require}
+use Rattle.records.specs.Replies.{Answer, replyOf, unwritten, written}
 use Rattle.periods.specs.Periods.{Period}
-use Rattle.periods.specs.Traces.{periodAt, recordTest}
+use Rattle.periods.specs.Traces.{periodAt, periodTest}
 use Rattle.layout.specs.Images.{rowCount}
 use Rattle.states.specs.Limits.{headBytes, maxPeriods}
 use Rattle.states.specs.States.{stateOf}
-use Rattle.runner.specs.Calls.{beginReply, beginReplyBytes, stepReply, stepReplyBytes, refusal, begin, step}
-use Rattle.runner.specs.StepCalls.{StepCall, stateAfterCall}
+use Rattle.runner.specs.Calls.{beginAnswer, beginReplyBytes, stepAnswer, stepReplyBytes, begin, step}
+use Rattle.runner.specs.StepCalls.{StepCall, acceptedBy, stateAfterCall}
 use Rattle.contract.specs.Meaning.{Clause, meaning}
 use Rattle.contract.specs.Verdicts.{decisionPeriod, blame, verdict}
 use Rattle.reader.specs.Reader.{taken, read}
@@ -28,21 +28,21 @@ use Rattle.reader.specs.Reader.{taken, read}
 -- "refused exactly when its own record meets 11 or, that record being good, 4,294,967,295 steps before it were accepted (12)", n being the
 -- number of those accepted before it
 unfoldable pub callTest : (n : ℕ) (period : List ℕ) → Test
-callTest n period = firstOf (recordTest period) (require (ltb n maxPeriods) FullCount 0)
+callTest n period = firstOf (periodTest period) (require (ltb n maxPeriods) FullCount 0)
 
--- a call is accepted where it has room for its reply and is not refused; "one without room counts as refused"
+-- "one without room counts as refused"
 unfoldable pub accepts : (n : ℕ) → StepCall → Bool
-accepts n c = leb stepReplyBytes (length (c .reply)) && eqb (numberOf (callTest n (c .period))) 0
+accepts n c = acceptedBy (callTest n (c .period)) c
 
 -- "The accepted steps' periods, in order, are the periods so far": after one call more
 unfoldable pub periodsAfter : List Period → StepCall → List Period
 periodsAfter w c = cond (accepts (length w) c) (w ++ (periodAt (c .period) 0 ∷ [])) w
 
 -- number 0, place 0 and exactly the verdict, blame and decision period of the clause's meaning on these periods
-unfoldable pub meantReply : Clause → List Period → List Field
-meantReply clause w =
+unfoldable pub meantAnswer : Clause → List Period → Answer
+meantAnswer clause w =
     let d = meaning clause w in
-    stepReply Passed (verdictNumber (verdict d (length w))) (blame d) (decisionPeriod d)
+    stepAnswer (verdictNumber (verdict d (length w))) (blame d) (decisionPeriod d)
 
 -- what a call gives when it finds this state, after the periods w
 pub record AnswersCall (clause : Clause) (image state : List ℕ) (w : List Period) (c : StepCall) : Type 0 where
@@ -50,11 +50,11 @@ pub record AnswersCall (clause : Clause) (image state : List ℕ) (w : List Peri
   pub no-room : length (c .reply) < stepReplyBytes → step image state (c .period) (c .reply) ≡ unwritten state (c .reply)
   -- refused, it leaves the state as it was and replies with the refusal's number and place
   pub refused : stepReplyBytes ≤ length (c .reply) → accepts (length w) c ≡ false
-      → step image state (c .period) (c .reply) ≡ written state (c .reply) (refusal (callTest (length w) (c .period)))
+      → step image state (c .period) (c .reply) ≡ written state (c .reply) (callTest (length w) (c .period)) (stepAnswer 0 0 0)
   -- accepted, it replies what the clause means on the periods so far, its own included
   pub accepted : accepts (length w) c ≡ true
       → (step image state (c .period) (c .reply) .result ≡ 1)
-      × (step image state (c .period) (c .reply) .reply ≡ sets (c .reply) 0 (fieldsBytes (meantReply clause (periodsAfter w c))))
+      × (step image state (c .period) (c .reply) .reply ≡ sets (c .reply) 0 (replyOf Passed (meantAnswer clause (periodsAfter w c))))
 
 -- Every call of a list is answered so, where the first finds this state after the periods w, and each later one what the last one left; and
 -- all along periods taken is the number of the periods so far.
@@ -71,5 +71,5 @@ pub record Monitors (contract image : List ℕ) : Type 0 where
   pub clause : Clause
   pub means : read contract ≡ taken clause
   pub answers : (state reply : List ℕ) → length state ≡ headBytes + rowCount image → beginReplyBytes ≤ length reply
-      → (begin image state reply ≡ written (replicate (length state) 0) reply (beginReply Passed))
-      × ((calls : List StepCall) → AnswersCalls clause image (begin image state reply .lent) [] calls)
+      → (begin image state reply ≡ written (replicate (length state) 0) reply Passed beginAnswer)
+      × ((calls : List StepCall) → AnswersCalls clause image (begin image state reply .buffers) [] calls)

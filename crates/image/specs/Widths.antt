@@ -8,7 +8,7 @@ use Rattle.contract.specs.Meaning as M
 use Rattle.contract.specs.Meaning.{Clause, literal}
 use Rattle.reader.specs.Table.{Kind, duty, ban, power, both, then, repair, repeat, when, until, any, tries, idle, succeeds, fails, seq, or, star}
 use Rattle.reader.specs.Trees.{Fields, Record}
-use Rattle.reader.specs.Spelling.{operator, atomRecord, literalRecord}
+use Rattle.reader.specs.Spelling.{plainRecord, atomRecord, literalRecord}
 
 -- A record's own rows: so many stand before its operands' rows, and so many after them.
 pub record Width : Type 0 where
@@ -41,29 +41,29 @@ widthOf star f = rows 3 1
 abbrev pub width : Record → Width
 width r = widthOf (r .kind) (r .fields)
 
--- all of them
+-- how many rows of its own a record has
 abbrev pub size : Record → ℕ
 size r = width r .before + width r .after
 
--- no record has more
+-- no record has more rows of its own
 abbrev pub maxSize : ℕ
 maxSize = 14
 
 -- the rows of a tree: the sum of the widths of its records
 unfoldable pub expressionSize : Expression → ℕ
 expressionSize (atom x) = size (atomRecord x)
-expressionSize (E.seq l r) = expressionSize l + expressionSize r + size (operator seq)
-expressionSize (E.or l r) = expressionSize l + expressionSize r + size (operator or)
-expressionSize (E.star e) = expressionSize e + size (operator star)
+expressionSize (E.seq l r) = expressionSize l + expressionSize r + size (plainRecord seq)
+expressionSize (E.or l r) = expressionSize l + expressionSize r + size (plainRecord or)
+expressionSize (E.star e) = expressionSize e + size (plainRecord star)
 
 unfoldable pub clauseSize : Clause → ℕ
 clauseSize (literal l p a) = size (literalRecord l p a)
-clauseSize (M.both l r) = clauseSize l + clauseSize r + size (operator both)
-clauseSize (M.then l r) = clauseSize l + clauseSize r + size (operator then)
-clauseSize (M.repair l r) = clauseSize l + clauseSize r + size (operator repair)
-clauseSize (M.repeat c) = clauseSize c + size (operator repeat)
-clauseSize (M.when e c) = expressionSize e + clauseSize c + size (operator when)
-clauseSize (M.until c e) = clauseSize c + expressionSize e + size (operator until)
+clauseSize (M.both l r) = clauseSize l + clauseSize r + size (plainRecord both)
+clauseSize (M.then l r) = clauseSize l + clauseSize r + size (plainRecord then)
+clauseSize (M.repair l r) = clauseSize l + clauseSize r + size (plainRecord repair)
+clauseSize (M.repeat c) = clauseSize c + size (plainRecord repeat)
+clauseSize (M.when e c) = expressionSize e + clauseSize c + size (plainRecord when)
+clauseSize (M.until c e) = clauseSize c + expressionSize e + size (plainRecord until)
 
 -- the first rows of every image, which no record has: one that is never true, one true in period 1 only, and one true in all the others
 abbrev pub neverRow : ℕ
@@ -78,7 +78,7 @@ laterRow = 2
 abbrev pub fixedRows : ℕ
 fixedRows = 3
 
--- so a contract of n records has no more than these
+-- a contract of so many records has no more rows than this
 abbrev pub maxRowsFor : (records : ℕ) → ℕ
 maxRowsFor n = maxSize * n + fixedRows
 
@@ -95,7 +95,7 @@ abbrev pub operandsFrom : Record → ℕ → ℕ
 operandsFrom r b = b ⊹ width r .before
 
 abbrev pub inside : Kind → ℕ → ℕ
-inside k b = operandsFrom (operator k) b
+inside k b = operandsFrom (plainRecord k) b
 
 -- the first row after a record's rows and those of its operands, where m gives the row after the operands' rows
 abbrev pub afterRecord : Record → (ℕ → ℕ) → ℕ → ℕ
@@ -104,15 +104,15 @@ afterRecord r m b = m (operandsFrom r b) ⊹ width r .after
 -- The first row after the rows of a tree that start at row b. The right operand's rows stand before the left operand's.
 unfoldable pub afterExpression : Expression → ℕ → ℕ
 afterExpression (atom x) b = afterRecord (atomRecord x) (λ n. n) b
-afterExpression (E.seq l r) b = afterRecord (operator seq) (λ n. afterExpression l (afterExpression r n)) b
-afterExpression (E.or l r) b = afterRecord (operator or) (λ n. afterExpression l (afterExpression r n)) b
-afterExpression (E.star e) b = afterRecord (operator star) (afterExpression e) b
+afterExpression (E.seq l r) b = afterRecord (plainRecord seq) (λ n. afterExpression l (afterExpression r n)) b
+afterExpression (E.or l r) b = afterRecord (plainRecord or) (λ n. afterExpression l (afterExpression r n)) b
+afterExpression (E.star e) b = afterRecord (plainRecord star) (afterExpression e) b
 
 unfoldable pub afterClause : Clause → ℕ → ℕ
 afterClause (literal l p a) b = afterRecord (literalRecord l p a) (λ n. n) b
-afterClause (M.both l r) b = afterRecord (operator both) (λ n. afterClause l (afterClause r n)) b
-afterClause (M.then l r) b = afterRecord (operator then) (λ n. afterClause l (afterClause r n)) b
-afterClause (M.repair l r) b = afterRecord (operator repair) (λ n. afterClause l (afterClause r n)) b
-afterClause (M.repeat c) b = afterRecord (operator repeat) (afterClause c) b
-afterClause (M.when e c) b = afterRecord (operator when) (λ n. afterExpression e (afterClause c n)) b
-afterClause (M.until c e) b = afterRecord (operator until) (λ n. afterClause c (afterExpression e n)) b
+afterClause (M.both l r) b = afterRecord (plainRecord both) (λ n. afterClause l (afterClause r n)) b
+afterClause (M.then l r) b = afterRecord (plainRecord then) (λ n. afterClause l (afterClause r n)) b
+afterClause (M.repair l r) b = afterRecord (plainRecord repair) (λ n. afterClause l (afterClause r n)) b
+afterClause (M.repeat c) b = afterRecord (plainRecord repeat) (afterClause c) b
+afterClause (M.when e c) b = afterRecord (plainRecord when) (λ n. afterExpression e (afterClause c n)) b
+afterClause (M.until c e) b = afterRecord (plainRecord until) (λ n. afterClause c (afterExpression e n)) b

@@ -13,15 +13,16 @@ use lib.Seq.{getD-at}
 use borrow.Author.Tests.{eq-eqb, ne-eqb, le-leb, lt-leb, eqb-true, leb-true, ltb-true}
 use Rattle.records.specs.Fields.{field}
 use Rattle.records.specs.Marks.{rowMark, marked}
+use Rattle.records.specs.declared.Fault.{Fault}
 use Rattle.records.specs.declared.Fault.the-variants.{BadImage}
 use Rattle.records.specs.declared.Test.the-variants.{Passed}
-use Rattle.records.specs.Refusals.{require, firstOf, firstFailing, onlyFor}
+use Rattle.records.specs.Refusals.{require, firstOf, firstFailing}
 use Rattle.records.proofs.Numbers.{lt-or-le}
-use Rattle.records.proofs.Refusals.{all-pass, all-passed, first-passed, require-passed, only-require, only-first}
+use Rattle.records.proofs.Refusals.{all-pass, all-passed, first-passed, require-passed, onlyFor, only-require, only-first}
 use Rattle.layout.specs.Limits.{rowBytes, maxRows}
 use Rattle.layout.specs.Rows.{Row, never, rowOf, decode, namesRows, goodRow}
 use Rattle.layout.specs.Images.{rowCount, rowsOf, imageOf, goodLength, goodRowAt, goodEnd}
-use Rattle.layout.specs.Refusals.{imageTest, imageFaults}
+use Rattle.layout.specs.Refusals.{imageTest}
 use Rattle.layout.proofs.Rows.{cond-some, names-any}
 
 -- ---- the length
@@ -191,7 +192,10 @@ module _ (l : List ℕ) (h : imageTest l ≡ Passed) where
 
 -- ---- refusal 9
 
--- no other fault is given
+-- no test of this crate gives another fault
+abbrev pub imageFaults : List Fault
+imageFaults = BadImage ∷ []
+
 pub image-only : (l : List ℕ) → onlyFor imageFaults (imageTest l) ≡ true
 unfolding imageTest
 image-only l =

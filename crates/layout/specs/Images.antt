@@ -52,7 +52,7 @@ imageOf l =
 
 -- ---- what makes the bytes an image
 
--- a multiple of 8 bytes, room for a row and the end record, and for no more than the most rows
+-- a multiple of 8 bytes, room for a row and the end record, and for no more than maxRows
 unfoldable pub goodLength : List ℕ → Bool
 goodLength l = eqb (length l % rowBytes) 0 && leb (rowBytes * 2) (length l) && leb (length l) (rowBytes * (maxRows + 1))
 

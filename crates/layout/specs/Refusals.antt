@@ -1,8 +1,7 @@
 -- Refusal 9 and its place. Document 01, "Replies that refuse".
 use Prim.Native.Nat.{ℕ}
-use mathlib.Core.List.{List, [], _∷_}
+use mathlib.Core.List.{List}
 use lib.Dec.{eqb}
-use Rattle.records.specs.declared.Fault.{Fault}
 use Rattle.records.specs.declared.Fault.the-variants.{BadImage}
 use Rattle.records.specs.declared.Test.{Test}
 use Rattle.records.specs.Refusals.{require, firstOf, firstFailing}
@@ -16,7 +15,3 @@ imageTest image =
     firstOf (require (goodLength image) BadImage 0)
     (firstOf (require (eqb bad n) BadImage bad)
     (require (goodEnd image n) BadImage n))
-
--- the faults that this test can give
-abbrev pub imageFaults : List Fault
-imageFaults = BadImage ∷ []

@@ -10,7 +10,7 @@ use Rattle.periods.specs.declared.Form.{Form}
 use Rattle.periods.specs.declared.Form.the-variants.{Short}
 use Rattle.periods.specs.Forms.{periodBytes}
 use Rattle.periods.specs.Periods.{periodFrom}
-use Rattle.periods.specs.Traces.{wholeRecords}
+use Rattle.periods.specs.Traces.{wholePeriods}
 
 pub is-short : (f : Form) → f ≡ Short
 is-short Short = refl
@@ -24,16 +24,16 @@ unfolding periodFrom
 short-period Short l at = rw (add-assoc at 2 2)
 
 -- a whole record stands inside the bytes
-pub record-inside : (f : Form) (l : List ℕ) (k : ℕ) → k < wholeRecords f l → periodBytes f * k + periodBytes f ≤ length l
-unfolding wholeRecords
-record-inside Short l k h = omega arith
+pub period-inside : (f : Form) (l : List ℕ) (k : ℕ) → k < wholePeriods f l → periodBytes f * k + periodBytes f ≤ length l
+unfolding wholePeriods
+period-inside Short l k h = omega arith
 
 -- as many bytes as one record has are one record, and the first of them
-pub one-record : (f : Form) (l : List ℕ) → length l ≡ periodBytes f → wholeRecords f l ≡ 1
-unfolding wholeRecords
-one-record Short l h = rw h
+pub one-whole : (f : Form) (l : List ℕ) → length l ≡ periodBytes f → wholePeriods f l ≡ 1
+unfolding wholePeriods
+one-whole Short l h = rw h
 
 -- no form's record is shorter than the short one
-pub few-whole : (f : Form) (l : List ℕ) → periodBytes Short * wholeRecords f l ≤ length l
-unfolding wholeRecords
+pub few-whole : (f : Form) (l : List ℕ) → periodBytes Short * wholePeriods f l ≤ length l
+unfolding wholePeriods
 few-whole Short l = omega arith

@@ -4,7 +4,7 @@ use native.Mathlib.Nat.{add-zero, add-assoc, mul-zero}
 use native.Mathlib.Numerals.{add-one}
 use native.Mathlib.Omega.{arith}
 use mathlib.Core.Bool.{Bool, true, false, Bool·beq}
-use mathlib.Core.List.{List}
+use mathlib.Core.List.{List, [], _∷_}
 use mathlib.Core.Path.{_≡_, refl, ap, _∙_}
 use borrow.Author.Tests.{eqb-true, eq-eqb}
 use lib.Dec.{eqb}
@@ -12,16 +12,17 @@ use lib.ListN.{length, getD, drop, length-append, length-drop}
 use lib.Seq.{getD-drop, length-take-le, getD-take, drop-drop, take-take}
 use Rattle.records.specs.Fields.{field, value}
 use Rattle.records.specs.Marks.{marked}
+use Rattle.records.specs.declared.Fault.{Fault}
 use Rattle.records.specs.declared.Fault.the-variants.{BadPeriod}
 use Rattle.records.specs.declared.Test.the-variants.{Passed, Refused}
-use Rattle.records.specs.Refusals.{require, firstFailing, onlyFor}
+use Rattle.records.specs.Refusals.{require, firstFailing}
 use Rattle.records.proofs.Written.{drop-take}
-use Rattle.records.proofs.Refusals.{all-passed, first-passed, require-passed, only-require, only-first}
+use Rattle.records.proofs.Refusals.{all-passed, first-passed, require-passed, onlyFor, only-require, only-first}
 use Rattle.periods.specs.declared.Form.{Form}
 use Rattle.periods.specs.Forms.{maskBytes, periodBytes, formOf}
 use Rattle.periods.specs.Periods.{periodFrom}
-use Rattle.periods.specs.Traces.{markedAs, periodRecords, recordAt, periodAt, periodsOf, markedAt, marksAre, marksTest, recordTest, traceTest, periodFaults}
-use Rattle.periods.proofs.Forms.{record-inside, one-record}
+use Rattle.periods.specs.Traces.{markedAs, periodRecords, periodRecordAt, periodAt, periodsOf, markedAt, marksAre, marksTest, periodTest, traceTest}
+use Rattle.periods.proofs.Forms.{period-inside, one-whole}
 
 pub length-periodsOf : (trace : List ℕ) (n : ℕ) → length (periodsOf trace n) ≡ n
 unfolding periodsOf
@@ -37,14 +38,17 @@ marks-are false f l k false e = rw (← e)
 
 -- ---- what the tests show
 
-pub marks-only : (trace : List ℕ) → onlyFor periodFaults (marksTest trace) ≡ true
+-- no test of this crate gives another fault
+abbrev pub periodFaults : List Fault
+periodFaults = BadPeriod ∷ []
+
+marks-only : (trace : List ℕ) → onlyFor periodFaults (marksTest trace) ≡ true
 unfolding marksTest
 marks-only trace = only-require periodFaults BadPeriod refl (eqb (firstFailing (markedAt trace) 0 (periodRecords trace)) (periodRecords trace)) _
 
--- no other fault is given
-pub record-only : (period : List ℕ) → onlyFor periodFaults (recordTest period) ≡ true
-unfolding recordTest
-record-only period = only-first periodFaults (require (eqb (length period) (periodBytes (formOf period))) BadPeriod 0) (marksTest period) (only-require periodFaults BadPeriod refl (eqb (length period) (periodBytes (formOf period))) 0) (marks-only period)
+pub period-only : (period : List ℕ) → onlyFor periodFaults (periodTest period) ≡ true
+unfolding periodTest
+period-only period = only-first periodFaults (require (eqb (length period) (periodBytes (formOf period))) BadPeriod 0) (marksTest period) (only-require periodFaults BadPeriod refl (eqb (length period) (periodBytes (formOf period))) 0) (marks-only period)
 
 pub trace-only : (trace : List ℕ) → onlyFor periodFaults (traceTest trace) ≡ true
 unfolding traceTest
@@ -59,12 +63,12 @@ trace-marks trace e =
     all-passed (markedAt trace) n (eqb-true bad n (require-passed (eqb bad n) BadPeriod bad (t .1)))
 
 -- a good record of a step is one record
-pub record-one : (period : List ℕ) → recordTest period ≡ Passed → periodRecords period ≡ 1
-unfolding recordTest
-record-one period e =
+pub period-one : (period : List ℕ) → periodTest period ≡ Passed → periodRecords period ≡ 1
+unfolding periodTest
+period-one period e =
     let n = periodBytes (formOf period) in
     let t = first-passed (require (eqb (length period) n) BadPeriod 0) (marksTest period) e in
-    one-record (formOf period) period (eqb-true (length period) n (require-passed (eqb (length period) n) BadPeriod 0 (t .0)))
+    one-whole (formOf period) period (eqb-true (length period) n (require-passed (eqb (length period) n) BadPeriod 0 (t .0)))
 
 -- ---- the records of a trace
 
@@ -76,47 +80,47 @@ module _ (trace : List ℕ) (k : ℕ) (h : k < periodRecords trace) where
   start = periodBytes form * k
 
   inside : start + periodBytes form ≤ length trace
-  inside = record-inside form trace k h
+  inside = period-inside form trace k h
 
   -- its form is the trace's
-  record-form : formOf (recordAt trace k) ≡ form
+  record-form : formOf (periodRecordAt trace k) ≡ form
   unfolding formOf
   record-form = refl
 
-  pub length-recordAt : length (recordAt trace k) ≡ periodBytes form
-  unfolding recordAt
-  length-recordAt = let i = inside in length-take-le (periodBytes form) (drop start trace) (simp length-drop (omega arith))
+  pub length-periodRecordAt : length (periodRecordAt trace k) ≡ periodBytes form
+  unfolding periodRecordAt
+  length-periodRecordAt = let i = inside in length-take-le (periodBytes form) (drop start trace) (simp length-drop (omega arith))
 
-  byte-at : (j : ℕ) → j < periodBytes form → getD (recordAt trace k) j 0 ≡ getD trace (start + j) 0
-  unfolding recordAt
+  byte-at : (j : ℕ) → j < periodBytes form → getD (periodRecordAt trace k) j 0 ≡ getD trace (start + j) 0
+  unfolding periodRecordAt
   byte-at j i = getD-take (periodBytes form) (drop start trace) j 0 i ∙ getD-drop start trace j 0
 
-  field-at : (j w : ℕ) → j + w ≤ periodBytes form → field (recordAt trace k) j w ≡ field trace (start + j) w
-  unfolding recordAt field
+  field-at : (j w : ℕ) → j + w ≤ periodBytes form → field (periodRecordAt trace k) j w ≡ field trace (start + j) w
+  unfolding periodRecordAt field
   field-at j w i =
       ap value (rw (drop-take j (periodBytes form) (drop start trace), drop-drop j start trace) (take-take w (periodBytes form - j) (drop (start + j) trace) (omega arith)))
 
-  record-from : periodFrom form (recordAt trace k) 0 ≡ periodFrom form trace start
+  record-from : periodFrom form (periodRecordAt trace k) 0 ≡ periodFrom form trace start
   unfolding periodFrom
   record-from = rw (field-at 2 (maskBytes form) (omega arith), field-at (2 + maskBytes form) (maskBytes form) (omega arith), ← add-assoc start 2 (maskBytes form))
 
-  pub record-period : periodAt (recordAt trace k) 0 ≡ periodAt trace k
+  pub record-period : periodAt (periodRecordAt trace k) 0 ≡ periodAt trace k
   unfolding periodAt
   record-period = rw (record-form, mul-zero) record-from
 
-  record-marked : markedAt (recordAt trace k) 0 ≡ markedAt trace k
+  record-marked : markedAt (periodRecordAt trace k) 0 ≡ markedAt trace k
   unfolding markedAs marked
   record-marked =
-      let first : getD (recordAt trace k) 0 0 ≡ getD trace start 0 = byte-at 0 (omega arith) ∙ rw add-zero in
+      let first : getD (periodRecordAt trace k) 0 0 ≡ getD trace start 0 = byte-at 0 (omega arith) ∙ rw add-zero in
       rw (record-form, mul-zero, first, byte-at 1 (omega arith))
 
-  one : periodRecords (recordAt trace k) ≡ 1
-  one = one-record (formOf (recordAt trace k)) (recordAt trace k) (rw record-form length-recordAt)
+  one : periodRecords (periodRecordAt trace k) ≡ 1
+  one = one-whole (formOf (periodRecordAt trace k)) (periodRecordAt trace k) (rw record-form length-periodRecordAt)
 
-  pub record-test : markedAt trace k ≡ true → recordTest (recordAt trace k) ≡ Passed
-  unfolding recordTest marksTest firstFailing
-  record-test m = rw (one, record-marked ∙ m, record-form, eq-eqb (length (recordAt trace k)) (periodBytes form) length-recordAt)
+  pub period-test : markedAt trace k ≡ true → periodTest (periodRecordAt trace k) ≡ Passed
+  unfolding periodTest marksTest firstFailing
+  period-test m = rw (one, record-marked ∙ m, record-form, eq-eqb (length (periodRecordAt trace k)) (periodBytes form) length-periodRecordAt)
 
-  pub record-refused : markedAt trace k ≡ false → recordTest (recordAt trace k) ≡ Refused BadPeriod 0
-  unfolding recordTest marksTest firstFailing
-  record-refused m = rw (one, record-marked ∙ m, record-form, eq-eqb (length (recordAt trace k)) (periodBytes form) length-recordAt)
+  pub period-refused : markedAt trace k ≡ false → periodTest (periodRecordAt trace k) ≡ Refused BadPeriod 0
+  unfolding periodTest marksTest firstFailing
+  period-refused m = rw (one, record-marked ∙ m, record-form, eq-eqb (length (periodRecordAt trace k)) (periodBytes form) length-periodRecordAt)

@@ -17,6 +17,6 @@ maskBytes Short = 2
 abbrev pub periodBytes : Form → ℕ
 periodBytes f = 2 + maskBytes f + maskBytes f
 
--- the form of a trace's records, or of a step's one record
+-- the form of a trace's records, or of a step's one record: there is one form
 unfoldable pub formOf : List ℕ → Form
 formOf trace = Short

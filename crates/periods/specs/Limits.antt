@@ -1,4 +1,4 @@
--- How many actions there are. Document 01, "Records".
+-- A limit of document 01, "Records".
 use Prim.Native.Nat.{ℕ}
 
 -- how many actions there are, numbered from 0

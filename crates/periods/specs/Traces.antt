@@ -6,7 +6,6 @@ use mathlib.Core.List.{List, [], _∷_, _++_}
 use lib.Dec.{eqb}
 use lib.ListN.{length, take, drop}
 use Rattle.records.specs.Marks.{marked}
-use Rattle.records.specs.declared.Fault.{Fault}
 use Rattle.records.specs.declared.Fault.the-variants.{BadPeriod}
 use Rattle.records.specs.declared.Test.{Test}
 use Rattle.records.specs.Refusals.{require, firstOf, firstFailing}
@@ -15,10 +14,10 @@ use Rattle.periods.specs.Forms.{formMark, periodBytes, formOf}
 use Rattle.periods.specs.Periods.{Period, periodFrom}
 
 -- how many whole records of a form the bytes have
-unfoldable pub wholeRecords : Form → List ℕ → ℕ
-wholeRecords f l = length l / periodBytes f
+unfoldable pub wholePeriods : Form → List ℕ → ℕ
+wholePeriods f l = length l / periodBytes f
 
--- record k of a form has that form's mark
+-- record k, counted in records of this form, has the form's mark
 unfoldable pub markedAs : Form → List ℕ → ℕ → Bool
 markedAs f l k = marked l (periodBytes f * k) (formMark f)
 
@@ -26,11 +25,11 @@ markedAs f l k = marked l (periodBytes f * k) (formMark f)
 
 -- how many period records it has
 abbrev pub periodRecords : List ℕ → ℕ
-periodRecords trace = wholeRecords (formOf trace) trace
+periodRecords trace = wholePeriods (formOf trace) trace
 
 -- the bytes of its record k
-unfoldable pub recordAt : List ℕ → ℕ → List ℕ
-recordAt trace k = take (periodBytes (formOf trace)) (drop (periodBytes (formOf trace) * k) trace)
+unfoldable pub periodRecordAt : List ℕ → ℕ → List ℕ
+periodRecordAt trace k = take (periodBytes (formOf trace)) (drop (periodBytes (formOf trace) * k) trace)
 
 -- the period that its record k holds
 unfoldable pub periodAt : List ℕ → ℕ → Period
@@ -47,7 +46,7 @@ markedAt trace k = markedAs (formOf trace) trace k
 
 -- ---- refusal 11
 
--- record k has the form's mark, or has it not
+-- record k has the form's mark, or, for false, it has another
 abbrev pub marksAre : Bool → Form → List ℕ → ℕ → Bool
 marksAre true f l k = markedAs f l k
 marksAre false f l k = not (markedAs f l k)
@@ -59,13 +58,9 @@ marksTest trace =
     require (eqb bad (periodRecords trace)) BadPeriod bad
 
 -- 11 in step: the length of one record, then the mark
-unfoldable pub recordTest : List ℕ → Test
-recordTest period = firstOf (require (eqb (length period) (periodBytes (formOf period))) BadPeriod 0) (marksTest period)
+unfoldable pub periodTest : List ℕ → Test
+periodTest period = firstOf (require (eqb (length period) (periodBytes (formOf period))) BadPeriod 0) (marksTest period)
 
 -- 11 in run: a multiple of that length, then the marks
 unfoldable pub traceTest : List ℕ → Test
 traceTest trace = firstOf (require (eqb (length trace % periodBytes (formOf trace)) 0) BadPeriod 0) (marksTest trace)
-
--- the faults that these tests can give
-abbrev pub periodFaults : List Fault
-periodFaults = BadPeriod ∷ []

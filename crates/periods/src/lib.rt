@@ -9,7 +9,7 @@ ghost use Rattle.records.specs.Refusals.{firstFailing};
 ghost use Rattle.periods.specs.Limits.{actions};
 ghost use Rattle.periods.specs.Forms.{formMark, periodBytes, formOf};
 ghost use Rattle.periods.specs.Periods.{Party, number, bit, tries, periodOf, periodFrom, HoldsPeriod};
-ghost use Rattle.periods.specs.Traces.{wholeRecords, periodRecords, periodAt, marksAre, marksTest, recordTest, traceTest};
+ghost use Rattle.periods.specs.Traces.{wholePeriods, periodRecords, periodAt, marksAre, marksTest, periodTest, traceTest};
 use records::Fault;
 use records::Test;
 
@@ -100,8 +100,8 @@ pub fn form_of(trace: &[u8]) -> Form
 // ---- traces
 
 // How many whole records of a form the bytes have.
-pub fn whole_records(form: Form, s: &[u8]) -> usize
-    ensures { λ r. ⌜ r ≡ wholeRecords form (now (s .entry)) ⌝ }
+pub fn whole_periods(form: Form, s: &[u8]) -> usize
+    ensures { λ r. ⌜ r ≡ wholePeriods form (now (s .entry)) ⌝ }
 {
     s.len() / period_bytes(form)
 }
@@ -110,7 +110,7 @@ pub fn whole_records(form: Form, s: &[u8]) -> usize
 pub fn period_records(trace: &[u8]) -> usize
     ensures { λ r. ⌜ r ≡ periodRecords (now (trace .entry)) ⌝ }
 {
-    whole_records(form_of(trace), trace)
+    whole_periods(form_of(trace), trace)
 }
 
 // Both parties' attempts in record k of a trace.
@@ -122,9 +122,9 @@ pub fn read_period(trace: &[u8], k: usize) -> Attempts
     read_from(form, trace, period_bytes(form) * k)
 }
 
-// The first of the first n records of a form that has not its mark, or, where `marked` is false, that has it; n where there is none.
+// The first of n records of a form without its mark or, where `marked` is false, with it; n where there is none.
 pub fn first_other(form: Form, s: &[u8], n: usize, marked: bool) -> usize
-    requires { ⌜ n ≤ wholeRecords form (now s) ⌝ }
+    requires { ⌜ n ≤ wholePeriods form (now s) ⌝ }
     ensures { λ r. ⌜ r ≡ firstFailing (marksAre marked form (now (s .entry))) 0 n ⌝ }
 {
     let bytes = period_bytes(form);
@@ -151,8 +151,8 @@ fn marks_test(trace: &[u8]) -> Test
 }
 
 // A step's record: its length, then its mark.
-pub fn record_test(period: &[u8]) -> Test
-    ensures { λ r. ⌜ r ≡ recordTest (now (period .entry)) ⌝ }
+pub fn period_test(period: &[u8]) -> Test
+    ensures { λ r. ⌜ r ≡ periodTest (now (period .entry)) ⌝ }
 {
     if period.len() != period_bytes(form_of(period)) {
         return Test::Refused(Fault::BadPeriod, 0);

@@ -15,7 +15,7 @@ use Rattle.records.specs.Marks.{contractMark, marked}
 use Rattle.contract.specs.Expressions.{holdsEmpty}
 use Rattle.records.specs.declared.Fault.{Fault}
 use Rattle.records.specs.Refusals.{require}
-use Rattle.records.specs.declared.Fault.the-variants.{ContractMark, UnknownKind, BadField, BadOperands, NotOneClause, EmptyList}
+use Rattle.records.specs.declared.Fault.the-variants.{BadMark, UnknownKind, BadField, BadOperands, NotOneClause, EmptyList}
 use Rattle.reader.specs.declared.Lookup.the-variants.{Found}
 use Rattle.reader.specs.declared.Step.{Step}
 use Rattle.reader.specs.declared.Step.the-variants.{Bad, Completed}
@@ -184,7 +184,7 @@ agrees : (k : ℕ) (st : List Operand) (l : List ℕ) → Agrees k st (readRecor
 unfolding readRecord stepOf
 agrees k st l =
     let n = getD l 2 0 in
-    agrees-require k st (marked l 0 contractMark) ContractMark _ _
+    agrees-require k st (marked l 0 contractMark) BadMark _ _
     (agrees-kind k st (kindOf n) _ l (codeAt st 1) (codeAt st 0)
     (λ K e. rw (same-ranges K l)
     (agrees-require k st (goodFields (line K) (fieldsIn l)) BadField _ _

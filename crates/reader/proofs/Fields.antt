@@ -7,7 +7,7 @@ use lib.Dec.{eqb, ltb, leb}
 use borrow.Author.Tests.{eqb-true, eqb-false, leb-true, le-leb, ltb-true, ltb-false}
 use Rattle.periods.specs.Limits.{actions}
 use Rattle.periods.specs.Periods.{party1, party2, number}
-use Rattle.reader.specs.Table.{Kind, Range, within, parties, Line, line}
+use Rattle.reader.specs.Table.{Kind, Range, within, partyNumbers, Line, line}
 use Rattle.reader.specs.Trees.{Fields, Record, goodFields, partyNamed}
 use Rattle.reader.specs.Spelling.{Allowed}
 use Rattle.reader.proofs.Table.{of-all}
@@ -54,27 +54,27 @@ used-number r n h = go (uses r) refl
     go true e = refl
     go false e = omega (arith, ltb-false 0 (r .greatest) e, inside r n h)
 
-number-named : (n : ℕ) → within parties n ≡ true → number (partyNamed n) ≡ n
+number-named : (n : ℕ) → within partyNumbers n ≡ true → number (partyNamed n) ≡ n
 number-named n h = go (eqb n 1) refl
   where
     go : (t : Bool) → eqb n 1 ≡ t → number (cond t party1 party2) ≡ n
     go true e = sym (eqb-true n 1 e)
-    go false e = let d : n ≡ 1 → ⊥ = eqb-false n 1 e in omega (arith, inside parties n h)
+    go false e = let d : n ≡ 1 → ⊥ = eqb-false n 1 e in omega (arith, inside partyNumbers n h)
 
--- a range of parties' numbers, or of 0 alone
+-- a range of partyNumbers' numbers, or of 0 alone
 abbrev ofParties : Range → Bool
-ofParties r = not (uses r) || (leb (parties .least) (r .least) && leb (r .greatest) (parties .greatest))
+ofParties r = not (uses r) || (leb (partyNumbers .least) (r .least) && leb (r .greatest) (partyNumbers .greatest))
 
 used-party : (r : Range) → ofParties r ≡ true → (n : ℕ) → within r n ≡ true → cond (uses r) (number (partyNamed n)) 0 ≡ n
 used-party r g n h = go (uses r) refl
   where
     go : (t : Bool) → uses r ≡ t → cond t (number (partyNamed n)) 0 ≡ n
     go true e =
-        let b = and-eq-true-iff (leb (parties .least) (r .least)) (leb (r .greatest) (parties .greatest)) .0 (rw e at g) in
-        let l : parties .least ≤ r .least = leb-true (parties .least) (r .least) (b .0) in
-        let m : r .greatest ≤ parties .greatest = leb-true (r .greatest) (parties .greatest) (b .1) in
+        let b = and-eq-true-iff (leb (partyNumbers .least) (r .least)) (leb (r .greatest) (partyNumbers .greatest)) .0 (rw e at g) in
+        let l : partyNumbers .least ≤ r .least = leb-true (partyNumbers .least) (r .least) (b .0) in
+        let m : r .greatest ≤ partyNumbers .greatest = leb-true (r .greatest) (partyNumbers .greatest) (b .1) in
         let i = inside r n h in
-        number-named n (rw (le-leb (parties .least) n (omega arith), le-leb n (parties .greatest) (omega arith)))
+        number-named n (rw (le-leb (partyNumbers .least) n (omega arith), le-leb n (partyNumbers .greatest) (omega arith)))
     go false e = rw e at (used-number r n h)
 
 pub used-same : (k : Kind) (f : Fields) → goodFields (line k) f ≡ true → used k f ≡ f

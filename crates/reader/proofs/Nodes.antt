@@ -18,7 +18,7 @@ use Rattle.contract.specs.Meaning.{Clause, EmptyFree}
 use Rattle.contract.proofs.Expressions.{empty-iff}
 use Rattle.records.specs.declared.Fault.{Fault}
 use Rattle.records.specs.Refusals.{require}
-use Rattle.records.specs.declared.Fault.the-variants.{ContractMark, UnknownKind, BadField, BadOperands, EmptyList}
+use Rattle.records.specs.declared.Fault.the-variants.{BadMark, UnknownKind, BadField, BadOperands, EmptyList}
 use Rattle.reader.specs.Limits.{recordBytes}
 use Rattle.reader.specs.Table.{Sort, clause, expression, Kind, duty, ban, power, both, then, repair, repeat, when, until, any, tries, idle, succeeds, fails, seq, or, star, kindOf, line}
 use Rattle.reader.specs.Trees.{Tree, Trees, Fields, goodFields, node}
@@ -164,7 +164,7 @@ pub completed : (k : ℕ) (st : List Operand) (l : List ℕ) (st′ : List Opera
     → Completed st l st′
 unfolding readRecord
 completed k st l st′ n h =
-    required (marked l 0 contractMark) ContractMark k h λ m h₂.
+    required (marked l 0 contractMark) BadMark k h λ m h₂.
     demanded (kindOf (getD l 2 0)) UnknownKind k h₂ λ kind j h₃.
     required (goodFields (line kind) (fieldsIn l)) BadField k h₃ λ b h₄.
     demanded (operandsOf (line kind .operands) st) BadOperands k h₄ λ os o h₅.

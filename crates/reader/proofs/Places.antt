@@ -11,14 +11,15 @@ use lib.ListN.{length, take, drop, getD}
 use lib.Seq.{getD-take, length-take-le}
 use Rattle.records.specs.Marks.{contractMark, marked}
 use Rattle.records.proofs.Written.{drop-take}
+use Rattle.records.proofs.Refusals.{onlyFor}
 use Rattle.records.specs.declared.Fault.{Fault}
-use Rattle.records.specs.Refusals.{faultNumber, require, among, onlyFor}
-use Rattle.records.specs.declared.Fault.the-variants.{ContractLength, ContractMark, UnknownKind, BadField, BadOperands, NotOneClause, EmptyList}
+use Rattle.records.specs.Refusals.{faultNumber, require, among}
+use Rattle.records.specs.declared.Fault.the-variants.{BadLength, BadMark, UnknownKind, BadField, BadOperands, NotOneClause, EmptyList}
 use Rattle.contract.specs.Meaning.{Clause}
 use Rattle.reader.specs.Limits.{maxRecords, recordBytes}
 use Rattle.reader.specs.Table.{clause, expression, kindOf, line}
 use Rattle.reader.specs.Trees.{goodFields, node}
-use Rattle.reader.specs.Reader.{Result, refused, taken, next, provided, demand, fieldsIn, Operand, operand, operandsOf, holdsEmptyUnder, readRecord, readRecords, justOne, contractRecords, goodLength, read, recordFaults, readFaults, testOf, readTest, Faultless, FirstFault}
+use Rattle.reader.specs.Reader.{Result, refused, taken, next, provided, demand, fieldsIn, Operand, operand, operandsOf, holdsEmptyUnder, readRecord, readRecords, justOne, contractRecords, goodLength, read, recordFaults, testOf, readTest, Faultless, FirstFault}
 use Rattle.reader.proofs.Nodes.{refused-taken, followed}
 use Rattle.reader.proofs.Reader.{WholeRecords, good-length}
 
@@ -45,7 +46,7 @@ taken-at k x f j e = (cc, cc)
 record-at : (k : ℕ) (st : List Operand) (l : List ℕ) → AtRecord k (readRecord k st l)
 unfolding readRecord
 record-at k st l =
-    require-at (marked l 0 contractMark) ContractMark k _ refl
+    require-at (marked l 0 contractMark) BadMark k _ refl
     (demand-at (kindOf (getD l 2 0)) UnknownKind k _ refl
     (λ kind. require-at (goodFields (line kind) (fieldsIn l)) BadField k _ refl
     (demand-at (operandsOf (line kind .operands) st) BadOperands k _ refl
@@ -163,7 +164,7 @@ end-refused n (operand expression e ∷ p ∷ st) f k h = (cc, cc)
 
 -- how a contract is refused
 data Refusal (l : List ℕ) (f : Fault) (k : ℕ) : Type 0 where
-  at-length : goodLength l ≡ false → ContractLength ≡ f → 0 ≡ k → Refusal l f k
+  at-length : goodLength l ≡ false → BadLength ≡ f → 0 ≡ k → Refusal l f k
   at-record : WholeRecords l → readRecords 0 (contractRecords l) [] l ≡ refused f k → Refusal l f k
   at-end : WholeRecords l → (st : List Operand) → readRecords 0 (contractRecords l) [] l ≡ taken st → NotOneClause ≡ f → contractRecords l ≡ k → Refusal l f k
 
@@ -227,12 +228,12 @@ fault-stays l f k g c o h = go (refusal (take (recordBytes * suc k) l) f k h)
         rw (count-front l (suc k) c, records-take 0 (suc k) (suc k) [] l (le-refl (suc k))) at r in
         rw (g, still-refused 0 (suc k) (contractRecords l) [] l f k c here)
 
-pub refused-length : (l : List ℕ) (k : ℕ) → read l ≡ refused ContractLength k → (goodLength l ≡ false) × (k ≡ 0)
-refused-length l k h = go (refusal l ContractLength k h)
+pub refused-length : (l : List ℕ) (k : ℕ) → read l ≡ refused BadLength k → (goodLength l ≡ false) × (k ≡ 0)
+refused-length l k h = go (refusal l BadLength k h)
   where
-    go : Refusal l ContractLength k → (goodLength l ≡ false) × (k ≡ 0)
+    go : Refusal l BadLength k → (goodLength l ≡ false) × (k ≡ 0)
     go (at-length g e i) = (g, sym i)
-    go (at-record w r) = absurd (false≢true (stopped 0 (contractRecords l) [] l ContractLength k r .of-record))
+    go (at-record w r) = absurd (false≢true (stopped 0 (contractRecords l) [] l BadLength k r .of-record))
     go (at-end w st g e i) = (cc, cc)
 
 pub refused-end : (l : List ℕ) (k : ℕ) → read l ≡ refused NotOneClause k
@@ -254,6 +255,9 @@ place-max l f k h = go (refusal l f k h)
     go (at-end w st g e i) = omega (arith, w .few-records)
 
 -- ---- no fault but those of reading
+
+abbrev pub readFaults : List Fault
+readFaults = BadLength ∷ NotOneClause ∷ recordFaults
 
 among-more : (f : Fault) → among recordFaults f ≡ true → among readFaults f ≡ true
 among-more f h = rw (h, or-true (eqb (faultNumber f) 6), or-true (eqb (faultNumber f) 1))

@@ -11,7 +11,7 @@ use lib.ListN.{length, take, drop, length-drop}
 use lib.Seq.{take-add, take-all}
 use borrow.Author.Tests.{eqb-true, eq-eqb, ltb-true, lt-ltb, leb-true, le-leb}
 use Rattle.contract.specs.Meaning.{Clause, EmptyFree}
-use Rattle.records.specs.declared.Fault.the-variants.{ContractLength}
+use Rattle.records.specs.declared.Fault.the-variants.{BadLength}
 use Rattle.reader.specs.Limits.{maxRecords, recordBytes}
 use Rattle.reader.specs.Table.{Sort, clause, expression, Kind, line}
 use Rattle.reader.specs.Trees.{Tree, Trees, Fields, goodFields, node}
@@ -110,7 +110,7 @@ module _ (l : List ℕ) (c : Clause) (h : read l ≡ taken c) where
   read-taken : WholeRecords l × (readRecords 0 (contractRecords l) [] l ≡ taken (operand clause c ∷ []))
   unfolding read
   read-taken =
-      required (goodLength l) ContractLength 0 h λ g h₂.
+      required (goodLength l) BadLength 0 h λ g h₂.
       followed (readRecords 0 (contractRecords l) [] l) h₂ λ st h₃ h₄.
       (good-length l .0 g, rw (just-one (contractRecords l) st c h₄) at h₃)
 

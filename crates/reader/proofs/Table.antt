@@ -13,7 +13,7 @@ use Rattle.records.proofs.Numbers.{lt-or-le}
 use Rattle.reader.specs.declared.Lookup.the-variants.{Found, Unknown}
 use Rattle.reader.specs.Table.{Kind, kinds, numbered, kindOf, line, duty, ban, power, both, then, repair, repeat, when, until, any, tries, idle, succeeds, fails, seq, or, star}
 use Rattle.reader.specs.Trees.{Fields, Record}
-use Rattle.reader.specs.Codes.{entryOf, packed, unpacked, lookupOf}
+use Rattle.reader.specs.Codes.{entryOf, packedLine, unpackedLine, lookupOf}
 
 pub kind-number : (k : Kind) → kindOf (line k .number) ≡ some k
 unfolding kindOf numbered
@@ -146,8 +146,8 @@ table-at f d i h = go kinds i h
     go (K ∷ Ks) (suc i) h = go Ks i (omega arith)
 
 -- the program's table
--- each line is packed and unpacked again
-unpacked-line : (k : Kind) → unpacked (packed (entryOf k)) ≡ entryOf k
+-- each line is packedLine and unpackedLine again
+unpacked-line : (k : Kind) → unpackedLine (packedLine (entryOf k)) ≡ entryOf k
 unpacked-line duty = refl
 unpacked-line ban = refl
 unpacked-line power = refl
@@ -167,14 +167,14 @@ unpacked-line or = refl
 unpacked-line star = refl
 
 abbrev pub lines : List ℕ
-lines = map (λ (k : Kind). packed (entryOf k)) kinds
+lines = map (λ (k : Kind). packedLine (entryOf k)) kinds
 
 module _ (d : ℕ) where
-  pub known-clause : (n : ℕ) → OfClause n → lookupOf (kindOf n) ≡ Found (unpacked (getD lines (clausePlace n) d))
-  known-clause n h = rw (clause-kind n h, table-at (λ (k : Kind). packed (entryOf k)) d (clausePlace n) (omega arith), unpacked-line)
+  pub known-clause : (n : ℕ) → OfClause n → lookupOf (kindOf n) ≡ Found (unpackedLine (getD lines (clausePlace n) d))
+  known-clause n h = rw (clause-kind n h, table-at (λ (k : Kind). packedLine (entryOf k)) d (clausePlace n) (omega arith), unpacked-line)
 
-  pub known-expression : (n : ℕ) → OfExpression n → lookupOf (kindOf n) ≡ Found (unpacked (getD lines (expressionPlace n) d))
-  known-expression n h = rw (expression-kind n h, table-at (λ (k : Kind). packed (entryOf k)) d (expressionPlace n) (omega arith), unpacked-line)
+  pub known-expression : (n : ℕ) → OfExpression n → lookupOf (kindOf n) ≡ Found (unpackedLine (getD lines (expressionPlace n) d))
+  known-expression n h = rw (expression-kind n h, table-at (λ (k : Kind). packedLine (entryOf k)) d (expressionPlace n) (omega arith), unpacked-line)
 
 pub unknown : (n : ℕ) → ¬ OfClause n → ¬ OfExpression n → lookupOf (kindOf n) ≡ Unknown
 unknown n no-clause no-expression = rw (no-kind n no-clause no-expression)

@@ -7,7 +7,7 @@ use mathlib.Core.Path.{_≡_}
 use lib.ListN.{drop, getD}
 use lib.Seq.{getD-drop}
 use Rattle.records.specs.Marks.{contractMark, marked}
-use Rattle.records.specs.declared.Fault.the-variants.{ContractMark, UnknownKind, BadField, BadOperands, EmptyList}
+use Rattle.records.specs.declared.Fault.the-variants.{BadMark, UnknownKind, BadField, BadOperands, EmptyList}
 use Rattle.reader.specs.declared.Entry.{Entry}
 use Rattle.reader.specs.declared.Lookup.the-variants.{Found, Unknown}
 use Rattle.reader.specs.declared.Step.the-variants.{Bad, Completed}
@@ -24,7 +24,7 @@ module _ (l : List ℕ) (at b t : ℕ) where
   unfolding marked
   marked-drop = rw (getD-drop at l 0 0, getD-drop at l (0 + 1) 0, add-zero)
 
-  pub step-mark : marked l at contractMark ≡ false → stepOf (drop at l) b t ≡ Bad ContractMark
+  pub step-mark : marked l at contractMark ≡ false → stepOf (drop at l) b t ≡ Bad BadMark
   unfolding stepOf
   step-mark h = rw (marked-drop, h)
 

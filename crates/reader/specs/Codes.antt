@@ -8,7 +8,7 @@ use lib.Dec.{eqb, leb}
 use lib.ListN.{length, getD}
 use Rattle.records.specs.Marks.{contractMark, marked}
 use Rattle.contract.specs.Expressions.{holdsEmpty}
-use Rattle.records.specs.declared.Fault.the-variants.{ContractMark, UnknownKind, BadField, BadOperands, EmptyList}
+use Rattle.records.specs.declared.Fault.the-variants.{BadMark, UnknownKind, BadField, BadOperands, EmptyList}
 use Rattle.reader.specs.declared.Entry.{Entry}
 use Rattle.reader.specs.declared.Lookup.{Lookup}
 use Rattle.reader.specs.declared.Lookup.the-variants.{Found, Unknown}
@@ -39,15 +39,15 @@ entryOf k =
       last = record { least = line k .last .least; greatest = line k .last .greatest };
     }
 
--- a line as one number: from its lowest bits up two bits each for the operands, the sorts and the parties, five for the actions, four for the last
+-- a line as one number: from its lowest bits up two bits each for the operands, the sorts and the partyNumbers, five for the actions, four for the last
 -- byte
-abbrev pub packed : Entry → ℕ
-packed e =
+abbrev pub packedLine : Entry → ℕ
+packedLine e =
     e .operands + 4 * e .first + 16 * e .second + 64 * e .party .least + 256 * e .party .greatest
     + 1024 * e .action .least + 32768 * e .action .greatest + 1048576 * e .last .least + 16777216 * e .last .greatest
 
-abbrev pub unpacked : ℕ → Entry
-unpacked v =
+abbrev pub unpackedLine : ℕ → Entry
+unpackedLine v =
     record {
       operands = v % 4;
       first = v / 4 % 4;
@@ -128,7 +128,7 @@ stepFound (Found e) l b t =
 -- what the record that stands first in the bytes does to a stack with these two codes on top: a fault, or so many operands replaced by one of
 -- this code
 unfoldable pub stepOf : List ℕ → (below top : ℕ) → Step
-stepOf l b t = cond (marked l 0 contractMark) (stepFound (lookupOf (kindOf (getD l 2 0))) l b t) (Bad ContractMark)
+stepOf l b t = cond (marked l 0 contractMark) (stepFound (lookupOf (kindOf (getD l 2 0))) l b t) (Bad BadMark)
 
 -- ---- the premises of the inner functions
 

@@ -9,7 +9,7 @@ use lib.Dec.{eqb, ltb, leb}
 use lib.ListN.{length, take, drop, getD}
 use Rattle.records.specs.Marks.{contractMark, marked}
 use Rattle.records.specs.declared.Fault.{Fault}
-use Rattle.records.specs.declared.Fault.the-variants.{ContractLength, ContractMark, UnknownKind, BadField, BadOperands, NotOneClause, EmptyList}
+use Rattle.records.specs.declared.Fault.the-variants.{BadLength, BadMark, UnknownKind, BadField, BadOperands, NotOneClause, EmptyList}
 use Rattle.records.specs.declared.Test.{Test}
 use Rattle.records.specs.declared.Test.the-variants.{Passed, Refused}
 use Rattle.records.specs.Refusals.{require, among}
@@ -98,7 +98,7 @@ push k s t st = provided (require (not (holdsEmptyUnder s t)) EmptyList k) (take
 -- the stack after record k, which stands first in the bytes
 unfoldable pub readRecord : (k : ℕ) → List Operand → List ℕ → Result (List Operand)
 readRecord k st l =
-    provided (require (marked l 0 contractMark) ContractMark k)
+    provided (require (marked l 0 contractMark) BadMark k)
     (demand (kindOf (getD l 2 0)) UnknownKind k
     (λ kind. provided (require (goodFields (line kind) (fieldsIn l)) BadField k)
     (demand (operandsOf (line kind .operands) st) BadOperands k
@@ -126,7 +126,7 @@ goodLength l = ltb 0 (length l) && eqb (length l % recordBytes) 0 && leb (length
 
 -- the clause that a contract's records spell, or the first refusal: "A contract means what the clause that its last record completes means."
 unfoldable pub read : List ℕ → Result Clause
-read l = provided (require (goodLength l) ContractLength 0) (next (readRecords 0 (contractRecords l) [] l) (justOne (contractRecords l)))
+read l = provided (require (goodLength l) BadLength 0) (next (readRecords 0 (contractRecords l) [] l) (justOne (contractRecords l)))
 
 -- ---- refusals 1 to 7
 
@@ -140,11 +140,7 @@ readTest l = testOf (read l)
 
 -- the faults of one record
 abbrev pub recordFaults : List Fault
-recordFaults = ContractMark ∷ UnknownKind ∷ BadField ∷ BadOperands ∷ EmptyList ∷ []
-
--- the faults that reading can give
-abbrev pub readFaults : List Fault
-readFaults = ContractLength ∷ NotOneClause ∷ recordFaults
+recordFaults = BadMark ∷ UnknownKind ∷ BadField ∷ BadOperands ∷ EmptyList ∷ []
 
 -- ---- the place of a refusal
 

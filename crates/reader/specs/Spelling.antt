@@ -20,12 +20,12 @@ spellRecord r = contractMark ++ (line (r .kind) .number ∷ r .fields .party ∷
 abbrev recordWith : Kind → (party action : ℕ) → Record
 recordWith k p a = record { kind = k; fields = record { party = p; action = a; last = 0 } }
 
--- the record of an operator, and of a kind that uses no field
-abbrev pub operator : Kind → Record
-operator k = recordWith k 0 0
+-- the record of a kind that uses no field, as of every operator
+abbrev pub plainRecord : Kind → Record
+plainRecord k = recordWith k 0 0
 
 abbrev pub atomRecord : Atom → Record
-atomRecord any = operator K.any
+atomRecord any = plainRecord K.any
 atomRecord (tries p a) = recordWith K.tries (number p) a
 atomRecord (idle p a) = recordWith K.idle (number p) a
 atomRecord (succeeds a) = recordWith K.succeeds 0 a
@@ -38,18 +38,18 @@ literalRecord power p a = recordWith K.power (number p) a
 
 unfoldable pub spellExpression : Expression → List ℕ
 spellExpression (atom x) = spellRecord (atomRecord x)
-spellExpression (seq l r) = spellExpression l ++ spellExpression r ++ spellRecord (operator K.seq)
-spellExpression (or l r) = spellExpression l ++ spellExpression r ++ spellRecord (operator K.or)
-spellExpression (star e) = spellExpression e ++ spellRecord (operator K.star)
+spellExpression (seq l r) = spellExpression l ++ spellExpression r ++ spellRecord (plainRecord K.seq)
+spellExpression (or l r) = spellExpression l ++ spellExpression r ++ spellRecord (plainRecord K.or)
+spellExpression (star e) = spellExpression e ++ spellRecord (plainRecord K.star)
 
 unfoldable pub spell : Clause → List ℕ
 spell (literal l p a) = spellRecord (literalRecord l p a)
-spell (both l r) = spell l ++ spell r ++ spellRecord (operator K.both)
-spell (then l r) = spell l ++ spell r ++ spellRecord (operator K.then)
-spell (repair l r) = spell l ++ spell r ++ spellRecord (operator K.repair)
-spell (repeat c) = spell c ++ spellRecord (operator K.repeat)
-spell (when e c) = spellExpression e ++ spell c ++ spellRecord (operator K.when)
-spell (until c e) = spell c ++ spellExpression e ++ spellRecord (operator K.until)
+spell (both l r) = spell l ++ spell r ++ spellRecord (plainRecord K.both)
+spell (then l r) = spell l ++ spell r ++ spellRecord (plainRecord K.then)
+spell (repair l r) = spell l ++ spell r ++ spellRecord (plainRecord K.repair)
+spell (repeat c) = spell c ++ spellRecord (plainRecord K.repeat)
+spell (when e c) = spellExpression e ++ spell c ++ spellRecord (plainRecord K.when)
+spell (until c e) = spell c ++ spellExpression e ++ spellRecord (plainRecord K.until)
 
 -- how many records a tree has
 unfoldable pub expressionRecords : Expression → ℕ
@@ -76,10 +76,11 @@ abbrev pub treeRecords : (s : Sort) → Tree s → ℕ
 treeRecords K.clause c = records c
 treeRecords K.expression e = expressionRecords e
 
--- the fields of every record are in the ranges of its kind; an operator's are 0
+-- a record's fields are in the ranges of its kind
 abbrev pub Allowed : Record → Type 0
 Allowed r = goodFields (line (r .kind)) (r .fields) ≡ true
 
+-- so are those of every record of a tree; an operator's are 0
 unfoldable pub ExpressionInRange : Expression → Type 0
 ExpressionInRange (atom x) = Allowed (atomRecord x)
 ExpressionInRange (seq l r) = ExpressionInRange l × ExpressionInRange r

@@ -30,8 +30,8 @@ abbrev pub unused : Range
 unused = range 0 0
 
 -- "party (1 or 2)"
-abbrev pub parties : Range
-parties = range 1 2
+abbrev pub partyNumbers : Range
+partyNumbers = range 1 2
 
 -- "action (0 to 15)"
 abbrev pub actionNumbers : Range
@@ -51,9 +51,9 @@ abbrev entry : ℕ → Sort → List Sort → (party action last : Range) → Li
 entry n c os p a z = record { number = n; completes = c; operands = os; party = p; action = a; last = z }
 
 abbrev pub line : Kind → Line
-line duty = entry 1 clause [] parties actionNumbers unused
-line ban = entry 2 clause [] parties actionNumbers unused
-line power = entry 3 clause [] parties actionNumbers unused
+line duty = entry 1 clause [] partyNumbers actionNumbers unused
+line ban = entry 2 clause [] partyNumbers actionNumbers unused
+line power = entry 3 clause [] partyNumbers actionNumbers unused
 line both = entry 4 clause (clause ∷ clause ∷ []) unused unused unused
 line then = entry 5 clause (clause ∷ clause ∷ []) unused unused unused
 line repair = entry 6 clause (clause ∷ clause ∷ []) unused unused unused
@@ -61,8 +61,8 @@ line repeat = entry 7 clause (clause ∷ []) unused unused unused
 line when = entry 8 clause (expression ∷ clause ∷ []) unused unused unused
 line until = entry 9 clause (clause ∷ expression ∷ []) unused unused unused
 line any = entry 16 expression [] unused unused unused
-line tries = entry 17 expression [] parties actionNumbers unused
-line idle = entry 18 expression [] parties actionNumbers unused
+line tries = entry 17 expression [] partyNumbers actionNumbers unused
+line idle = entry 18 expression [] partyNumbers actionNumbers unused
 line succeeds = entry 19 expression [] unused actionNumbers unused
 line fails = entry 20 expression [] unused actionNumbers unused
 line seq = entry 21 expression (expression ∷ expression ∷ []) unused unused unused

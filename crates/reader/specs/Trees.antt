@@ -34,7 +34,7 @@ pub record Record : Type 0 where
 unfoldable pub goodFields : Line → Fields → Bool
 goodFields l f = within (l .party) (f .party) && within (l .action) (f .action) && within (l .last) (f .last)
 
--- the party of a field that is 1 or 2
+-- the party of a field in range, 1 or 2
 abbrev pub partyNamed : ℕ → Party
 partyNamed n = cond (eqb n 1) party1 party2
 

@@ -6,7 +6,7 @@ ghost use lib.ListN.{length, drop, getD};
 ghost use Rattle.reader.specs.Limits.{recordBytes};
 ghost use Rattle.reader.specs.Table.{range, within, kindOf};
 ghost use Rattle.reader.specs.Reader.{next, readRecords, justOne, contractRecords, testOf, readTest};
-ghost use Rattle.reader.specs.Codes.{unpacked, lookupOf, operandCount, inRanges, expressionCode, sortOf, goodOperands, emptyUnder, completed, stepOf, HasRecords};
+ghost use Rattle.reader.specs.Codes.{unpackedLine, lookupOf, operandCount, inRanges, expressionCode, sortOf, goodOperands, emptyUnder, completed, stepOf, HasRecords};
 use records::Fault;
 use records::Test;
 
@@ -49,15 +49,15 @@ const LAST_LEAST: u32 = 1048576;
 const LAST_GREATEST: u32 = 16777216;
 
 // A party is 1 or 2, an action one of those that there are. A field that a kind does not use is 0 to 0.
-const PARTIES: u32 = PARTY_LEAST * 1 + PARTY_GREATEST * 2;
+const PARTY_RANGE: u32 = PARTY_LEAST * 1 + PARTY_GREATEST * 2;
 
-const ACTIONS: u32 = ACTION_GREATEST * (periods::ACTIONS - 1);
+const ACTION_RANGE: u32 = ACTION_GREATEST * (periods::ACTIONS - 1);
 
 // A line for each of the kinds 1 to 9, then 16 to 23.
 const TABLE: [u32; 17] = [
-    PARTIES + ACTIONS, // 1 duty
-    PARTIES + ACTIONS, // 2 ban
-    PARTIES + ACTIONS, // 3 power
+    PARTY_RANGE + ACTION_RANGE, // 1 duty
+    PARTY_RANGE + ACTION_RANGE, // 2 ban
+    PARTY_RANGE + ACTION_RANGE, // 3 power
     OPERANDS * 2 + FIRST * CLAUSE as u32 + SECOND * CLAUSE as u32, // 4 both
     OPERANDS * 2 + FIRST * CLAUSE as u32 + SECOND * CLAUSE as u32, // 5 then
     OPERANDS * 2 + FIRST * CLAUSE as u32 + SECOND * CLAUSE as u32, // 6 repair
@@ -65,10 +65,10 @@ const TABLE: [u32; 17] = [
     OPERANDS * 2 + FIRST * EXPRESSION as u32 + SECOND * CLAUSE as u32, // 8 when
     OPERANDS * 2 + FIRST * CLAUSE as u32 + SECOND * EXPRESSION as u32, // 9 until
     0, // 16 any
-    PARTIES + ACTIONS, // 17 tries
-    PARTIES + ACTIONS, // 18 idle
-    ACTIONS, // 19 succeeds
-    ACTIONS, // 20 fails
+    PARTY_RANGE + ACTION_RANGE, // 17 tries
+    PARTY_RANGE + ACTION_RANGE, // 18 idle
+    ACTION_RANGE, // 19 succeeds
+    ACTION_RANGE, // 20 fails
     OPERANDS * 2 + FIRST * EXPRESSION as u32 + SECOND * EXPRESSION as u32, // 21 seq
     OPERANDS * 2 + FIRST * EXPRESSION as u32 + SECOND * EXPRESSION as u32, // 22 or
     OPERANDS * 1 + FIRST * EXPRESSION as u32, // 23 star
@@ -90,8 +90,8 @@ pub struct Entry {
     pub last: Range,
 }
 
-fn unpacked(line: u32) -> Entry
-    ensures { λ r. ⌜ r ≡ unpacked line ⌝ }
+fn unpacked_line(line: u32) -> Entry
+    ensures { λ r. ⌜ r ≡ unpackedLine line ⌝ }
 {
     Entry {
         operands: (line % 4) as u8,
@@ -123,8 +123,8 @@ fn entry_of(kind: u8) -> Lookup
 {
     let table = TABLE;
     match kind {
-        1..=9 => Lookup::Found(unpacked(table[kind as usize - 1])),
-        16..=23 => Lookup::Found(unpacked(table[kind as usize - 7])),
+        1..=9 => Lookup::Found(unpacked_line(table[kind as usize - 1])),
+        16..=23 => Lookup::Found(unpacked_line(table[kind as usize - 7])),
         _ => Lookup::Unknown,
     }
 }
@@ -223,7 +223,7 @@ fn read_record(contract: &[u8], at: usize, below: u8, top: u8) -> Step
     ensures { λ r. ⌜ r ≡ stepOf (drop at (now (contract .entry))) below top ⌝ }
 {
     if !records::marked(contract, at, records::CONTRACT_MARK) {
-        return Step::Bad(Fault::ContractMark);
+        return Step::Bad(Fault::BadMark);
     }
     let kind = contract[at + 2];
     let found = entry_of(kind);
@@ -296,7 +296,7 @@ pub fn read(contract: &[u8]) -> Test
 {
     let bytes = contract.len();
     if bytes == 0 || bytes % RECORD_BYTES != 0 || RECORD_BYTES * MAX_RECORDS < bytes {
-        return Test::Refused(Fault::ContractLength, 0);
+        return Test::Refused(Fault::BadLength, 0);
     }
     read_records(contract, contract_records(contract))
 }

@@ -2,15 +2,15 @@
 use Prim.Native.Nat.{ℕ, zero, suc, _+_, _-_, _≤_, _<_, _^_}
 use native.Mathlib.Nat.{zero-add, add-zero, add-suc, suc-add, le-refl}
 use native.Mathlib.Omega.{arith}
-use mathlib.Core.Path.{_≡_, refl, sym, _∙_}
+use mathlib.Core.Path.{_≡_, refl, sym, ap, _∙_}
 use mathlib.Core.Bool.{Bool, true, false, _&&_, _||_, and-eq-true-iff, or-assoc, or-true, false≢true}
 use mathlib.Core.Logic.{_⊎_, inl, inr, ⊎-elim}
 use mathlib.Core.List.{List, [], _∷_, _++_}
 use Rattle.records.specs.declared.Test.{Test}
 use Rattle.records.specs.declared.Test.the-variants.{Passed, Refused}
 use Rattle.records.specs.declared.Fault.{Fault}
-use Rattle.records.specs.declared.Fault.the-variants.{ContractLength, ContractMark, UnknownKind, BadField, BadOperands, NotOneClause, EmptyList, ShortBuffer, BadImage, BadState, BadPeriod, FullCount, LongInput}
-use Rattle.records.specs.Refusals.{faultNumber, numberOf, require, firstOf, firstFailing, among, onlyFor}
+use Rattle.records.specs.declared.Fault.the-variants.{BadLength, BadMark, UnknownKind, BadField, BadOperands, NotOneClause, EmptyList, ShortBuffer, BadImage, BadState, BadPeriod, FullCount, LongInput}
+use Rattle.records.specs.Refusals.{faultNumber, numberOf, require, firstOf, firstFailing, passed, among}
 use Rattle.records.proofs.Numbers.{lt-or-le}
 use lib.Dec.{eqb, leb, ltb, lit<}
 use borrow.Author.Tests.{leb-true, ltb-true}
@@ -141,8 +141,8 @@ require-passed false f p e = absurd (refused-passed e)
 
 -- a fault's number is 1 or above, and of one byte
 numbered : (f : Fault) → (leb 1 (faultNumber f) && ltb (faultNumber f) 256) ≡ true
-numbered ContractLength = refl
-numbered ContractMark = refl
+numbered BadLength = refl
+numbered BadMark = refl
 numbered UnknownKind = refl
 numbered BadField = refl
 numbered BadOperands = refl
@@ -169,7 +169,19 @@ pub number-small : (t : Test) → numberOf t < 256 ^ 4
 number-small Passed = lit< tt
 number-small (Refused f k) = omega (arith, fault-bounds f .1)
 
+pub passed-is : (t : Test) → passed t ≡ true → t ≡ Passed
+passed-is Passed h = refl
+passed-is (Refused f k) h = absurd (false≢true h)
+
+pub passed-not : (t : Test) → passed t ≡ false → ¬ (t ≡ Passed)
+passed-not t h e = false≢true (sym h ∙ ap passed e)
+
 -- ---- which faults a test can give
+
+-- the test is passed, or refused for one of these faults
+abbrev pub onlyFor : List Fault → Test → Bool
+onlyFor fs Passed = true
+onlyFor fs (Refused f place) = among fs f
 
 pub only-require : (fs : List Fault) (f : Fault) → among fs f ≡ true → (ok : Bool) (k : ℕ) → onlyFor fs (require ok f k) ≡ true
 only-require fs f h true k = refl

@@ -11,7 +11,7 @@ use Rattle.records.specs.Fields.{bytes, field}
 use Rattle.records.specs.declared.Test.{Test}
 use Rattle.records.specs.declared.Test.the-variants.{Passed, Refused}
 use Rattle.records.specs.Refusals.{numberOf, placeOf}
-use Rattle.records.specs.Replies.{Field, fieldsBytes, size, replyFields, zeros, Gives, unwritten, written, answered, call}
+use Rattle.records.specs.Replies.{Field, fieldsBytes, size, Answer, alone, replyOf, replyBytes, zeros, zeroed, Gives, unwritten, written, answered, call}
 use Rattle.records.proofs.Fields.{length-bytes}
 use Rattle.records.proofs.Written.{sets-append, drop-after, field-in, field-spelled}
 
@@ -42,7 +42,7 @@ fields-written area fs gs = rw (fields-append fs gs, sets-append, length-fields 
 
 -- a reply's first three fields
 pub head-written : (area : List ℕ) (t : Test) (own : ℕ)
-    → sets area 0 (fieldsBytes (replyFields t own [])) ≡ sets (sets (sets area 0 (bytes 4 (numberOf t))) 4 (bytes 4 own)) 8 (bytes 8 (placeOf t))
+    → sets area 0 (replyOf t (alone own)) ≡ sets (sets (sets area 0 (bytes 4 (numberOf t))) 4 (bytes 4 own)) 8 (bytes 8 (placeOf t))
 unfolding fieldsBytes
 head-written area t own = simp (append-nil, sets-append, length-bytes)
 
@@ -65,33 +65,31 @@ after-fields fs area = drop-after area 0 (fieldsBytes fs) (size fs) (rw length-f
 
 -- ---- what a call leaves
 
-module _ {Lent : Type 0} (t : Test) (own : ℕ) (others : List Field) (lent later : Lent) (area : List ℕ) where
-  pub call-no-room : length area < size (replyFields t own others) → call t own others lent later area ≡ unwritten lent area
+module _ {Buffers : Type 0} (t : Test) (a : Answer) (before later : Buffers) (area : List ℕ) where
+  pub call-no-room : length area < replyBytes a → call t a before later area ≡ unwritten before area
   unfolding call
-  call-no-room h = rw (lt-ltb (length area) (size (replyFields t own others)) h)
+  call-no-room h = rw (lt-ltb (length area) (replyBytes a) h)
 
-  pub call-passed : size (replyFields t own others) ≤ length area → t ≡ Passed
-      → call t own others lent later area ≡ written later area (replyFields Passed own others)
+  pub call-passed : replyBytes a ≤ length area → t ≡ Passed → call t a before later area ≡ written later area Passed a
   unfolding call
-  call-passed h e = rw (le-ltb (length area) (size (replyFields t own others)) h, e)
+  call-passed h e = rw (le-ltb (length area) (replyBytes a) h, e)
 
-  refused : (t : Test) → ¬ (t ≡ Passed) → answered t own others lent later area ≡ written lent area (replyFields t 0 (zeros others))
+  refused : (t : Test) → ¬ (t ≡ Passed) → answered t a before later area ≡ written before area t (zeroed a)
   refused Passed h = absurd (h refl)
   refused (Refused f k) h = refl
 
-  pub call-refused : size (replyFields t own others) ≤ length area → ¬ (t ≡ Passed)
-      → call t own others lent later area ≡ written lent area (replyFields t 0 (zeros others))
+  pub call-refused : replyBytes a ≤ length area → ¬ (t ≡ Passed) → call t a before later area ≡ written before area t (zeroed a)
   unfolding call
-  call-refused h e = rw (le-ltb (length area) (size (replyFields t own others)) h) (refused t e)
+  call-refused h e = rw (le-ltb (length area) (replyBytes a) h) (refused t e)
 
   -- the three ways out of a call
-  pub gives-no-room : length area < size (replyFields t own others) → Gives (call t own others lent later area) 0 lent area
-  gives-no-room h = rw (call-no-room h) record { result-is = refl; lent-is = refl; reply-is = refl }
+  pub gives-no-room : length area < replyBytes a → Gives (call t a before later area) 0 before area
+  gives-no-room h = rw (call-no-room h) record { result-is = refl; buffers-are = refl; reply-is = refl }
 
-  pub gives-refused : size (replyFields t own others) ≤ length area → ¬ (t ≡ Passed) → (r : List ℕ)
-      → r ≡ sets area 0 (fieldsBytes (replyFields t 0 (zeros others))) → Gives (call t own others lent later area) 1 lent r
-  gives-refused h e r j = rw (call-refused h e) record { result-is = refl; lent-is = refl; reply-is = j }
+  pub gives-refused : replyBytes a ≤ length area → ¬ (t ≡ Passed) → (r : List ℕ) → r ≡ sets area 0 (replyOf t (zeroed a))
+      → Gives (call t a before later area) 1 before r
+  gives-refused h e r j = rw (call-refused h e) record { result-is = refl; buffers-are = refl; reply-is = j }
 
-  pub gives-passed : size (replyFields t own others) ≤ length area → t ≡ Passed → (l : Lent) (r : List ℕ)
-      → l ≡ later → r ≡ sets area 0 (fieldsBytes (replyFields Passed own others)) → Gives (call t own others lent later area) 1 l r
-  gives-passed h e l r i j = rw (call-passed h e) record { result-is = refl; lent-is = i; reply-is = j }
+  pub gives-passed : replyBytes a ≤ length area → t ≡ Passed → (l : Buffers) (r : List ℕ) → l ≡ later → r ≡ sets area 0 (replyOf Passed a)
+      → Gives (call t a before later area) 1 l r
+  gives-passed h e l r i j = rw (call-passed h e) record { result-is = refl; buffers-are = i; reply-is = j }

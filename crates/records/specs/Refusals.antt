@@ -5,14 +5,14 @@ use mathlib.Core.Bool.{Bool, true, false, _||_, cond}
 use mathlib.Core.List.{List, [], _∷_}
 use lib.Dec.{eqb}
 use Rattle.records.specs.declared.Fault.{Fault}
-use Rattle.records.specs.declared.Fault.the-variants.{ContractLength, ContractMark, UnknownKind, BadField, BadOperands, NotOneClause, EmptyList, ShortBuffer, BadImage, BadState, BadPeriod, FullCount, LongInput}
+use Rattle.records.specs.declared.Fault.the-variants.{BadLength, BadMark, UnknownKind, BadField, BadOperands, NotOneClause, EmptyList, ShortBuffer, BadImage, BadState, BadPeriod, FullCount, LongInput}
 use Rattle.records.specs.declared.Test.{Test}
 use Rattle.records.specs.declared.Test.the-variants.{Passed, Refused}
 
 -- a fault's number in the table
 abbrev pub faultNumber : Fault → ℕ
-faultNumber ContractLength = 1
-faultNumber ContractMark = 2
+faultNumber BadLength = 1
+faultNumber BadMark = 2
 faultNumber UnknownKind = 3
 faultNumber BadField = 4
 faultNumber BadOperands = 5
@@ -48,14 +48,12 @@ unfoldable pub firstFailing : (ℕ → Bool) → ℕ → ℕ → ℕ
 firstFailing ok k zero = k
 firstFailing ok k (suc n) = cond (ok k) (firstFailing ok (suc k) n) k
 
--- ---- which faults a test can give
+-- no test refuses
+abbrev pub passed : Test → Bool
+passed Passed = true
+passed (Refused f place) = false
 
 -- the fault is one of these
 abbrev pub among : List Fault → Fault → Bool
 among [] f = false
 among (g ∷ gs) f = eqb (faultNumber f) (faultNumber g) || among gs f
-
--- the test is passed, or refused for one of these faults
-abbrev pub onlyFor : List Fault → Test → Bool
-onlyFor fs Passed = true
-onlyFor fs (Refused f place) = among fs f

@@ -6,7 +6,7 @@ use mathlib.Core.Path.{_≡_}
 use lib.Dec.{ltb}
 use lib.ListN.{length}
 use lib.Seq.{sets}
-use Rattle.records.specs.Fields.{bytes}
+use Rattle.records.specs.Fields.{bytes, field}
 use Rattle.records.specs.declared.Test.{Test}
 use Rattle.records.specs.declared.Test.the-variants.{Passed, Refused}
 use Rattle.records.specs.Refusals.{numberOf, placeOf}
@@ -33,48 +33,72 @@ abbrev pub size : List Field → ℕ
 size [] = 0
 size (f ∷ fs) = f .width + size fs
 
--- every reply: number, a field of the call's own, place, and then its other fields
-abbrev pub replyFields : Test → (own : ℕ) → (others : List Field) → List Field
-replyFields t own others = four (numberOf t) ∷ four own ∷ eight (placeOf t) ∷ others
+-- what a call answers beside number and place: the field between the two, and those behind them
+pub record Answer : Type 0 where
+  pub own : ℕ
+  pub others : List Field
 
--- the bytes of the first three
-abbrev pub replyHead : ℕ
-replyHead = 16
+abbrev pub alone : ℕ → Answer
+alone n = record { own = n; others = [] }
 
--- the same fields, each 0
+abbrev pub replyFields : Test → Answer → List Field
+replyFields t a = four (numberOf t) ∷ four (a .own) ∷ eight (placeOf t) ∷ a .others
+
+-- a reply's bytes
+abbrev pub replyOf : Test → Answer → List ℕ
+replyOf t a = fieldsBytes (replyFields t a)
+
+-- how many they are, whatever the tests find
+abbrev pub replyBytes : Answer → ℕ
+replyBytes a = size (replyFields Passed a)
+
+-- "every other field is 0"
 abbrev pub zeros : List Field → List Field
 zeros [] = []
 zeros (f ∷ fs) = record { width = f .width; value = 0 } ∷ zeros fs
 
+abbrev pub zeroed : Answer → Answer
+zeroed a = record { own = 0; others = zeros (a .others) }
+
 -- ---- what a call leaves
 
--- its result, the later bytes of the buffers that it may write, and those of the reply area
-pub record After (Lent : Type 0) : Type 0 where
+-- its result, the bytes of the buffers that it may write, and those of the reply area
+pub record After (Buffers : Type 0) : Type 0 where
   pub result : ℕ
-  pub lent : Lent
+  pub buffers : Buffers
   pub reply : List ℕ
 
 -- a call's result and the later bytes are those
-pub record Gives {Lent : Type 0} (after : After Lent) (result : ℕ) (lent : Lent) (reply : List ℕ) : Type 0 where
+pub record Gives {Buffers : Type 0} (after : After Buffers) (result : ℕ) (buffers : Buffers) (reply : List ℕ) : Type 0 where
   pub result-is : result ≡ after .result
-  pub lent-is : lent ≡ after .lent
+  pub buffers-are : buffers ≡ after .buffers
   pub reply-is : reply ≡ after .reply
 
 -- "If that area is too short for the reply, the call writes nothing anywhere"
-abbrev pub unwritten : {Lent : Type 0} → Lent → (area : List ℕ) → After Lent
-unwritten lent area = record { result = 0; lent = lent; reply = area }
+abbrev pub unwritten : {Buffers : Type 0} → Buffers → (area : List ℕ) → After Buffers
+unwritten buffers area = record { result = 0; buffers = buffers; reply = area }
 
 -- the reply in the area's first bytes, and the buffers that come with it
-abbrev pub written : {Lent : Type 0} → Lent → (area : List ℕ) → List Field → After Lent
-written lent area fs = record { result = 1; lent = lent; reply = sets area 0 (fieldsBytes fs) }
+abbrev pub written : {Buffers : Type 0} → Buffers → (area : List ℕ) → Test → Answer → After Buffers
+written buffers area t a = record { result = 1; buffers = buffers; reply = sets area 0 (replyOf t a) }
 
--- accepted, it replies its own fields and leaves the buffers `later`; "A refusal gives its number and a place; every other field is 0 and every
--- lent buffer but the reply's area is unchanged."
-abbrev pub answered : {Lent : Type 0} → Test → (own : ℕ) → (others : List Field) → (lent later : Lent) → (area : List ℕ) → After Lent
-answered Passed own others lent later area = written later area (replyFields Passed own others)
-answered (Refused f place) own others lent later area = written lent area (replyFields (Refused f place) 0 (zeros others))
+-- accepted, it answers and leaves the buffers `later`; "A refusal gives its number and a place; every other field is 0 and every lent buffer but
+-- the reply's area is unchanged."
+abbrev pub answered : {Buffers : Type 0} → Test → Answer → (before later : Buffers) → (area : List ℕ) → After Buffers
+answered Passed a before later area = written later area Passed a
+answered (Refused f place) a before later area = written before area (Refused f place) (zeroed a)
 
--- any call: what its tests find, what it replies and leaves where they are passed, and what it was lent
-unfoldable pub call : {Lent : Type 0} → Test → (own : ℕ) → (others : List Field) → (lent later : Lent) → (area : List ℕ) → After Lent
-call t own others lent later area =
-    cond (ltb (length area) (size (replyFields t own others))) (unwritten lent area) (answered t own others lent later area)
+-- any call: what its tests find, what it answers and leaves where they are passed, and what it was lent
+unfoldable pub call : {Buffers : Type 0} → Test → Answer → (before later : Buffers) → (area : List ℕ) → After Buffers
+call t a before later area = cond (ltb (length area) (replyBytes a)) (unwritten before area) (answered t a before later area)
+
+-- ---- what is read of a reply
+
+abbrev pub numberIn : List ℕ → ℕ
+numberIn reply = field reply 0 4
+
+abbrev pub ownIn : List ℕ → ℕ
+ownIn reply = field reply 4 4
+
+abbrev pub placeIn : List ℕ → ℕ
+placeIn reply = field reply 8 8

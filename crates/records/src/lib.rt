@@ -7,7 +7,7 @@ ghost use lib.Seq.{sets};
 ghost use Rattle.records.specs.Fields.{bytes, HoldsField};
 ghost use Rattle.records.specs.Marks.{marked};
 ghost use Rattle.records.specs.Refusals.{faultNumber, numberOf, placeOf};
-ghost use Rattle.records.specs.Replies.{replyHead, fieldsBytes, replyFields};
+ghost use Rattle.records.specs.Replies.{alone, replyOf, replyBytes};
 
 // The first two bytes of each record.
 pub const CONTRACT_MARK: [u8; 2] = [0x54, 0x43];
@@ -101,8 +101,8 @@ pub fn put_mark(s: &mut [u8], at: usize, mark: [u8; 2])
 
 // Document 01's table, in its order.
 pub enum Fault {
-    ContractLength,
-    ContractMark,
+    BadLength,
+    BadMark,
     UnknownKind,
     BadField,
     BadOperands,
@@ -127,8 +127,8 @@ pub fn fault_number(f: Fault) -> u32
     ensures { λ r. ⌜ r ≡ faultNumber f ⌝ }
 {
     match f {
-        Fault::ContractLength => 1,
-        Fault::ContractMark => 2,
+        Fault::BadLength => 1,
+        Fault::BadMark => 2,
         Fault::UnknownKind => 3,
         Fault::BadField => 4,
         Fault::BadOperands => 5,
@@ -170,8 +170,8 @@ pub const REPLY_HEAD: usize = 16;
 
 // Writes a reply's first three fields.
 pub fn put_head(reply: &mut [u8], t: Test, own: u32)
-    requires { ⌜ replyHead ≤ length (now reply) ⌝ }
-    ensures { λ _. ⌜ now (reply .exit) ≡ sets (now (reply .entry)) 0 (fieldsBytes (replyFields t own [])) ⌝ }
+    requires { ⌜ replyBytes (alone own) ≤ length (now reply) ⌝ }
+    ensures { λ _. ⌜ now (reply .exit) ≡ sets (now (reply .entry)) 0 (replyOf t (alone own)) ⌝ }
 {
     put4(reply, 0, number(t));
     put4(reply, 4, own);

@@ -5,7 +5,7 @@ use Rattle.records.specs.Marks.{marked}
 use Rattle.records.specs.Refusals.{firstFailing}
 use Rattle.periods.specs.Forms.{formOf}
 use Rattle.periods.specs.Periods.{tries, bit, periodFrom}
-use Rattle.periods.specs.Traces.{wholeRecords, markedAs, periodAt, marksTest, traceTest, periodsOf}
+use Rattle.periods.specs.Traces.{wholePeriods, markedAs, periodAt, marksTest, traceTest, periodsOf}
 use Rattle.contract.specs.Meaning.{meaning, repeatMeaning}
 use Rattle.reader.specs.Table.{numbered, kindOf}
 use Rattle.reader.specs.Trees.{goodFields, node}
@@ -19,7 +19,7 @@ use Rattle.report.proofs.Reports.{longer}
 
 pub report-vectors : ReportVectors
 unfolding
-    report contractLength firstPeriod firstFailing formOf wholeRecords markedAs marked read Reader.goodLength Reader.contractRecords readRecords readRecord numbered
+    report contractLength firstPeriod firstFailing formOf wholePeriods markedAs marked read Reader.goodLength Reader.contractRecords readRecords readRecord numbered
     kindOf goodFields operandsOf node onTrace traceTest marksTest lines periodLines meantLine periodsOf periodAt periodFrom field value meaning repeatMeaning
     tries bit periodLine decidedLine refusedLine decimal digits
 report-vectors =

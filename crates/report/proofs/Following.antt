@@ -10,13 +10,14 @@ use lib.ListN.{length, replicate, take, drop}
 use lib.Seq.{sets}
 use Rattle.records.specs.Fields.{HoldsField}
 use Rattle.records.specs.Verdicts.{Verdict, «open», met, broken, met-after, broken-after, verdictNumber}
-use Rattle.records.specs.Replies.{four, eight, fieldsBytes, Gives}
+use Rattle.records.specs.declared.Test.the-variants.{Passed}
+use Rattle.records.specs.Replies.{four, eight, replyOf, Gives}
 use Rattle.records.proofs.Replies.{field-back}
 use Rattle.periods.specs.Forms.{periodBytes, formOf}
 use Rattle.periods.specs.Periods.{Period, party1, party2}
-use Rattle.periods.specs.Traces.{periodRecords, markedAt, periodsOf, recordAt}
+use Rattle.periods.specs.Traces.{periodRecords, markedAt, periodsOf, periodRecordAt}
 use Rattle.periods.proofs.Forms.{few-whole}
-use Rattle.periods.proofs.Traces.{length-periodsOf, trace-marks, record-period, record-test}
+use Rattle.periods.proofs.Traces.{length-periodsOf, trace-marks, record-period, period-test}
 use Rattle.states.specs.Limits.{maxPeriods}
 use Rattle.runner.specs.Calls.{beginReplyBytes, stepReplyBytes, begin, step}
 use Rattle.runner.specs.StepCalls.{StepCall, stateAfterCall}
@@ -25,7 +26,7 @@ use Rattle.contract.specs.Verdicts.{decisionPeriod, blame, verdict}
 use Rattle.contract.proofs.Meaning.{within, within-period}
 use Rattle.reader.specs.Reader.{taken, read}
 use Rattle.reader.proofs.Reader.{taken-spells}
-use Rattle.image.specs.Monitors.{callTest, accepts, periodsAfter, meantReply, AnswersCalls, Monitors}
+use Rattle.image.specs.Monitors.{callTest, accepts, periodsAfter, meantAnswer, AnswersCalls, Monitors}
 use Rattle.report.specs.declared.Stepped.{Stepped}
 use Rattle.report.specs.Limits.{lineBytes, inputPeriods}
 use Rattle.report.specs.Texts.{periodLine, decidedLine, Puts}
@@ -40,12 +41,12 @@ pub stepped-on : (image state trace : List ℕ) (k bytes : ℕ) → bytes ≡ pe
     → Gives (step image state (take (bytes * k + bytes - bytes * k) (drop (bytes * k) trace)) (replicate stepReplyBytes 0)) result later reply
     → (s : Stepped) → HoldsField reply 4 4 (s .verdict) → HoldsField reply 16 4 (s .blame) → HoldsField reply 20 4 (s .decision)
     → Stepping image state trace k later s
-unfolding recordAt
+unfolding periodRecordAt
 stepped-on image state trace k bytes i result later reply g s v b d =
     let e : bytes * k + bytes - bytes * k ≡ bytes = omega arith in
     let h = rw (e, i) at g in
     record {
-      state-is = h .lent-is;
+      state-is = h .buffers-are;
       verdict-is = rw (← h .reply-is) (v .is);
       blame-is = rw (← h .reply-is) (b .is);
       decision-is = rw (← h .reply-is) (d .is);
@@ -78,17 +79,17 @@ module _ (c : Clause) (image state trace : List ℕ) (k : ℕ) (later : List ℕ
   next = periodsOf trace (suc k)
 
   abbrev the-call : StepCall
-  the-call = record { period = recordAt trace k; reply = replicate stepReplyBytes 0 }
+  the-call = record { period = periodRecordAt trace k; reply = replicate stepReplyBytes 0 }
 
   is-accepted : accepts (length before) the-call ≡ true
   unfolding accepts callTest
-  is-accepted = rw (record-test trace k h m, length-periodsOf trace k, lt-ltb k maxPeriods (omega arith))
+  is-accepted = rw (period-test trace k h m, length-periodsOf trace k, lt-ltb k maxPeriods (omega arith))
 
   periods-next : periodsAfter before the-call ≡ next
   unfolding periodsAfter periodsOf
   periods-next = rw (is-accepted, record-period trace k h)
 
-  reply-meant : step image state (recordAt trace k) (replicate stepReplyBytes 0) .reply ≡ sets (replicate stepReplyBytes 0) 0 (fieldsBytes (meantReply c next))
+  reply-meant : step image state (periodRecordAt trace k) (replicate stepReplyBytes 0) .reply ≡ sets (replicate stepReplyBytes 0) 0 (replyOf Passed (meantAnswer c next))
   unfolding AnswersCalls
   reply-meant = rw periods-next at (f .answers (the-call ∷ []) .1 .accepted is-accepted .1)
 
@@ -103,7 +104,7 @@ module _ (c : Clause) (image state trace : List ℕ) (k : ℕ) (later : List ℕ
   seen = verdictNumber (verdict decided (length next))
 
   pub seen-verdict : s .verdict ≡ verdictNumber (verdict decided (length next))
-  unfolding meantReply
+  unfolding meantAnswer
   seen-verdict =
       g .verdict-is
       ∙ rw reply-meant
@@ -111,7 +112,7 @@ module _ (c : Clause) (image state trace : List ℕ) (k : ℕ) (later : List ℕ
       (small-verdict (verdict decided (length next))))
 
   pub seen-blame : s .blame ≡ blame decided
-  unfolding meantReply
+  unfolding meantAnswer
   seen-blame =
       g .blame-is
       ∙ rw reply-meant
@@ -119,7 +120,7 @@ module _ (c : Clause) (image state trace : List ℕ) (k : ℕ) (later : List ℕ
       (omega (arith, small-blame decided)))
 
   pub seen-decision : s .decision ≡ decisionPeriod decided
-  unfolding meantReply
+  unfolding meantAnswer
   seen-decision =
       let e : length next ≡ suc k = length-periodsOf trace (suc k) in
       g .decision-is
@@ -220,13 +221,13 @@ module _ {image state₀ trace text₀ : List ℕ} {n : ℕ} (a : Listing image 
 module _ {image state trace text : List ℕ} (a : Following image state trace text) where
   -- begin's state follows the clause of whichever contract the image monitors
   pub begun : (contract : List ℕ) (c : Clause) → Monitors contract image → read contract ≡ taken c → (reply : List ℕ) → beginReplyBytes ≤ length reply
-      → Follows c image (begin image state reply .lent) []
+      → Follows c image (begin image state reply .buffers) []
   begun contract c m e reply r =
       let i : m .clause ≡ c = let g = sym (m .means) ∙ e in cc in
       record { free = taken-spells contract c e .empty-free; answers = rw i at (m .answers state reply (a .state-long) r .1) }
 
   -- the lines can be put
-  pub may-list : (reply later : List ℕ) → beginReplyBytes ≤ length reply → later ≡ begin image state reply .lent
+  pub may-list : (reply later : List ℕ) → beginReplyBytes ≤ length reply → later ≡ begin image state reply .buffers
       → Listing image later trace (periodRecords trace) text
   may-list reply later r e =
       let sixes = few-whole (formOf trace) trace in
@@ -239,7 +240,7 @@ module _ {image state trace text : List ℕ} (a : Following image state trace te
         room = omega (arith, a .short, a .room);
       }
 
-  pub all-followed : (reply later : List ℕ) → beginReplyBytes ≤ length reply → later ≡ begin image state reply .lent → (last : List ℕ) (n : ℕ)
+  pub all-followed : (reply later : List ℕ) → beginReplyBytes ≤ length reply → later ≡ begin image state reply .buffers → (last : List ℕ) (n : ℕ)
       → Listed image later trace (periodRecords trace) text last n → Followed image trace text last n
   all-followed reply later r e last n l =
       record { puts = λ contract c m d. l .puts c (rw e (begun contract c m d reply r)) }

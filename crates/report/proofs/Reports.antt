@@ -12,7 +12,7 @@ use Rattle.records.specs.declared.Fault.the-variants.{LongInput}
 use Rattle.records.specs.declared.Test.{Test}
 use Rattle.records.specs.declared.Test.the-variants.{Passed, Refused}
 use Rattle.records.specs.Refusals.{faultNumber, numberOf, placeOf, firstOf}
-use Rattle.records.specs.Replies.{four, eight, fieldsBytes, replyFields, call}
+use Rattle.records.specs.Replies.{four, eight, alone, replyOf, call}
 use Rattle.records.proofs.Refusals.{fault-bounds}
 use Rattle.records.proofs.Replies.{field-back}
 use Rattle.periods.specs.Forms.{formOf}
@@ -71,7 +71,7 @@ module _ (contract buffer : List ℕ) (e : length buffer ≡ bufferBytes maxReco
   roomy : bufferBytes (contractRecords contract) ≤ length buffer
   roomy = omega (arith, taken-count contract c i, taken-spells contract c i .few-records)
 
-  same-long : length (compile contract buffer (replicate compileReplyBytes 0) .lent) ≡ length buffer
+  same-long : length (compile contract buffer (replicate compileReplyBytes 0) .buffers) ≡ length buffer
   unfolding compile compileTest call readTest
   same-long = rw (i, le-leb (bufferBytes (contractRecords contract)) (length buffer) roomy) (length-sets buffer 0 (imageFor contract))
 
@@ -79,7 +79,7 @@ module _ (contract buffer : List ℕ) (e : length buffer ≡ bufferBytes maxReco
 module _ {contract buffer later : List ℕ} {r : Compiled} (h : Compiling contract buffer later r) (e : length buffer ≡ bufferBytes maxRecords) where
   -- the reply of a refusal
   refused-reply : (f : Fault) (k : ℕ) → read contract ≡ refused f k
-      → h .reply ≡ sets (replicate compileReplyBytes 0) 0 (fieldsBytes (replyFields (Refused f k) 0 []))
+      → h .reply ≡ sets (replicate compileReplyBytes 0) 0 (replyOf (Refused f k) (alone 0))
   unfolding compile compileTest call readTest
   refused-reply f k i = h .compiles .gives .reply-is ∙ rw i
 
@@ -110,7 +110,7 @@ module _ {contract buffer later : List ℕ} {r : Compiled} (h : Compiling contra
           let u = usable c i in
           let s : r .rows ≡ u .count = h .rows-is ∙ u .count-is in
           let few : u .count ≤ maxRows = omega (arith, u .few, taken-count contract c i, taken-spells contract c i .few-records) in
-          let long : length later ≡ length buffer = rw (h .compiles .gives .lent-is) (same-long contract buffer e c i) in
+          let long : length later ≡ length buffer = rw (h .compiles .gives .buffers-are) (same-long contract buffer e c i) in
           let within : rowBytes * (u .count + 1) ≤ length later = omega arith in
           rw s record {
             few = few;
@@ -183,10 +183,10 @@ module _ (image state reply : List ℕ) (g : imageTest image ≡ Passed) (e : le
   unfolding beginTest
   begins = rw (g, eq-eqb (length state) (headBytes + rowCount image) e)
 
-  begun : stateOf (begin image state reply .lent) ≡ freshState (rowCount image)
+  begun : stateOf (begin image state reply .buffers) ≡ freshState (rowCount image)
   begun = rw (begin-written image state reply r begins, e) (fresh-read (rowCount image))
 
-  pub only-trace : (trace : List ℕ) → length trace ≤ inputBytes → runTest image (begin image state reply .lent) trace ≡ traceTest trace
+  pub only-trace : (trace : List ℕ) → length trace ≤ inputBytes → runTest image (begin image state reply .buffers) trace ≡ traceTest trace
   unfolding runTest countTest
   only-trace trace l =
       let few : periodRecords trace ≤ maxPeriods = omega (arith, few-whole (formOf trace) trace) in

@@ -11,18 +11,18 @@ use Rattle.records.specs.Refusals.{firstFailing}
 use Rattle.records.proofs.Refusals.{failing-max}
 use Rattle.periods.specs.declared.Form.the-variants.{Short}
 use Rattle.periods.specs.Forms.{periodBytes}
-use Rattle.periods.specs.Traces.{wholeRecords, marksAre}
+use Rattle.periods.specs.Traces.{wholePeriods, marksAre}
 use Rattle.periods.proofs.Forms.{few-whole}
 use Rattle.report.specs.Split.{firstPeriod, contractLength}
 
 module _ (input : List ℕ) where
   -- the first with the mark is one of them, or past the last
-  pub first-within : firstPeriod input ≤ wholeRecords Short input
+  pub first-within : firstPeriod input ≤ wholePeriods Short input
   unfolding firstPeriod
-  first-within = omega (arith, failing-max (marksAre false Short input) 0 (wholeRecords Short input))
+  first-within = omega (arith, failing-max (marksAre false Short input) 0 (wholePeriods Short input))
 
   -- n whole six bytes, the first of which with the mark is number k, or k is n where none has it
-  module _ (n k : ℕ) (e : n ≡ wholeRecords Short input) (f : k ≡ firstFailing (marksAre false Short input) 0 n) where
+  module _ (n k : ℕ) (e : n ≡ wholePeriods Short input) (f : k ≡ firstFailing (marksAre false Short input) 0 n) where
     first-is : firstPeriod input ≡ k
     unfolding firstPeriod
     first-is = rw (← e, ← f)
@@ -33,16 +33,16 @@ module _ (input : List ℕ) where
     -- "Without such a record all is contract."
     pub none-found : k ≡ n → length input ≡ contractLength input
     unfolding contractLength
-    none-found h = rw (eq-eqb (firstPeriod input) (wholeRecords Short input) (first-is ∙ h ∙ e))
+    none-found h = rw (eq-eqb (firstPeriod input) (wholePeriods Short input) (first-is ∙ h ∙ e))
 
     pub one-found : ¬ (k ≡ n) → periodBytes Short * k ≡ contractLength input
     unfolding contractLength
-    one-found h = rw (ne-eqb (firstPeriod input) (wholeRecords Short input) (λ i. h (sym first-is ∙ i ∙ sym e)), first-is)
+    one-found h = rw (ne-eqb (firstPeriod input) (wholePeriods Short input) (λ i. h (sym first-is ∙ i ∙ sym e)), first-is)
 
   -- the contract is within the input
   pub contract-within : contractLength input ≤ length input
   unfolding contractLength
-  contract-within = go (eqb (firstPeriod input) (wholeRecords Short input))
+  contract-within = go (eqb (firstPeriod input) (wholePeriods Short input))
     where
       go : (t : Bool) → cond t (length input) (periodBytes Short * firstPeriod input) ≤ length input
       go true = omega arith

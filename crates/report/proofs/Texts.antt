@@ -12,7 +12,7 @@ use lib.Seq.{take-suc, length-sets}
 use borrow.Author.Tests.{lt-ltb, le-ltb, ltb-false}
 use Rattle.records.specs.Verdicts.{Verdict, «open», met, broken, met-after, broken-after, verdictNumber, verdictName}
 use Rattle.records.proofs.Written.{sets-append}
-use Rattle.report.specs.Limits.{nameBytes, lineBytes}
+use Rattle.report.specs.Limits.{inputPeriods, nameBytes, lineBytes}
 use Rattle.report.specs.Texts.{ascii, digit, digits, decimal, periodLine, decidedLine, refusedLine, Puts}
 
 -- two puts, one behind the other, are one
@@ -112,6 +112,10 @@ pub few-digits : (d n : ℕ) → n < 10 ^ suc d → length (decimal n) ≤ suc d
 unfolding decimal
 few-digits d n h = length-digits (suc n) d n h
 
+-- of a period's number
+pub period-digits : (n : ℕ) → n ≤ inputPeriods → length (decimal n) ≤ 5
+period-digits n h = few-digits 4 n (omega arith)
+
 pub short-name : (v : Verdict) → length (ascii (verdictName v)) ≤ nameBytes
 short-name «open» = omega arith
 short-name met = omega arith
@@ -133,11 +137,11 @@ pub length-refused : (number place : ℕ)
 unfolding refusedLine
 length-refused number place = simp length-append
 
-pub short-period : (n : ℕ) (v : Verdict) (b : ℕ) → n < 100000 → b < 10 → length (periodLine n v b) ≤ lineBytes
-short-period n v b h k = omega (arith, length-period n v b, few-digits 4 n h, few-digits 0 b k, short-name v)
+pub short-period : (n : ℕ) (v : Verdict) (b : ℕ) → n ≤ inputPeriods → b < 10 → length (periodLine n v b) ≤ lineBytes
+short-period n v b h k = omega (arith, length-period n v b, period-digits n h, few-digits 0 b k, short-name v)
 
-pub short-decided : (k : ℕ) → k < 100000 → length (decidedLine k) ≤ lineBytes
-short-decided k h = omega (arith, length-decided k, few-digits 4 k h)
+pub short-decided : (k : ℕ) → k ≤ inputPeriods → length (decidedLine k) ≤ lineBytes
+short-decided k h = omega (arith, length-decided k, period-digits k h)
 
 pub short-refused : (number place : ℕ) → number < 2 ^ 64 → place < 2 ^ 64 → length (refusedLine number place) ≤ 50
 short-refused number place h k =

@@ -8,14 +8,14 @@ use lib.ListN.{length, take, drop}
 use Rattle.records.specs.Refusals.{firstFailing}
 use Rattle.periods.specs.declared.Form.the-variants.{Short}
 use Rattle.periods.specs.Forms.{periodBytes}
-use Rattle.periods.specs.Traces.{wholeRecords, marksAre}
+use Rattle.periods.specs.Traces.{wholePeriods, marksAre}
 
 -- the number, counted in sixes from 0, of the first whole six bytes with a period record's mark; that of all whole six bytes where none has it
 unfoldable pub firstPeriod : List ℕ → ℕ
-firstPeriod input = firstFailing (marksAre false Short input) 0 (wholeRecords Short input)
+firstPeriod input = firstFailing (marksAre false Short input) 0 (wholePeriods Short input)
 
 unfoldable pub contractLength : List ℕ → ℕ
-contractLength input = cond (eqb (firstPeriod input) (wholeRecords Short input)) (length input) (periodBytes Short * firstPeriod input)
+contractLength input = cond (eqb (firstPeriod input) (wholePeriods Short input)) (length input) (periodBytes Short * firstPeriod input)
 
 abbrev pub contractOf : List ℕ → List ℕ
 contractOf input = take (contractLength input) input

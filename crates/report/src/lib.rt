@@ -9,7 +9,7 @@ ghost use Rattle.states.specs.Limits.{headBytes};
 ghost use Rattle.reader.specs.Limits.{maxRecords};
 ghost use Rattle.reader.specs.Reader.{read};
 ghost use Rattle.image.specs.Limits.{bufferBytes};
-ghost use Rattle.report.specs.Limits.{inputBytes, nameBytes, lineBytes, textBytes};
+ghost use Rattle.report.specs.Limits.{inputBytes, inputPeriods, nameBytes, lineBytes, textBytes};
 ghost use Rattle.report.specs.Texts.{ascii, decimal, periodLine, decidedLine, refusedLine, Puts};
 ghost use Rattle.report.specs.Split.{contractLength, contractOf, traceOf};
 ghost use Rattle.report.specs.Reports.{onContract, report};
@@ -83,7 +83,7 @@ fn put_name(text: &mut [u8], at: usize, verdict: u32) -> usize
 // Puts the line of a period.
 fn put_period(text: &mut [u8], at: usize, n: u64, verdict: u32, blame: u64) -> usize
     requires { ⌜ at + lineBytes ≤ length (now text) ⌝ }
-    requires { ⌜ n < 100000 ⌝ }
+    requires { ⌜ n ≤ inputPeriods ⌝ }
     requires { ⌜ blame < 10 ⌝ }
     ensures { λ r. ⌜ ((v : Verdict) → verdict ≡ verdictNumber v → Puts (now (text .entry)) at (periodLine n v blame) (now (text .exit)) r) ⌝ }
 {
@@ -123,7 +123,7 @@ fn put_refused(text: &mut [u8], number: u64, place: u64) -> usize
 fn contract_length(input: &[u8]) -> usize
     ensures { λ r. ⌜ r ≡ contractLength (now (input .entry)) ⌝ }
 {
-    let n = periods::whole_records(Form::Short, input);
+    let n = periods::whole_periods(Form::Short, input);
     let k = periods::first_other(Form::Short, input, n, false);
     if k == n {
         return input.len();

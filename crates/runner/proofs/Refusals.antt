@@ -5,21 +5,22 @@ use mathlib.Core.Path.{_≡_}
 use mathlib.Core.Bool.{true}
 use mathlib.Core.List.{List, _++_}
 use lib.ListN.{length}
+use Rattle.records.specs.declared.Fault.{Fault}
 use Rattle.records.specs.declared.Test.{Test}
 use Rattle.records.specs.declared.Test.the-variants.{Passed}
-use Rattle.records.specs.Refusals.{firstOf, onlyFor}
-use Rattle.records.proofs.Refusals.{first-passed, only-append}
-use Rattle.periods.specs.Traces.{periodRecords, markedAt, recordTest, traceTest, periodFaults}
-use Rattle.periods.proofs.Traces.{trace-marks, record-one, record-only, trace-only}
+use Rattle.records.specs.Refusals.{firstOf}
+use Rattle.records.proofs.Refusals.{first-passed, onlyFor, only-append}
+use Rattle.periods.specs.Traces.{periodRecords, markedAt, periodTest, traceTest}
+use Rattle.periods.proofs.Traces.{trace-marks, period-one, periodFaults, period-only, trace-only}
 use Rattle.layout.specs.Images.{rowCount}
-use Rattle.layout.specs.Refusals.{imageTest, imageFaults}
-use Rattle.layout.proofs.Images.{image-only}
+use Rattle.layout.specs.Refusals.{imageTest}
+use Rattle.layout.proofs.Images.{imageFaults, image-only}
 use Rattle.states.specs.Limits.{headBytes}
 use Rattle.states.specs.States.{stateOf, sound}
-use Rattle.states.specs.Refusals.{stateLengthTest, stateTest, countTest, stateFaults, countFaults}
-use Rattle.states.proofs.Refusals.{state-passed, passed-count, length-only, state-only, count-only}
+use Rattle.states.specs.Refusals.{stateLengthTest, stateTest, countTest}
+use Rattle.states.proofs.Refusals.{state-passed, passed-count, stateFaults, countFaults, length-only, state-only, count-only}
 use Rattle.machine.specs.Premises.{Ready}
-use Rattle.runner.specs.Refusals.{beginTest, readyTest, stepTest, runTest, beginFaults, stepFaults}
+use Rattle.runner.specs.Refusals.{beginTest, readyTest, stepTest, runTest}
 
 pub ready-passed : (image state : List ℕ) → readyTest image state ≡ Passed → (imageTest image ≡ Passed) × (stateTest (rowCount image) state ≡ Passed)
 unfolding readyTest
@@ -41,11 +42,11 @@ tests-ready image state t n e =
 
 pub step-ready : (image state period : List ℕ) → stepTest image state period ≡ Passed → Ready image state 1
 unfolding stepTest
-step-ready image state period e = tests-ready image state (recordTest period) 1 e .0
+step-ready image state period e = tests-ready image state (periodTest period) 1 e .0
 
 pub step-record : (image state period : List ℕ) → stepTest image state period ≡ Passed → periodRecords period ≡ 1
 unfolding stepTest
-step-record image state period e = record-one period (tests-ready image state (recordTest period) 1 e .1)
+step-record image state period e = period-one period (tests-ready image state (periodTest period) 1 e .1)
 
 pub run-ready : (image state trace : List ℕ) → runTest image state trace ≡ Passed → Ready image state (periodRecords trace)
 unfolding runTest
@@ -55,7 +56,13 @@ pub run-marks : (image state trace : List ℕ) → runTest image state trace ≡
 unfolding runTest
 run-marks image state trace e = trace-marks trace (tests-ready image state (traceTest trace) (periodRecords trace) e .1)
 
--- ---- no other faults are given
+-- ---- no test of these calls gives another fault
+
+abbrev pub beginFaults : List Fault
+beginFaults = imageFaults ++ stateFaults
+
+abbrev pub stepFaults : List Fault
+stepFaults = beginFaults ++ (periodFaults ++ countFaults)
 
 pub begin-only : (image state : List ℕ) → onlyFor beginFaults (beginTest image state) ≡ true
 unfolding beginTest
@@ -73,7 +80,7 @@ tests-only image state t n h =
 
 pub step-only : (image state period : List ℕ) → onlyFor stepFaults (stepTest image state period) ≡ true
 unfolding stepTest
-step-only image state period = tests-only image state (recordTest period) 1 (record-only period)
+step-only image state period = tests-only image state (periodTest period) 1 (period-only period)
 
 pub run-only : (image state trace : List ℕ) → onlyFor stepFaults (runTest image state trace) ≡ true
 unfolding runTest

@@ -14,15 +14,15 @@ use lib.Seq.{sets}
 use Rattle.records.specs.Fields.{AllBytes}
 use Rattle.records.specs.declared.Fault.the-variants.{BadPeriod, FullCount}
 use Rattle.records.specs.declared.Test.the-variants.{Passed, Refused}
-use Rattle.records.specs.Refusals.{numberOf}
+use Rattle.records.specs.Refusals.{passed}
 use Rattle.records.proofs.Numbers.{lt-or-le}
 use Rattle.records.proofs.Fields.{field-lt}
 use Rattle.records.proofs.Refusals.{failing-is, all-pass, first-refused}
-use Rattle.records.specs.Replies.{fieldsBytes, After, written}
+use Rattle.records.specs.Replies.{replyOf, After, written}
 use Rattle.records.proofs.Replies.{call-no-room, call-passed, call-refused}
 use Rattle.periods.specs.Forms.{periodBytes, formOf}
-use Rattle.periods.specs.Traces.{periodRecords, periodAt, markedAt, marksTest, recordTest, traceTest, periodsOf, recordAt}
-use Rattle.periods.proofs.Traces.{length-periodsOf, record-period, record-test, record-refused}
+use Rattle.periods.specs.Traces.{periodRecords, periodAt, markedAt, marksTest, periodTest, traceTest, periodsOf, periodRecordAt}
+use Rattle.periods.proofs.Traces.{length-periodsOf, record-period, period-test, period-refused}
 use Rattle.layout.specs.Images.{imageOf}
 use Rattle.states.specs.Limits.{maxPeriods}
 use Rattle.states.specs.States.{stateOf, stateBytes}
@@ -42,21 +42,21 @@ use Rattle.runner.proofs.StepCalls.{accepted-step, taken-step}
 -- ---- steps that are accepted, and steps that are refused
 
 module _ (image l : List ℕ) where
-  step-passes : Ready image l 1 → (r : List ℕ) → recordTest r ≡ Passed → stepTest image l r ≡ Passed
+  step-passes : Ready image l 1 → (r : List ℕ) → periodTest r ≡ Passed → stepTest image l r ≡ Passed
   unfolding stepTest readyTest
   step-passes h r t = rw (h .good, h .sound, t) (passes-count (stateOf l) 1 (h .room))
 
-  step-refuses : {n : ℕ} → Ready image l n → (r : List ℕ) → recordTest r ≡ Refused BadPeriod 0 → stepTest image l r ≡ Refused BadPeriod 0
+  step-refuses : {n : ℕ} → Ready image l n → (r : List ℕ) → periodTest r ≡ Refused BadPeriod 0 → stepTest image l r ≡ Refused BadPeriod 0
   unfolding stepTest readyTest
   step-refuses h r t = rw (h .good, h .sound, t)
 
-  step-full : Ready image l 0 → stateOf l .periods ≡ maxPeriods → (r : List ℕ) → recordTest r ≡ Passed → stepTest image l r ≡ Refused FullCount 0
+  step-full : Ready image l 0 → stateOf l .periods ≡ maxPeriods → (r : List ℕ) → periodTest r ≡ Passed → stepTest image l r ≡ Refused FullCount 0
   unfolding stepTest readyTest countTest
   step-full h e r t = rw (h .good, h .sound, t, e)
 
-  step-accepts : Ready image l 1 → (c : StepCall) → stepReplyBytes ≤ length (c .reply) → recordTest (c .period) ≡ Passed → accepted image l c ≡ true
+  step-accepts : Ready image l 1 → (c : StepCall) → stepReplyBytes ≤ length (c .reply) → periodTest (c .period) ≡ Passed → accepted image l c ≡ true
   unfolding accepted
-  step-accepts h c r t = rw (le-leb stepReplyBytes (length (c .reply)) r) (eq-eqb (numberOf (stepTest image l (c .period))) 0 (ap numberOf (step-passes h (c .period) t)))
+  step-accepts h c r t = rw (le-leb stepReplyBytes (length (c .reply)) r) (ap passed (step-passes h (c .period) t))
 
 ready-less : (image l : List ℕ) (j n : ℕ) → j ≤ n → Ready image l n → Ready image l j
 ready-less image l j n i h = record { good = h .good; sound = h .sound; room = omega (arith, h .room) }
@@ -86,13 +86,13 @@ pub record Accepts (image state trace reply : List ℕ) (k : ℕ) : Type 0 where
 module _ (image state trace reply : List ℕ) (n : ℕ) (h : Ready image state n) (b : AllBytes state) (r : stepReplyBytes ≤ length reply) where
   -- the step after k periods is accepted with a marked record
   next-accepted : (k : ℕ) → suc k ≤ n → k < periodRecords trace → markedAt trace k ≡ true
-      → accepted image (stateBytes (afterPeriods (imageOf image) (stateOf state) (periodsOf trace k))) (record { period = recordAt trace k; reply = reply }) ≡ true
+      → accepted image (stateBytes (afterPeriods (imageOf image) (stateOf state) (periodsOf trace k))) (record { period = periodRecordAt trace k; reply = reply }) ≡ true
   next-accepted k i f m =
       let w = periodsOf trace k in
       let e : length w ≡ k = length-periodsOf trace k in
       let l = stateBytes (afterPeriods (imageOf image) (stateOf state) w) in
       step-accepts image l (ready-less image l 1 (n - length w) (omega arith) (later-ready image state n h w (omega arith)))
-      (record { period = recordAt trace k; reply = reply }) r (record-test trace k f m)
+      (record { period = periodRecordAt trace k; reply = reply }) r (period-test trace k f m)
 
   pub accepts : (k : ℕ) → k ≤ n → k ≤ periodRecords trace → ((i : ℕ) → i < k → markedAt trace i ≡ true) → Accepts image state trace reply k
   unfolding callsOf periodsOf afterPeriods acceptedCount stateAfter
@@ -101,7 +101,7 @@ module _ (image state trace reply : List ℕ) (n : ℕ) (h : Ready image state n
       let w = periodsOf trace k in
       let e : length w ≡ k = length-periodsOf trace k in
       let l = stateBytes (afterPeriods (imageOf image) (stateOf state) w) in
-      let c : StepCall = record { period = recordAt trace k; reply = reply } in
+      let c : StepCall = record { period = periodRecordAt trace k; reply = reply } in
       let before = accepts k (omega arith) (omega arith) (λ x y. m x (omega arith)) in
       let f : k < periodRecords trace = omega arith in
       let next = next-accepted k i f (m k (omega arith)) in
@@ -114,14 +114,14 @@ module _ (image state trace reply : List ℕ) (n : ℕ) (h : Ready image state n
 
   -- the next step's reply
   pub next-reply : (k : ℕ) → suc k ≤ n → k < periodRecords trace → ((i : ℕ) → i < suc k → markedAt trace i ≡ true)
-      → step image (stateAfter image state (callsOf trace reply k)) (recordAt trace k) reply .reply
-      ≡ sets reply 0 (fieldsBytes (answer (afterPeriods (imageOf image) (stateOf state) (periodsOf trace (suc k)))))
+      → step image (stateAfter image state (callsOf trace reply k)) (periodRecordAt trace k) reply .reply
+      ≡ sets reply 0 (replyOf Passed (answer (afterPeriods (imageOf image) (stateOf state) (periodsOf trace (suc k)))))
   unfolding periodsOf
   next-reply k i j m =
       let w = periodsOf trace k in
       let e : length w ≡ k = length-periodsOf trace k in
       let l = stateBytes (afterPeriods (imageOf image) (stateOf state) w) in
-      let c : StepCall = record { period = recordAt trace k; reply = reply } in
+      let c : StepCall = record { period = periodRecordAt trace k; reply = reply } in
       let before = accepts k (omega arith) (omega arith) (λ x y. m x (omega arith)) in
       let f : k < periodRecords trace = omega arith in
       rw (before .leaves, after-snoc (imageOf image) (stateOf state) w (periodAt trace k), ← record-period trace k f)
@@ -133,9 +133,9 @@ module _ (image state trace reply : List ℕ) (n : ℕ) (h : Ready image state n
 module _ (image state trace reply : List ℕ) (b : AllBytes state) (r : stepReplyBytes ≤ length reply) where
   run-written : runTest image state trace ≡ Passed
       → let later = afterPeriods (imageOf image) (stateOf state) (periodsOf trace (periodRecords trace)) in
-      run image state trace reply ≡ written (stateBytes later) reply (answer later)
+      run image state trace reply ≡ written (stateBytes later) reply Passed (answer later)
   unfolding run
-  run-written t = call-passed (runTest image state trace) _ _ state _ reply r t
+  run-written t = call-passed (runTest image state trace) _ state _ reply r t
 
   -- an accepted run ends as the steps of its records do
   pub run-ends : runTest image state trace ≡ Passed → EndsAsSteps image state trace reply
@@ -147,7 +147,7 @@ module _ (image state trace reply : List ℕ) (b : AllBytes state) (r : stepRepl
       let each = accepts image state trace reply n h b r n (omega arith) (omega arith) (run-marks image state trace t) in
       record {
         all = each .all;
-        same-state = ap (λ (x : After (List ℕ)). x .lent) left ∙ sym (each .leaves);
+        same-state = ap (λ (x : After (List ℕ)). x .buffers) left ∙ sym (each .leaves);
         own-answer = λ e. ap (λ (x : After (List ℕ)). x .reply) left ∙ rw e;
         last-reply = λ k e. ap (λ (x : After (List ℕ)). x .reply) left ∙ rw e (sym (next-reply image state trace reply n h b r k (omega arith) (omega arith) (λ i j. run-marks image state trace t i (omega arith))));
       }
@@ -155,12 +155,12 @@ module _ (image state trace reply : List ℕ) (b : AllBytes state) (r : stepRepl
 -- ---- a refused run
 
 -- it leaves the state as it was
-pub run-keeps : (image state trace reply : List ℕ) → ¬ (runTest image state trace ≡ Passed) → run image state trace reply .lent ≡ state
+pub run-keeps : (image state trace reply : List ℕ) → ¬ (runTest image state trace ≡ Passed) → run image state trace reply .buffers ≡ state
 unfolding run
 run-keeps image state trace reply h =
     let t = runTest image state trace in
-    ⊎-elim (λ n. ap (λ (x : After (List ℕ)). x .lent) (call-no-room t _ _ state _ reply n))
-    (λ n. ap (λ (x : After (List ℕ)). x .lent) (call-refused t _ _ state _ reply n h))
+    ⊎-elim (λ n. ap (λ (x : After (List ℕ)). x .buffers) (call-no-room t _ state _ reply n))
+    (λ n. ap (λ (x : After (List ℕ)). x .buffers) (call-refused t _ state _ reply n h))
     (lt-or-le (length reply) stepReplyBytes)
 
 small-periods : (state : List ℕ) → AllBytes state → stateOf state .periods ≤ maxPeriods
@@ -202,7 +202,7 @@ module _ (image state trace : List ℕ) (h : readyTest image state ≡ Passed) (
         record {
           before = a .all;
           refuses = rw (a .leaves) (step-refuses image (stateBytes (afterPeriods (imageOf image) (stateOf state) w))
-              (later-ready image state k ready w (omega arith)) (recordAt trace k) (record-refused trace k (omega arith) bad));
+              (later-ready image state k ready w (omega arith)) (periodRecordAt trace k) (period-refused trace k (omega arith) bad));
         }
 
   -- by the count: at the first record too many, which its step refuses
@@ -228,5 +228,5 @@ module _ (image state trace : List ℕ) (h : readyTest image state ≡ Passed) (
           refuses = rw (a .leaves) (step-full image last
               (ready-less image last 0 (k - length w) (omega arith) (later-ready image state k ready w (omega arith)))
               (rw (later-read image state k ready w (omega arith), periods-afterPeriods (imageOf image) (stateOf state) w, q) (omega arith))
-              (recordAt trace k) (record-test trace k (omega arith) (m k (omega arith))));
+              (periodRecordAt trace k) (period-test trace k (omega arith) (m k (omega arith))));
         }

@@ -7,14 +7,13 @@ use mathlib.Core.Bool.{true, false, and-eq-true-iff}
 use mathlib.Core.List.{List, [], _∷_}
 use mathlib.Core.Logic.{_⊎_, ⊎-elim}
 use mathlib.Core.Path.{_≡_, refl, sym, ap, _∙_}
-use borrow.Author.Tests.{leb-true, eqb-true, eqb-false, le-leb}
-use lib.Dec.{eqb, leb}
+use borrow.Author.Tests.{leb-true, le-leb}
+use lib.Dec.{leb}
 use lib.ListN.{length, replicate}
-use Rattle.records.specs.declared.Fault.the-variants.{BadState}
 use Rattle.records.specs.declared.Test.the-variants.{Passed}
-use Rattle.records.specs.Refusals.{numberOf}
+use Rattle.records.specs.Refusals.{passed}
 use Rattle.records.proofs.Numbers.{lt-or-le}
-use Rattle.records.proofs.Refusals.{true-or-false, first-passed, passed-first, require-passed, number-passed}
+use Rattle.records.proofs.Refusals.{true-or-false, first-passed, passed-first, passed-is, passed-not}
 use Rattle.records.specs.Replies.{After, written}
 use Rattle.records.proofs.Replies.{call-no-room, call-passed, call-refused}
 use Rattle.periods.specs.Traces.{periodAt}
@@ -23,7 +22,7 @@ use Rattle.layout.specs.Refusals.{imageTest}
 use Rattle.states.specs.Limits.{headBytes}
 use Rattle.states.specs.States.{stateOf, stateBytes}
 use Rattle.states.specs.Refusals.{stateLengthTest, stateTest}
-use Rattle.states.proofs.Refusals.{state-passed}
+use Rattle.states.proofs.Refusals.{length-passed, state-passed}
 use Rattle.states.proofs.States.{sound-passes}
 use Rattle.states.proofs.Fresh.{freshState, fresh-bytes, fresh-sound}
 use Rattle.machine.specs.Machine.{afterPeriod, afterPeriods}
@@ -31,7 +30,7 @@ use Rattle.machine.specs.Premises.{Ready}
 use Rattle.machine.proofs.Machine.{SameDecision, stays-decided, periods-after}
 use Rattle.machine.proofs.Steps.{later-ready, step-read}
 use Rattle.runner.specs.Refusals.{beginTest, readyTest, stepTest}
-use Rattle.runner.specs.Calls.{beginReply, beginReplyBytes, stepReplyBytes, answer, begin, step}
+use Rattle.runner.specs.Calls.{beginAnswer, beginReplyBytes, stepReplyBytes, answer, begin, step}
 use Rattle.runner.specs.StepCalls.{StepCall, accepted, stateAfterCall, stateAfter, acceptedCount}
 use Rattle.runner.proofs.Refusals.{ready-passed, step-ready}
 
@@ -43,38 +42,38 @@ module _ (image state : List ℕ) (c : StepCall) where
   unfolding accepted
   accepted-passed e =
       let t = stepTest image state (c .period) in
-      number-passed t (eqb-true (numberOf t) 0 (and-eq-true-iff (leb stepReplyBytes (length (c .reply))) (eqb (numberOf t) 0) .0 e .1))
+      passed-is t (and-eq-true-iff (leb stepReplyBytes (length (c .reply))) (passed t) .0 e .1)
 
   accepted-room : accepted image state c ≡ true → stepReplyBytes ≤ length (c .reply)
   unfolding accepted
   accepted-room e =
       let t = stepTest image state (c .period) in
-      leb-true stepReplyBytes (length (c .reply)) (and-eq-true-iff (leb stepReplyBytes (length (c .reply))) (eqb (numberOf t) 0) .0 e .0)
+      leb-true stepReplyBytes (length (c .reply)) (and-eq-true-iff (leb stepReplyBytes (length (c .reply))) (passed t) .0 e .0)
 
   -- an accepted call takes its record's period
   pub accepted-step : accepted image state c ≡ true
       → step image state (c .period) (c .reply)
-      ≡ written (stateBytes (afterPeriod (imageOf image) (periodAt (c .period) 0) (stateOf state))) (c .reply)
+      ≡ written (stateBytes (afterPeriod (imageOf image) (periodAt (c .period) 0) (stateOf state))) (c .reply) Passed
       (answer (afterPeriod (imageOf image) (periodAt (c .period) 0) (stateOf state)))
   unfolding step
   accepted-step e =
-      call-passed (stepTest image state (c .period)) _ _ state _ (c .reply) (accepted-room e) (accepted-passed e)
+      call-passed (stepTest image state (c .period)) _ state _ (c .reply) (accepted-room e) (accepted-passed e)
 
   -- a refused call leaves the state as it was
   pub refused-step : accepted image state c ≡ false → stateAfterCall image state c ≡ state
   unfolding accepted stateAfterCall step
   refused-step e =
       let t = stepTest image state (c .period) in
-      let keeps : (left : After (List ℕ)) → step image state (c .period) (c .reply) ≡ left → left .lent ≡ state → step image state (c .period) (c .reply) .lent ≡ state
-      = λ left q k. ap (λ (x : After (List ℕ)). x .lent) q ∙ k in
-      ⊎-elim (λ h. keeps _ (call-no-room t _ _ state _ (c .reply) h) refl)
-      (λ h. keeps _ (call-refused t _ _ state _ (c .reply) h (λ p. eqb-false (numberOf t) 0 (rw (le-leb stepReplyBytes (length (c .reply)) h) at e) (ap numberOf p))) refl)
+      let keeps : (left : After (List ℕ)) → step image state (c .period) (c .reply) ≡ left → left .buffers ≡ state → step image state (c .period) (c .reply) .buffers ≡ state
+      = λ left q k. ap (λ (x : After (List ℕ)). x .buffers) q ∙ k in
+      ⊎-elim (λ h. keeps _ (call-no-room t _ state _ (c .reply) h) refl)
+      (λ h. keeps _ (call-refused t _ state _ (c .reply) h (passed-not t (rw (le-leb stepReplyBytes (length (c .reply)) h) at e))) refl)
       (lt-or-le (length (c .reply)) stepReplyBytes)
 
   -- an accepted call leaves the state's bytes of the period after
   pub taken-step : accepted image state c ≡ true → stateAfterCall image state c ≡ stateBytes (afterPeriod (imageOf image) (periodAt (c .period) 0) (stateOf state))
   unfolding stateAfterCall
-  taken-step e = ap (λ (x : After (List ℕ)). x .lent) (accepted-step e)
+  taken-step e = ap (λ (x : After (List ℕ)). x .buffers) (accepted-step e)
 
   pub taken-read : accepted image state c ≡ true → stateOf (stateAfterCall image state c) ≡ afterPeriod (imageOf image) (periodAt (c .period) 0) (stateOf state)
   taken-read e = rw (taken-step e) (step-read image state (step-ready image state (c .period) (accepted-passed e)) (periodAt (c .period) 0))
@@ -152,18 +151,17 @@ module _ (image state reply : List ℕ) (r : beginReplyBytes ≤ length reply) (
   unfolding beginTest
   begun =
       let b = first-passed (imageTest image) (stateLengthTest (rowCount image) state) h in
-      let n = headBytes + rowCount image in
-      (b .0, eqb-true (length state) n (require-passed (eqb (length state) n) BadState 0 (b .1)))
+      (b .0, length-passed (rowCount image) state (b .1))
 
-  pub begin-written : begin image state reply ≡ written (replicate (length state) 0) reply (beginReply Passed)
+  pub begin-written : begin image state reply ≡ written (replicate (length state) 0) reply Passed beginAnswer
   unfolding begin
-  begin-written = call-passed (beginTest image state) _ _ state _ reply r h
+  begin-written = call-passed (beginTest image state) _ state _ reply r h
 
-  pub begin-state : begin image state reply .lent ≡ stateBytes (freshState (rowCount image))
-  begin-state = ap (λ (x : After (List ℕ)). x .lent) begin-written ∙ rw (begun .1) (fresh-bytes (rowCount image))
+  pub begin-state : begin image state reply .buffers ≡ stateBytes (freshState (rowCount image))
+  begin-state = ap (λ (x : After (List ℕ)). x .buffers) begin-written ∙ rw (begun .1) (fresh-bytes (rowCount image))
 
-  pub begin-sound : readyTest image (begin image state reply .lent) ≡ Passed
+  pub begin-sound : readyTest image (begin image state reply .buffers) ≡ Passed
   unfolding readyTest
   begin-sound =
-      passed-first (imageTest image) (stateTest (rowCount image) (begin image state reply .lent)) (begun .0)
+      passed-first (imageTest image) (stateTest (rowCount image) (begin image state reply .buffers)) (begun .0)
       (rw begin-state (sound-passes (rowCount image) (freshState (rowCount image)) (fresh-sound (rowCount image)) (omega arith)))

@@ -4,13 +4,14 @@ use Prim.Native.Nat.{ℕ, zero, suc, _+_}
 use mathlib.Core.Bool.{Bool, _&&_, cond}
 use mathlib.Core.List.{List, [], _∷_, _++_}
 use mathlib.Core.Path.{_≡_}
-use lib.Dec.{eqb, leb}
+use lib.Dec.{leb}
 use lib.ListN.{length}
 use lib.Seq.{sets}
 use Rattle.records.specs.declared.Test.{Test}
-use Rattle.records.specs.Refusals.{numberOf}
-use Rattle.records.specs.Replies.{fieldsBytes}
-use Rattle.periods.specs.Traces.{periodRecords, recordAt}
+use Rattle.records.specs.declared.Test.the-variants.{Passed}
+use Rattle.records.specs.Refusals.{passed}
+use Rattle.records.specs.Replies.{replyOf}
+use Rattle.periods.specs.Traces.{periodRecords, periodRecordAt}
 use Rattle.states.specs.States.{stateOf}
 use Rattle.runner.specs.Refusals.{stepTest}
 use Rattle.runner.specs.Calls.{answer, stepReplyBytes, step, run}
@@ -20,13 +21,16 @@ pub record StepCall : Type 0 where
   pub period : List ℕ
   pub reply : List ℕ
 
--- a call is accepted when it has room for its reply and no test refuses it
+-- a call is accepted where it has room for its reply and its tests find this
+abbrev pub acceptedBy : Test → StepCall → Bool
+acceptedBy t c = leb stepReplyBytes (length (c .reply)) && passed t
+
 unfoldable pub accepted : (image state : List ℕ) → StepCall → Bool
-accepted image state c = leb stepReplyBytes (length (c .reply)) && eqb (numberOf (stepTest image state (c .period))) 0
+accepted image state c = acceptedBy (stepTest image state (c .period)) c
 
 -- the state that a call leaves, and the state that a list of calls leaves
 unfoldable pub stateAfterCall : (image state : List ℕ) → StepCall → List ℕ
-stateAfterCall image state c = step image state (c .period) (c .reply) .lent
+stateAfterCall image state c = step image state (c .period) (c .reply) .buffers
 
 unfoldable pub stateAfter : (image state : List ℕ) → List StepCall → List ℕ
 stateAfter image state [] = state
@@ -41,18 +45,18 @@ acceptedCount image state (c ∷ cs) =
 -- a step call for each of a trace's first n records, each with an area of these bytes
 unfoldable pub callsOf : (trace reply : List ℕ) → ℕ → List StepCall
 callsOf trace reply zero = []
-callsOf trace reply (suc n) = callsOf trace reply n ++ (record { period = recordAt trace n; reply = reply } ∷ [])
+callsOf trace reply (suc n) = callsOf trace reply n ++ (record { period = periodRecordAt trace n; reply = reply } ∷ [])
 
 -- A run ends as the steps of its records do: each of them is accepted, the state is the one that they leave, and the reply is the
 -- last one's, or the state's own answer where there is none.
 pub record EndsAsSteps (image state trace reply : List ℕ) : Type 0 where
   pub all : acceptedCount image state (callsOf trace reply (periodRecords trace)) ≡ periodRecords trace
-  pub same-state : run image state trace reply .lent ≡ stateAfter image state (callsOf trace reply (periodRecords trace))
-  pub own-answer : periodRecords trace ≡ 0 → run image state trace reply .reply ≡ sets reply 0 (fieldsBytes (answer (stateOf state)))
+  pub same-state : run image state trace reply .buffers ≡ stateAfter image state (callsOf trace reply (periodRecords trace))
+  pub own-answer : periodRecords trace ≡ 0 → run image state trace reply .reply ≡ sets reply 0 (replyOf Passed (answer (stateOf state)))
   pub last-reply : (k : ℕ) → periodRecords trace ≡ suc k
-      → run image state trace reply .reply ≡ step image (stateAfter image state (callsOf trace reply k)) (recordAt trace k) reply .reply
+      → run image state trace reply .reply ≡ step image (stateAfter image state (callsOf trace reply k)) (periodRecordAt trace k) reply .reply
 
 -- the steps of a trace's first k records are accepted, and the next one is refused by this test
 pub record RefusedAt (image state trace reply : List ℕ) (k : ℕ) (t : Test) : Type 0 where
   pub before : acceptedCount image state (callsOf trace reply k) ≡ k
-  pub refuses : stepTest image (stateAfter image state (callsOf trace reply k)) (recordAt trace k) ≡ t
+  pub refuses : stepTest image (stateAfter image state (callsOf trace reply k)) (periodRecordAt trace k) ≡ t

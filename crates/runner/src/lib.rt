@@ -3,12 +3,12 @@ ghost use mathlib.Core.Path.{_≡_};
 ghost use Prim.Native.Nat.{_≤_};
 ghost use lib.ListN.{length, replicate};
 ghost use lib.Seq.{sets};
-ghost use Rattle.records.specs.Replies.{fieldsBytes, Gives};
+ghost use Rattle.records.specs.Replies.{replyOf, Gives};
+ghost use Rattle.records.specs.declared.Test.the-variants.{Passed};
 ghost use Rattle.states.specs.States.{stateOf};
 ghost use Rattle.states.specs.Premises.{Answering};
 ghost use Rattle.runner.specs.Refusals.{beginTest, readyTest, stepTest, runTest};
-ghost use Rattle.runner.specs.Calls.{stepReply, answer, stepReplyBytes, begin, step, run};
-use records::Fault;
+ghost use Rattle.runner.specs.Calls.{stepAnswer, answer, stepReplyBytes, begin, step, run};
 use records::Test;
 
 // Begin's reply has the first three fields alone.
@@ -27,10 +27,7 @@ fn begin_test(image: &[u8], state: &[u8]) -> Test
     let Test::Passed = t else {
         return t;
     };
-    if state.len() != states::HEAD_BYTES + layout::row_count(image) {
-        return Test::Refused(Fault::BadState, 0);
-    }
-    Test::Passed
+    states::length_test(layout::row_count(image), state)
 }
 
 // What step and run have in common: the image, then the state.
@@ -52,7 +49,7 @@ fn step_test(image: &[u8], state: &[u8], period: &[u8]) -> Test
     let Test::Passed = t else {
         return t;
     };
-    let u = periods::record_test(period);
+    let u = periods::period_test(period);
     let Test::Passed = u else {
         return u;
     };
@@ -79,7 +76,7 @@ fn run_test(image: &[u8], state: &[u8], trace: &[u8]) -> Test
 // Writes step's or run's reply.
 fn put_step_reply(reply: &mut [u8], t: Test, verdict: u32, blame: u32, decision: u32)
     requires { ⌜ stepReplyBytes ≤ length (now reply) ⌝ }
-    ensures { λ _. ⌜ now (reply .exit) ≡ sets (now (reply .entry)) 0 (fieldsBytes (stepReply t verdict blame decision)) ⌝ }
+    ensures { λ _. ⌜ now (reply .exit) ≡ sets (now (reply .entry)) 0 (replyOf t (stepAnswer verdict blame decision)) ⌝ }
 {
     records::put_head(reply, t, verdict);
     records::put4(reply, records::REPLY_HEAD, blame);
@@ -89,7 +86,7 @@ fn put_step_reply(reply: &mut [u8], t: Test, verdict: u32, blame: u32, decision:
 // The answer that a state gives.
 fn put_answer(reply: &mut [u8], state: &[u8])
     requires { ⌜ (stepReplyBytes ≤ length (now reply)) × Answering (now state) ⌝ }
-    ensures { λ _. ⌜ now (reply .exit) ≡ sets (now (reply .entry)) 0 (fieldsBytes (answer (stateOf (now (state .entry))))) ⌝ }
+    ensures { λ _. ⌜ now (reply .exit) ≡ sets (now (reply .entry)) 0 (replyOf Passed (answer (stateOf (now (state .entry))))) ⌝ }
 {
     put_step_reply(
         reply,

@@ -1,9 +1,8 @@
 -- Refusals 10 and 12, and their places. Document 01, "Replies that refuse".
 use Prim.Native.Nat.{ℕ, _+_, _-_}
-use mathlib.Core.List.{List, [], _∷_}
+use mathlib.Core.List.{List}
 use lib.Dec.{eqb, leb}
 use lib.ListN.{length}
-use Rattle.records.specs.declared.Fault.{Fault}
 use Rattle.records.specs.declared.Fault.the-variants.{BadState, FullCount}
 use Rattle.records.specs.declared.Test.{Test}
 use Rattle.records.specs.Refusals.{require, firstOf}
@@ -21,10 +20,3 @@ stateTest n state = firstOf (stateLengthTest n state) (require (sound (stateOf s
 -- 12: n more records would pass the largest count; at the first record too many
 unfoldable pub countTest : State → ℕ → Test
 countTest s n = require (leb (s .periods + n) maxPeriods) FullCount (maxPeriods - s .periods)
-
--- the faults that these tests can give
-abbrev pub stateFaults : List Fault
-stateFaults = BadState ∷ []
-
-abbrev pub countFaults : List Fault
-countFaults = FullCount ∷ []

@@ -8,7 +8,7 @@ ghost use Rattle.records.specs.Verdicts.{verdictNumber};
 ghost use Rattle.states.specs.Limits.{headBytes};
 ghost use Rattle.states.specs.States.{stateOf, allAtMost, sound};
 ghost use Rattle.states.specs.Verdicts.{verdict};
-ghost use Rattle.states.specs.Refusals.{stateTest, countTest};
+ghost use Rattle.states.specs.Refusals.{stateLengthTest, stateTest, countTest};
 ghost use Rattle.states.specs.Premises.{SoundHead, Answering};
 use records::Fault;
 use records::Test;
@@ -68,14 +68,26 @@ fn sound(state: &[u8]) -> bool
     }
 }
 
+// The state's length, for an image of n rows.
+pub fn length_test(n: usize, state: &[u8]) -> Test
+    requires { ⌜ n < 2 ^ 32 ⌝ }
+    ensures { λ r. ⌜ r ≡ stateLengthTest n (now (state .entry)) ⌝ }
+{
+    if state.len() != HEAD_BYTES + n {
+        return Test::Refused(Fault::BadState, 0);
+    }
+    Test::Passed
+}
+
 // The state's length, and whether it is sound.
 pub fn state_test(n: usize, state: &[u8]) -> Test
     requires { ⌜ n < 2 ^ 32 ⌝ }
     ensures { λ r. ⌜ r ≡ stateTest n (now (state .entry)) ⌝ }
 {
-    if state.len() != HEAD_BYTES + n {
-        return Test::Refused(Fault::BadState, 0);
-    }
+    let t = length_test(n, state);
+    let Test::Passed = t else {
+        return t;
+    };
     if !sound(state) {
         return Test::Refused(Fault::BadState, 0);
     }

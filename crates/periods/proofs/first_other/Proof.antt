@@ -10,7 +10,7 @@ use Rattle.records.specs.Refusals.{firstFailing}
 use Rattle.records.proofs.Refusals.{failing-here, failing-next, failing-end}
 use Rattle.periods.specs.Forms.{periodBytes}
 use Rattle.periods.specs.Traces.{marksAre, markedAs}
-use Rattle.periods.proofs.Forms.{record-inside}
+use Rattle.periods.proofs.Forms.{period-inside}
 use Rattle.periods.proofs.Traces.{marks-are}
 use Rattle.periods.proofs.first_other.Statement.{statement}
 use Rattle.periods.proofs.first_other.Tie as tie
@@ -37,7 +37,7 @@ inside : (c : lts.In-loop (period-bytes-reads.Asked, period-bytes-reads.Learnt, 
     → let a = c .before .before .before .before .args in c .before .before .period-bytes .result * c .before .loop .k + periodBytes (a .form) ≤ length (a .s .now)
 inside c =
     let a = c .before .before .before .before .args in
-    rw (c .before .loop .inv .1) (record-inside (a .form) (a .s .now) (c .before .loop .k) (omega arith))
+    rw (c .before .loop .inv .1) (period-inside (a .form) (a .s .now) (c .before .loop .k) (omega arith))
 
 mul-marked-from : tie.Need-mul-marked-from Inv-loop μ-loop
 mul-marked-from c = let i = inside c in omega arith

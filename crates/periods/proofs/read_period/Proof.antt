@@ -5,7 +5,7 @@ use Prim.Native.Nat.{_+_, _*_, _≤_}
 use lib.ListN.{length}
 use Rattle.periods.specs.Forms.{periodBytes, formOf}
 use Rattle.periods.specs.Traces.{periodAt}
-use Rattle.periods.proofs.Forms.{record-inside}
+use Rattle.periods.proofs.Forms.{period-inside}
 use Rattle.periods.proofs.read_period.Statement.{statement}
 use Rattle.periods.proofs.read_period.Tie as tie
 use Rattle.periods.proofs.read_period.Reads as reads
@@ -26,7 +26,7 @@ inside : (c : lts.After-period-bytes (form-of-reads.Asked, form-of-reads.Learnt,
 inside c =
     let a = c .before .before .before .args in
     let f = c .before .form-of .ensures in
-    rw (c .period-bytes .ensures, f) (record-inside (formOf (a .trace .now)) (a .trace .now) (a .k) (c .before .before .before .pre))
+    rw (c .period-bytes .ensures, f) (period-inside (formOf (a .trace .now)) (a .trace .now) (a .k) (c .before .before .before .pre))
 
 mul-read-from : tie.Need-mul-read-from
 mul-read-from c = let i = inside c in omega arith

@@ -6,42 +6,42 @@ use Rattle.reader.proofs.Table.{known-clause, known-expression, unknown
 use Rattle.reader.proofs.entry_of.Statement.{statement}
 use Rattle.reader.proofs.entry_of.Tie as tie
 
-sub-unpacked : tie.Need-sub-unpacked
-sub-unpacked c = search needs
+sub-unpacked-line : tie.Need-sub-unpacked-line
+sub-unpacked-line c = search needs
 
-mul-unpacked : tie.Need-mul-unpacked
-mul-unpacked c = search needs
+mul-unpacked-line : tie.Need-mul-unpacked-line
+mul-unpacked-line c = search needs
 
-array-read-unpacked : tie.Need-array-read-unpacked
-array-read-unpacked c = search needs
+array-read-unpacked-line : tie.Need-array-read-unpacked-line
+array-read-unpacked-line c = search needs
 
-unpacked-requires : tie.Need-unpacked-requires
-unpacked-requires c κs = search needs
+unpacked-line-requires : tie.Need-unpacked-line-requires
+unpacked-line-requires c κs = search needs
 
-sub-unpacked-2 : tie.Need-sub-unpacked-2
-sub-unpacked-2 c = search needs
+sub-unpacked-line-2 : tie.Need-sub-unpacked-line-2
+sub-unpacked-line-2 c = search needs
 
-mul-unpacked-2 : tie.Need-mul-unpacked-2
-mul-unpacked-2 c = search needs
+mul-unpacked-line-2 : tie.Need-mul-unpacked-line-2
+mul-unpacked-line-2 c = search needs
 
-array-read-unpacked-2 : tie.Need-array-read-unpacked-2
-array-read-unpacked-2 c = search needs
+array-read-unpacked-line-2 : tie.Need-array-read-unpacked-line-2
+array-read-unpacked-line-2 c = search needs
 
-unpacked-requires-2 : tie.Need-unpacked-requires-2
-unpacked-requires-2 c κs = search needs
+unpacked-line-requires-2 : tie.Need-unpacked-line-requires-2
+unpacked-line-requires-2 c κs = search needs
 
 returns : tie.Need-returns
 returns c =
     let t = c .before in
     let h = t .before .if1 .left in
     let i = t .if2 .taken in
-    rw (c .unpacked .ensures) (sym (known-clause _ (t .before .before .args .kind) (h, omega arith)))
+    rw (c .unpacked-line .ensures) (sym (known-clause _ (t .before .before .args .kind) (h, omega arith)))
 
 returns-2 : tie.Need-returns-2
 returns-2 c =
     let t = c .before in
     let i = t .if4 .taken in
-    rw (c .unpacked2 .ensures) (sym (known-expression _ (t .before .before .before .before .args .kind) (t .before .if3 .left, omega arith)))
+    rw (c .unpacked-line2 .ensures) (sym (known-expression _ (t .before .before .before .before .args .kind) (t .before .if3 .left, omega arith)))
 
 returns-3 : tie.Need-returns-3
 returns-3 c =
@@ -63,14 +63,14 @@ pub entry-of-spec : {M : Type 1} → statement M
 entry-of-spec =
     tie.close
     (tie.spec
-    sub-unpacked
-    mul-unpacked
-    array-read-unpacked
-    unpacked-requires
-    sub-unpacked-2
-    mul-unpacked-2
-    array-read-unpacked-2
-    unpacked-requires-2
+    sub-unpacked-line
+    mul-unpacked-line
+    array-read-unpacked-line
+    unpacked-line-requires
+    sub-unpacked-line-2
+    mul-unpacked-line-2
+    array-read-unpacked-line-2
+    unpacked-line-requires-2
     returns
     returns-2
     returns-3

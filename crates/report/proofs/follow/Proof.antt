@@ -18,7 +18,7 @@ put-lines-requires : tie.Need-put-lines-requires
 put-lines-requires c κs =
     let b = c .before .before .before .before .before .before in
     rw (c .before .period-records .ensures)
-    (may-list (b .before .before .before .before .before .before .before .pre) _ _ (omega arith) (b .monitor-begin .ensures .lent-is))
+    (may-list (b .before .before .before .before .before .before .before .pre) _ _ (omega arith) (b .monitor-begin .ensures .buffers-are))
 
 same-length : tie.Need-same-length
 same-length c = search needs
@@ -30,7 +30,7 @@ returns : tie.Need-returns
 returns c =
     let p = c .before .before .before .before in
     let b = p .before .before .before .before .before .before .before in
-    all-followed (b .before .before .before .before .before .before .before .pre) _ _ (omega arith) (b .monitor-begin .ensures .lent-is) _ _ (rw (p .before .before .period-records .ensures) at (p .put-lines .ensures))
+    all-followed (b .before .before .before .before .before .before .before .pre) _ _ (omega arith) (b .monitor-begin .ensures .buffers-are) _ _ (rw (p .before .before .period-records .ensures) at (p .put-lines .ensures))
 
 pub follow-spec : {M : Type 1} → statement M
 follow-spec =

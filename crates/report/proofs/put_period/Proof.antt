@@ -3,7 +3,7 @@ use Prim.Native.Nat.{_+_, _≤_}
 use native.Mathlib.Omega.{arith}
 use lib.ListN.{length}
 use borrow.Author.Needs.{needs}
-use Rattle.report.proofs.Texts.{puts-ends, few-digits, puts-period}
+use Rattle.report.proofs.Texts.{puts-ends, few-digits, period-digits, puts-period}
 use Rattle.report.proofs.put_period.Statement.{statement}
 use Rattle.report.proofs.put_period.Tie as tie
 use Rattle.report.proofs.put_period.Reads as reads
@@ -13,7 +13,7 @@ use Rattle.report.proofs.put_name.Reads as put-name-reads
 use Rattle.report.proofs.put_word.Reads as put-word-reads
 
 put-decimal-requires : tie.Need-put-decimal-requires
-put-decimal-requires c κs = omega (arith, few-digits 4 (c .before .before .args .n) (c .before .before .pre .1 .0))
+put-decimal-requires c κs = omega (arith, period-digits (c .before .before .args .n) (c .before .before .pre .1 .0))
 
 slice-aggregate-put-word : tie.Need-slice-aggregate-put-word
 slice-aggregate-put-word c = search needs
@@ -22,14 +22,14 @@ put-word-requires : tie.Need-put-word-requires
 put-word-requires c κs =
     let n = c .before .before .before .before in
     let s = n .before .before .before in
-    omega (arith, few-digits 4 (s .args .n) (s .pre .1 .0), puts-ends (n .put-decimal .ensures))
+    omega (arith, period-digits (s .args .n) (s .pre .1 .0), puts-ends (n .put-decimal .ensures))
 
 put-name-requires : tie.Need-put-name-requires
 put-name-requires c κs =
     let v = c .before .before .before in
     let n = v .before .before .before .before .before in
     let s = n .before .before .before in
-    omega (arith, few-digits 4 (s .args .n) (s .pre .1 .0), puts-ends (n .put-decimal .ensures), puts-ends (v .put-word .ensures))
+    omega (arith, period-digits (s .args .n) (s .pre .1 .0), puts-ends (n .put-decimal .ensures), puts-ends (v .put-word .ensures))
 
 -- behind the name there is room for the rest
 room : (c : lts.After-put-name (put-decimal-reads.Asked, put-decimal-reads.Learnt, put-word-reads.Asked, put-word-reads.Learnt, put-name-reads.Asked, put-name-reads.Learnt) reads.Pre reads.Post)
@@ -38,7 +38,7 @@ room c =
     let v = c .before .before .before .before in
     let n = v .before .before .before .before .before in
     let s = n .before .before .before in
-    omega (arith, few-digits 4 (s .args .n) (s .pre .1 .0), puts-ends (n .put-decimal .ensures), puts-ends (v .put-word .ensures), c .put-name .ensures .1, c .put-name .kept .0)
+    omega (arith, period-digits (s .args .n) (s .pre .1 .0), puts-ends (n .put-decimal .ensures), puts-ends (v .put-word .ensures), c .put-name .ensures .1, c .put-name .kept .0)
 
 slice-aggregate-put-word-2 : tie.Need-slice-aggregate-put-word-2
 slice-aggregate-put-word-2 c = search needs

@@ -5,7 +5,7 @@ use native.Mathlib.Omega.{arith}
 use mathlib.Core.Path.{_≡_, ap, _∙_}
 use lib.ListN.{length}
 use Rattle.periods.specs.Forms.{periodBytes, formOf}
-use Rattle.periods.proofs.Forms.{record-inside}
+use Rattle.periods.proofs.Forms.{period-inside}
 use Rattle.report.proofs.Following.{stepped-on}
 use Rattle.report.proofs.step.Statement.{statement}
 use Rattle.report.proofs.step.Tie as tie
@@ -30,7 +30,7 @@ inside c =
     let a = c .before .before .before .before .before in
     let t = a .args .trace .now in
     let e = c .period-bytes .ensures ∙ ap periodBytes (c .before .form-of .ensures) in
-    (e, rw e (record-inside (formOf t) t (a .args .k) (a .pre)))
+    (e, rw e (period-inside (formOf t) t (a .args .k) (a .pre)))
 
 mul-from : tie.Need-mul-from
 mul-from c = omega (arith, inside c .1)

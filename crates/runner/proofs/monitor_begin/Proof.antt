@@ -8,7 +8,7 @@ use Rattle.runner.proofs.monitor_begin.Tie as tie
 
 returns : tie.Need-returns
 unfolding begin
-returns c = gives-no-room _ _ _ _ _ _ (c .if1 .taken)
+returns c = gives-no-room _ _ _ _ _ (c .if1 .taken)
 
 begin-test-requires : tie.Need-begin-test-requires
 begin-test-requires c κs = search needs
@@ -34,7 +34,7 @@ returns-2 c =
     let p = c .before .before .before .before in
     let b = p .before .before in
     rw (← b .begin-test .ensures)
-    (gives-refused (b .begin-test .result) _ _ _ _ _ (b .before .before .if1 .left) (is-refused (c .enum-told2 .given .1)) _ (p .put-head .ensures))
+    (gives-refused (b .begin-test .result) _ _ _ _ (b .before .before .if1 .left) (is-refused (c .enum-told2 .given .1)) _ (p .put-head .ensures))
 
 clear-requires : tie.Need-clear-requires
 clear-requires c κs = search needs
@@ -53,7 +53,7 @@ returns-3 c =
     let b = p .before .before in
     let passed = c .before .before .before .before .enum-told .given .1 in
     rw (← b .begin-test .ensures)
-    (gives-passed (b .begin-test .result) _ _ _ _ _ (b .before .before .if1 .left) passed _ _ (z .clear .ensures) (rw passed at (p .put-head .ensures)))
+    (gives-passed (b .begin-test .result) _ _ _ _ (b .before .before .if1 .left) passed _ _ (z .clear .ensures) (rw passed at (p .put-head .ensures)))
 
 pub monitor-begin-spec : {M : Type 1} → statement M
 monitor-begin-spec =

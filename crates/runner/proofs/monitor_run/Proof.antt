@@ -25,7 +25,7 @@ use Rattle.runner.proofs.run_test.Reads as run-test-reads
 
 returns : tie.Need-returns
 unfolding run
-returns c = gives-no-room _ _ _ _ _ _ (c .if1 .taken)
+returns c = gives-no-room _ _ _ _ _ (c .if1 .taken)
 
 run-test-requires : tie.Need-run-test-requires
 run-test-requires c κs = search needs
@@ -51,7 +51,7 @@ returns-2 c =
     let p = c .before .before in
     let b = c .before .before .before .before .before .before in
     rw (← b .run-test .ensures)
-    (gives-refused (b .run-test .result) _ _ _ _ _ (b .before .before .if1 .left) (is-refused (c .before .before .before .before .enum-told2 .given .1)) _ (p .put-step-reply .ensures))
+    (gives-refused (b .run-test .result) _ _ _ _ (b .before .before .if1 .left) (is-refused (c .before .before .before .before .enum-told2 .given .1)) _ (p .put-step-reply .ensures))
 
 -- the tests are passed
 passed : (c : lts.After-enum-told (run-test-reads.Asked, run-test-reads.Learnt, put-step-reply-reads.Asked, put-step-reply-reads.Learnt, period-records-reads.Asked, period-records-reads.Learnt, take-periods-reads.Asked, take-periods-reads.Learnt, put-answer-reads.Asked, put-answer-reads.Learnt) reads.Pre reads.Post)
@@ -95,7 +95,7 @@ returns-3 c =
     let w = periodsOf t (periodRecords t) in
     let e : length w ≡ periodRecords t = length-periodsOf t (periodRecords t) in
     rw (← b .run-test .ensures)
-    (gives-passed (b .run-test .result) _ _ _ _ _ (b .before .before .if1 .left) (n .enum-told .given .1) _ _ took
+    (gives-passed (b .run-test .result) _ _ _ _ (b .before .before .if1 .left) (n .enum-told .given .1) _ _ took
     (rw (took, later-read (a .image .now) (a .state .now) (periodRecords t) h w (omega arith)) at (c .before .before .put-answer .ensures)))
 
 pub monitor-run-spec : {M : Type 1} → statement M

@@ -22,7 +22,7 @@ use Rattle.runner.proofs.step_test.Reads as step-test-reads
 
 returns : tie.Need-returns
 unfolding step
-returns c = gives-no-room _ _ _ _ _ _ (c .if1 .taken)
+returns c = gives-no-room _ _ _ _ _ (c .if1 .taken)
 
 step-test-requires : tie.Need-step-test-requires
 step-test-requires c κs = search needs
@@ -48,7 +48,7 @@ returns-2 c =
     let p = c .before .before in
     let b = c .before .before .before .before .before .before in
     rw (← b .step-test .ensures)
-    (gives-refused (b .step-test .result) _ _ _ _ _ (b .before .before .if1 .left) (is-refused (c .before .before .before .before .enum-told2 .given .1)) _ (p .put-step-reply .ensures))
+    (gives-refused (b .step-test .result) _ _ _ _ (b .before .before .if1 .left) (is-refused (c .before .before .before .before .enum-told2 .given .1)) _ (p .put-step-reply .ensures))
 
 -- the tests are passed
 passed : (c : lts.After-enum-told (step-test-reads.Asked, step-test-reads.Learnt, put-step-reply-reads.Asked, put-step-reply-reads.Learnt, take-periods-reads.Asked, take-periods-reads.Learnt, put-answer-reads.Asked, put-answer-reads.Learnt) reads.Pre reads.Post)
@@ -83,7 +83,7 @@ returns-3 c =
     let h = step-ready (a .image .now) (a .state .now) (a .period .now) (passed n) in
     let took = c .before .before .before .before .before .before .before .take-periods .ensures in
     rw (← b .step-test .ensures)
-    (gives-passed (b .step-test .result) _ _ _ _ _ (b .before .before .if1 .left) (n .enum-told .given .1) _ _ took
+    (gives-passed (b .step-test .result) _ _ _ _ (b .before .before .if1 .left) (n .enum-told .given .1) _ _ took
     (rw (took, step-read (a .image .now) (a .state .now) h (periodAt (a .period .now) 0)) at (c .before .before .put-answer .ensures)))
 
 pub monitor-step-spec : {M : Type 1} → statement M

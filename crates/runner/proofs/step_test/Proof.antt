@@ -3,7 +3,7 @@ use borrow.Author.Needs.{needs}
 use mathlib.Core.Path.{_≡_, sym, _∙_}
 use Rattle.records.specs.declared.Test.the-variants.{Passed}
 use Rattle.records.proofs.Refusals.{refused-first}
-use Rattle.periods.proofs.record_test.Reads as record-test-reads
+use Rattle.periods.proofs.period_test.Reads as period-test-reads
 use Rattle.states.proofs.count_test.Reads as count-test-reads
 use Rattle.runner.specs.Refusals.{readyTest, stepTest}
 use Rattle.runner.proofs.Refusals.{ready-head}
@@ -29,12 +29,12 @@ returns c =
     refused-first (t .result) _ _ (t .ensures) (c .enum-told2 .given .1)
 
 -- past the tests of the image and the state
-ready : (c : lts.After-enum-told (ready-test-reads.Asked, ready-test-reads.Learnt, record-test-reads.Asked, record-test-reads.Learnt, count-test-reads.Asked, count-test-reads.Learnt) reads.Pre reads.Post)
+ready : (c : lts.After-enum-told (ready-test-reads.Asked, ready-test-reads.Learnt, period-test-reads.Asked, period-test-reads.Learnt, count-test-reads.Asked, count-test-reads.Learnt) reads.Pre reads.Post)
     → let a = c .before .before .before .before .before .before .args in readyTest (a .image .now) (a .state .now) ≡ Passed
 ready c = sym (c .before .before .ready-test .ensures) ∙ c .enum-told .given .1
 
-record-test-requires : tie.Need-record-test-requires
-record-test-requires c κs = search needs
+period-test-requires : tie.Need-period-test-requires
+period-test-requires c κs = search needs
 
 enum-told-3 : tie.Need-enum-told-3
 enum-told-3 c = search needs
@@ -45,7 +45,7 @@ enum-told-4 c = search needs
 returns-2 : tie.Need-returns-2
 unfolding stepTest
 returns-2 c =
-    let t = c .before .before .record-test in
+    let t = c .before .before .period-test in
     rw (ready (c .before .before .before)) (refused-first (t .result) _ _ (t .ensures) (c .enum-told4 .given .1))
 
 count-test-requires : tie.Need-count-test-requires
@@ -54,7 +54,7 @@ count-test-requires c κs = ready-head _ _ (ready (c .before .before .before))
 returns-3 : tie.Need-returns-3
 unfolding stepTest
 returns-3 c =
-    let t = c .before .before .before .record-test in
+    let t = c .before .before .before .period-test in
     rw (ready (c .before .before .before .before), ← t .ensures, c .before .enum-told3 .given .1) (c .count-test .ensures)
 
 pub step-test-spec : {M : Type 1} → statement M
@@ -65,7 +65,7 @@ step-test-spec =
     enum-told
     enum-told-2
     returns
-    record-test-requires
+    period-test-requires
     enum-told-3
     enum-told-4
     returns-2

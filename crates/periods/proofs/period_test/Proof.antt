@@ -1,9 +1,9 @@
--- `periods::record_test` meets its contract: the length, then the mark.
+-- `periods::period_test` meets its contract: the length, then the mark.
 use borrow.Author.Needs.{needs}
 use borrow.Author.Tests.{eq-eqb, ne-eqb}
-use Rattle.periods.specs.Traces.{recordTest}
-use Rattle.periods.proofs.record_test.Statement.{statement}
-use Rattle.periods.proofs.record_test.Tie as tie
+use Rattle.periods.specs.Traces.{periodTest}
+use Rattle.periods.proofs.period_test.Statement.{statement}
+use Rattle.periods.proofs.period_test.Tie as tie
 
 form-of-requires : tie.Need-form-of-requires
 form-of-requires c κs = search needs
@@ -12,17 +12,17 @@ period-bytes-requires : tie.Need-period-bytes-requires
 period-bytes-requires c κs = search needs
 
 returns : tie.Need-returns
-unfolding recordTest
+unfolding periodTest
 returns c = rw (← c .before .before .form-of .ensures, ← c .before .period-bytes .ensures, ne-eqb _ _ (c .if1 .taken))
 
 marks-test-requires : tie.Need-marks-test-requires
 marks-test-requires c κs = search needs
 
 returns-2 : tie.Need-returns-2
-unfolding recordTest
+unfolding periodTest
 returns-2 c = rw (← c .before .before .before .form-of .ensures, ← c .before .before .period-bytes .ensures, eq-eqb _ _ (c .before .if1 .left)) (c .marks-test .ensures)
 
-pub record-test-spec : {M : Type 1} → statement M
-record-test-spec =
+pub period-test-spec : {M : Type 1} → statement M
+period-test-spec =
     tie.close
     (tie.spec form-of-requires period-bytes-requires returns marks-test-requires returns-2)
