@@ -6,11 +6,12 @@ use mathlib.Core.Path.{_≡_}
 use lib.Dec.{leb}
 use lib.ListN.{length, take}
 use lib.Seq.{sets}
+use Rattle.records.specs.Fields.{field}
 use Rattle.records.specs.declared.Fault.the-variants.{ShortBuffer}
 use Rattle.records.specs.declared.Test.{Test}
 use Rattle.records.specs.declared.Test.the-variants.{Passed}
 use Rattle.records.specs.Refusals.{require, firstOf}
-use Rattle.records.specs.Replies.{alone, replyBytes, After, Gives, call, numberIn, ownIn, placeIn}
+use Rattle.records.specs.Replies.{alone, replyBytes, After, Gives, call}
 use Rattle.layout.specs.Limits.{rowBytes}
 use Rattle.layout.specs.Images.{rowCount}
 use Rattle.layout.specs.Refusals.{imageTest}
@@ -39,9 +40,9 @@ compile contract buffer reply =
 -- good image that monitors the contract, with at most 32 × records + 64 rows.
 pub record Usable (contract buffer reply : List ℕ) : Type 0 where
   pub count : ℕ
-  pub number-is : numberIn reply ≡ 0
-  pub count-is : ownIn reply ≡ count
-  pub place-is : placeIn reply ≡ 0
+  pub number-is : field reply 0 4 ≡ 0
+  pub count-is : field reply 4 4 ≡ count
+  pub place-is : field reply 8 8 ≡ 0
   pub few : count ≤ allowedRows (contractRecords contract)
   pub good : imageTest (take (rowBytes * (count + 1)) buffer) ≡ Passed
   pub monitors : Monitors contract (take (rowBytes * (count + 1)) buffer)

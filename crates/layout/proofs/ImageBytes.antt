@@ -9,7 +9,8 @@ use lib.Dec.{lit<}
 use lib.ListN.{length, take, drop, getD, length-append}
 use lib.Seq.{length-take-le, drop-at, ext-getD}
 use borrow.Author.Tests.{lt-ltb}
-use Rattle.records.specs.Fields.{AllBytes, bytes, field}
+use Rattle.records.specs.Fields.{bytes, field}
+use Rattle.records.specs.Holding.{AllBytes}
 use Rattle.records.specs.Marks.{endMark, marked}
 use Rattle.records.specs.declared.Test.the-variants.{Passed}
 use Rattle.records.proofs.Fields.{allBytes-nil, allBytes-cons, allBytes-append, allBytes-bytes, value-bytes-lt, field-drop}

@@ -12,7 +12,8 @@ use lib.Dec.{eqb, ltb, leb, lit<}
 use lib.ListN.{length, take, drop, getD}
 use lib.Seq.{getD-drop, drop-drop, drop-at, drop-cons, take-add}
 use borrow.Author.Tests.{ne-eqb, lt-ltb, le-leb, lt-leb, eqb-true, ltb-true}
-use Rattle.records.specs.Fields.{AllBytes, bytes, field}
+use Rattle.records.specs.Fields.{bytes, field}
+use Rattle.records.specs.Holding.{AllBytes}
 use Rattle.records.specs.Marks.{rowMark, marked}
 use Rattle.records.proofs.Numbers.{lt-or-le}
 use Rattle.records.proofs.Fields.{allBytes-cons, allBytes-append, allBytes-bytes, value-bytes-lt, bytes-field}

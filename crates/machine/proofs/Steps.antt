@@ -8,7 +8,8 @@ use borrow.Rule.Slice.PartMut.{putMid}
 use lib.Dec.{eqb}
 use lib.ListN.{length, getD, take, drop, length-drop, length-map, List·getD-map}
 use lib.Seq.{sets, getD-drop}
-use Rattle.records.specs.Fields.{AllBytes, bytes, field}
+use Rattle.records.specs.Fields.{bytes, field}
+use Rattle.records.specs.Holding.{AllBytes}
 use Rattle.records.proofs.Written.{drop-after, getD-before}
 use Rattle.records.proofs.Fields.{length-bytes}
 use Rattle.periods.specs.Periods.{Period}

@@ -4,7 +4,7 @@ ghost use mathlib.Core.Bool.{true, false};
 ghost use mathlib.Core.Option.{Option·getD};
 ghost use Prim.Native.Nat.{_*_, _<_, _≤_};
 ghost use lib.ListN.{length, getD};
-ghost use Rattle.periods.specs.Periods.{periodOf};
+ghost use Rattle.periods.specs.Computing.{periodOf};
 ghost use Rattle.periods.specs.Traces.{periodRecords, periodsOf};
 ghost use Rattle.layout.specs.Rows.{never, rowOf};
 ghost use Rattle.layout.specs.Images.{imageOf};

@@ -21,7 +21,8 @@ use Rattle.records.proofs.Refusals.{all-passed, first-passed, require-passed, o
 use Rattle.periods.specs.declared.Form.{Form}
 use Rattle.periods.specs.Forms.{maskBytes, periodBytes, formOf}
 use Rattle.periods.specs.Periods.{periodFrom}
-use Rattle.periods.specs.Traces.{markedAs, periodRecords, periodRecordAt, periodAt, periodsOf, markedAt, marksAre, marksTest, periodTest, traceTest}
+use Rattle.periods.specs.Traces.{markedAs, periodRecords, periodRecordAt, periodAt, periodsOf, markedAt, marksTest, periodTest, traceTest}
+use Rattle.periods.specs.Computing.{marksAre}
 use Rattle.periods.proofs.Forms.{period-inside, one-whole}
 
 pub length-periodsOf : (trace : List ℕ) (n : ℕ) → length (periodsOf trace n) ≡ n

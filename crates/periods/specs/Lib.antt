@@ -3,3 +3,4 @@ pub mod Limits
 pub mod Forms
 pub mod Periods
 pub mod Traces
+pub mod Computing

@@ -1,14 +1,11 @@
 -- Parties, periods and what is tried in them. Document 01, "Records", the period record.
-use Prim.Native.Nat.{ℕ, _+_, _/_, _%_, _^_, _<_}
-use mathlib.Core.Path.{_≡_}
+use Prim.Native.Nat.{ℕ, _+_, _/_, _%_, _^_}
 use mathlib.Core.Bool.{Bool, _&&_, cond}
 use mathlib.Core.List.{List}
 use mathlib.Core.Option.{Option, none, some}
 use lib.Dec.{eqb}
 use Rattle.records.specs.Fields.{field}
-use Rattle.periods.specs.declared.Attempts.{Attempts}
 use Rattle.periods.specs.declared.Form.{Form}
-use Rattle.periods.specs.Limits.{actions}
 use Rattle.periods.specs.Forms.{maskBytes}
 
 -- the two parties to a contract
@@ -54,13 +51,3 @@ succeeds x a = tries x party1 a && tries x party2 a
 -- the period that the bytes from byte `at` on hold in a form: party 1's attempts after the mark, then party 2's
 unfoldable pub periodFrom : Form → List ℕ → (at : ℕ) → Period
 periodFrom f l at = record { attempts1 = field l (at + 2) (maskBytes f); attempts2 = field l (at + 2 + maskBytes f) (maskBytes f) }
-
--- a program's two masks, as a period
-abbrev pub periodOf : Attempts → Period
-periodOf a = record { attempts1 = a .one; attempts2 = a .two }
-
--- a is this period, and no mask has a bit above the last action's
-pub record HoldsPeriod (p : Period) (a : Attempts) : Type 0 where
-  pub is : periodOf a ≡ p
-  pub small1 : a .one < 2 ^ actions
-  pub small2 : a .two < 2 ^ actions

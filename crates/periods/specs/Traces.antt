@@ -1,7 +1,7 @@
 -- Traces of period records: how many there are, the periods that they hold, and refusal 11. Document 01, "Records", "Calls" and "Replies that
 -- refuse".
 use Prim.Native.Nat.{ℕ, zero, suc, _*_, _/_, _%_}
-use mathlib.Core.Bool.{Bool, true, false, not}
+use mathlib.Core.Bool.{Bool}
 use mathlib.Core.List.{List, [], _∷_, _++_}
 use lib.Dec.{eqb}
 use lib.ListN.{length, take, drop}
@@ -45,11 +45,6 @@ abbrev pub markedAt : List ℕ → ℕ → Bool
 markedAt trace k = markedAs (formOf trace) trace k
 
 -- ---- refusal 11
-
--- record k has the form's mark, or, for false, it has another
-abbrev pub marksAre : Bool → Form → List ℕ → ℕ → Bool
-marksAre true f l k = markedAs f l k
-marksAre false f l k = not (markedAs f l k)
 
 -- 11, marks: the first record with another mark
 unfoldable pub marksTest : List ℕ → Test

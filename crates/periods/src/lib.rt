@@ -8,8 +8,10 @@ ghost use Rattle.records.specs.Marks.{marked};
 ghost use Rattle.records.specs.Refusals.{firstFailing};
 ghost use Rattle.periods.specs.Limits.{actions};
 ghost use Rattle.periods.specs.Forms.{formMark, periodBytes, formOf};
-ghost use Rattle.periods.specs.Periods.{Party, number, bit, tries, periodOf, periodFrom, HoldsPeriod};
-ghost use Rattle.periods.specs.Traces.{wholePeriods, periodRecords, periodAt, marksAre, marksTest, periodTest, traceTest};
+ghost use Rattle.periods.specs.Periods.{Party, number, bit, tries, periodFrom};
+ghost use Rattle.periods.specs.Computing.{periodOf, HoldsPeriod};
+ghost use Rattle.periods.specs.Traces.{wholePeriods, periodRecords, periodAt, marksTest, periodTest, traceTest};
+ghost use Rattle.periods.specs.Computing.{marksAre};
 use records::Fault;
 use records::Test;
 

@@ -9,7 +9,8 @@ use lib.Pow.{pow-add}
 use lib.Dec.{lit<}
 use lib.ListN.{length, take, drop, getD, length-take, length-drop}
 use lib.Seq.{length-take-le, take-nil, getD-drop, drop-drop}
-use Rattle.records.specs.Fields.{AllBytes, value, bytes, field, HoldsField}
+use Rattle.records.specs.Fields.{value, bytes, field}
+use Rattle.records.specs.Holding.{AllBytes, HoldsField}
 
 -- ---- lists of bytes
 

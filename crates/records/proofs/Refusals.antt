@@ -5,7 +5,7 @@ use native.Mathlib.Omega.{arith}
 use mathlib.Core.Path.{_≡_, refl, sym, ap, _∙_}
 use mathlib.Core.Bool.{Bool, true, false, _&&_, _||_, and-eq-true-iff, or-assoc, or-true, false≢true}
 use mathlib.Core.Logic.{_⊎_, inl, inr, ⊎-elim}
-use mathlib.Core.List.{List, [], _∷_, _++_}
+use mathlib.Core.List.{List, [], _∷_, _++_, map}
 use Rattle.records.specs.declared.Test.{Test}
 use Rattle.records.specs.declared.Test.the-variants.{Passed, Refused}
 use Rattle.records.specs.declared.Fault.{Fault}
@@ -138,6 +138,15 @@ require-passed true f p e = refl
 require-passed false f p e = absurd (refused-passed e)
 
 -- ---- the numbers of tests
+
+-- document 01's table, in its order
+abbrev pub faults : List Fault
+faults =
+    BadLength ∷ BadMark ∷ UnknownKind ∷ BadField ∷ BadOperands ∷ NotOneClause ∷ EmptyList
+    ∷ ShortBuffer ∷ BadImage ∷ BadState ∷ BadPeriod ∷ FullCount ∷ LongInput ∷ []
+
+pub fault-numbers : map faultNumber faults ≡ 1 ∷ 2 ∷ 3 ∷ 4 ∷ 5 ∷ 6 ∷ 7 ∷ 8 ∷ 9 ∷ 10 ∷ 11 ∷ 12 ∷ 13 ∷ []
+fault-numbers = refl
 
 -- a fault's number is 1 or above, and of one byte
 numbered : (f : Fault) → (leb 1 (faultNumber f) && ltb (faultNumber f) 256) ≡ true

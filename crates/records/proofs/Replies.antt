@@ -11,7 +11,7 @@ use Rattle.records.specs.Fields.{bytes, field}
 use Rattle.records.specs.declared.Test.{Test}
 use Rattle.records.specs.declared.Test.the-variants.{Passed, Refused}
 use Rattle.records.specs.Refusals.{numberOf, placeOf}
-use Rattle.records.specs.Replies.{Field, fieldsBytes, size, Answer, alone, replyOf, replyBytes, zeros, zeroed, Gives, unwritten, written, answered, call}
+use Rattle.records.specs.Replies.{Field, fieldsBytes, size, Answer, alone, replyOf, replyBytes, zeroed, Gives, unwritten, written, answered, call}
 use Rattle.records.proofs.Fields.{length-bytes}
 use Rattle.records.proofs.Written.{sets-append, drop-after, field-in, field-spelled}
 
@@ -30,11 +30,6 @@ fields-append (f ∷ fs) gs = rw (fields-append fs gs, append-assoc)
 pub size-append : (fs gs : List Field) → size (fs ++ gs) ≡ size fs + size gs
 size-append [] gs = rw zero-add
 size-append (f ∷ fs) gs = rw (size-append fs gs, add-assoc)
-
--- a refused call's fields are as long as an accepted one's
-pub size-zeros : (fs : List Field) → size (zeros fs) ≡ size fs
-size-zeros [] = refl
-size-zeros (f ∷ fs) = rw (size-zeros fs)
 
 -- fields written behind others
 pub fields-written : (area : List ℕ) (fs gs : List Field) → sets area 0 (fieldsBytes (fs ++ gs)) ≡ sets (sets area 0 (fieldsBytes fs)) (size fs) (fieldsBytes gs)

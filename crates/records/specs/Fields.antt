@@ -1,12 +1,7 @@
 -- Fields of several bytes. Document 01, "Records": "Two- and four-byte fields have the low byte first."
-use Prim.Native.Nat.{ℕ, zero, suc, _+_, _*_, _/_, _%_, _^_, _<_}
-use mathlib.Core.Path.{_≡_}
+use Prim.Native.Nat.{ℕ, zero, suc, _+_, _*_, _/_, _%_}
 use mathlib.Core.List.{List, [], _∷_}
-use lib.ListN.{take, drop, getD}
-
--- every element is a byte
-pub record AllBytes (l : List ℕ) : Type 0 where
-  pub below : (i : ℕ) → getD l i 0 < 256
+use lib.ListN.{take, drop}
 
 -- the number that bytes spell, low byte first
 unfoldable pub value : List ℕ → ℕ
@@ -21,8 +16,3 @@ bytes (suc w) n = n % 256 ∷ bytes w (n / 256)
 -- the number in the field of w bytes from byte `at` on
 unfoldable pub field : List ℕ → ℕ → ℕ → ℕ
 field l at w = value (take w (drop at l))
-
--- r is the number in the field of w bytes from byte `at` on, below 256 ^ w
-pub record HoldsField (l : List ℕ) (at w r : ℕ) : Type 0 where
-  pub is : r ≡ field l at w
-  pub small : r < 256 ^ w

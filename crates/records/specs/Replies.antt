@@ -1,12 +1,12 @@
 -- Replies, and what a call leaves. Document 01, "Calls" and "Replies that refuse".
 use Prim.Native.Nat.{ℕ, _+_}
 use mathlib.Core.Bool.{cond}
-use mathlib.Core.List.{List, [], _∷_, _++_}
+use mathlib.Core.List.{List, [], _∷_, _++_, map}
 use mathlib.Core.Path.{_≡_}
 use lib.Dec.{ltb}
 use lib.ListN.{length}
 use lib.Seq.{sets}
-use Rattle.records.specs.Fields.{bytes, field}
+use Rattle.records.specs.Fields.{bytes}
 use Rattle.records.specs.declared.Test.{Test}
 use Rattle.records.specs.declared.Test.the-variants.{Passed, Refused}
 use Rattle.records.specs.Refusals.{numberOf, placeOf}
@@ -38,6 +38,7 @@ pub record Answer : Type 0 where
   pub own : ℕ
   pub others : List Field
 
+-- the first of these alone
 abbrev pub alone : ℕ → Answer
 alone n = record { own = n; others = [] }
 
@@ -53,12 +54,8 @@ abbrev pub replyBytes : Answer → ℕ
 replyBytes a = size (replyFields Passed a)
 
 -- "every other field is 0"
-abbrev pub zeros : List Field → List Field
-zeros [] = []
-zeros (f ∷ fs) = record { width = f .width; value = 0 } ∷ zeros fs
-
 abbrev pub zeroed : Answer → Answer
-zeroed a = record { own = 0; others = zeros (a .others) }
+zeroed a = record { own = 0; others = map (λ (f : Field). record { width = f .width; value = 0 }) (a .others) }
 
 -- ---- what a call leaves
 
@@ -91,14 +88,3 @@ answered (Refused f place) a before later area = written before area (Refused f 
 -- any call: what its tests find, what it answers and leaves where they are passed, and what it was lent
 unfoldable pub call : {Buffers : Type 0} → Test → Answer → (before later : Buffers) → (area : List ℕ) → After Buffers
 call t a before later area = cond (ltb (length area) (replyBytes a)) (unwritten before area) (answered t a before later area)
-
--- ---- what is read of a reply
-
-abbrev pub numberIn : List ℕ → ℕ
-numberIn reply = field reply 0 4
-
-abbrev pub ownIn : List ℕ → ℕ
-ownIn reply = field reply 4 4
-
-abbrev pub placeIn : List ℕ → ℕ
-placeIn reply = field reply 8 8

@@ -8,7 +8,7 @@ use mathlib.Core.Path.{_≡_, refl, sym, _∙_}
 use borrow.Author.Tests.{lt-ltb}
 use lib.ListN.{length, replicate, take, drop}
 use lib.Seq.{sets}
-use Rattle.records.specs.Fields.{HoldsField}
+use Rattle.records.specs.Holding.{HoldsField}
 use Rattle.records.specs.Verdicts.{Verdict, «open», met, broken, met-after, broken-after, verdictNumber}
 use Rattle.records.specs.declared.Test.the-variants.{Passed}
 use Rattle.records.specs.Replies.{four, eight, replyOf, Gives}

@@ -11,7 +11,8 @@ use Rattle.records.specs.Refusals.{firstFailing}
 use Rattle.records.proofs.Refusals.{failing-max}
 use Rattle.periods.specs.declared.Form.the-variants.{Short}
 use Rattle.periods.specs.Forms.{periodBytes}
-use Rattle.periods.specs.Traces.{wholePeriods, marksAre}
+use Rattle.periods.specs.Traces.{wholePeriods}
+use Rattle.periods.specs.Computing.{marksAre}
 use Rattle.periods.proofs.Forms.{few-whole}
 use Rattle.report.specs.Split.{firstPeriod, contractLength}
 

@@ -5,7 +5,6 @@ use mathlib.Core.List.{List, []}
 use mathlib.Core.Path.{_≡_}
 use lib.ListN.{length, replicate}
 use Rattle.records.specs.Fields.{field}
-use Rattle.records.specs.Replies.{numberIn, ownIn, placeIn}
 use Rattle.records.specs.declared.Test.the-variants.{Passed}
 use Rattle.periods.specs.Periods.{Period}
 use Rattle.periods.specs.Traces.{periodRecords, markedAt, traceTest, periodRecordAt}
@@ -28,14 +27,14 @@ pub record Compiling (contract buffer later : List ℕ) (r : Compiled) : Type 0 
   pub result : ℕ
   pub reply : List ℕ
   pub compiles : Compiles contract buffer (replicate compileReplyBytes 0) result later reply
-  pub number-is : r .number ≡ numberIn reply
-  pub rows-is : r .rows ≡ ownIn reply
-  pub place-is : r .place ≡ placeIn reply
+  pub number-is : r .number ≡ field reply 0 4
+  pub rows-is : r .rows ≡ field reply 4 4
+  pub place-is : r .place ≡ field reply 8 8
 
 -- what a step on record k of a trace leaves where its reply is read from an area of zeros
 pub record Stepping (image state trace : List ℕ) (k : ℕ) (later : List ℕ) (r : Stepped) : Type 0 where
   pub state-is : later ≡ step image state (periodRecordAt trace k) (replicate stepReplyBytes 0) .buffers
-  pub verdict-is : r .verdict ≡ ownIn (step image state (periodRecordAt trace k) (replicate stepReplyBytes 0) .reply)
+  pub verdict-is : r .verdict ≡ field (step image state (periodRecordAt trace k) (replicate stepReplyBytes 0) .reply) 4 4
   pub blame-is : r .blame ≡ field (step image state (periodRecordAt trace k) (replicate stepReplyBytes 0) .reply) 16 4
   pub decision-is : r .decision ≡ field (step image state (periodRecordAt trace k) (replicate stepReplyBytes 0) .reply) 20 4
 

@@ -11,7 +11,7 @@ use mathlib.Core.Path.{_≡_, refl, sym, ap, _∙_}
 use borrow.Author.Tests.{le-leb, lt-leb, eq-eqb, ne-eqb}
 use lib.ListN.{length}
 use lib.Seq.{sets}
-use Rattle.records.specs.Fields.{AllBytes}
+use Rattle.records.specs.Holding.{AllBytes}
 use Rattle.records.specs.declared.Fault.the-variants.{BadPeriod, FullCount}
 use Rattle.records.specs.declared.Test.the-variants.{Passed, Refused}
 use Rattle.records.specs.Refusals.{passed}
@@ -135,7 +135,7 @@ module _ (image state trace reply : List ℕ) (b : AllBytes state) (r : stepRepl
       → let later = afterPeriods (imageOf image) (stateOf state) (periodsOf trace (periodRecords trace)) in
       run image state trace reply ≡ written (stateBytes later) reply Passed (answer later)
   unfolding run
-  run-written t = call-passed (runTest image state trace) _ state _ reply r t
+  run-written t = call-passed (runTest image state trace) _ _ _ reply r t
 
   -- an accepted run ends as the steps of its records do
   pub run-ends : runTest image state trace ≡ Passed → EndsAsSteps image state trace reply

@@ -14,7 +14,7 @@ use Rattle.records.specs.declared.Test.the-variants.{Passed}
 use Rattle.records.specs.Refusals.{passed}
 use Rattle.records.proofs.Numbers.{lt-or-le}
 use Rattle.records.proofs.Refusals.{true-or-false, first-passed, passed-first, passed-is, passed-not}
-use Rattle.records.specs.Replies.{After, written}
+use Rattle.records.specs.Replies.{alone, After, written}
 use Rattle.records.proofs.Replies.{call-no-room, call-passed, call-refused}
 use Rattle.periods.specs.Traces.{periodAt}
 use Rattle.layout.specs.Images.{rowCount, imageOf}
@@ -30,7 +30,7 @@ use Rattle.machine.specs.Premises.{Ready}
 use Rattle.machine.proofs.Machine.{SameDecision, stays-decided, periods-after}
 use Rattle.machine.proofs.Steps.{later-ready, step-read}
 use Rattle.runner.specs.Refusals.{beginTest, readyTest, stepTest}
-use Rattle.runner.specs.Calls.{beginAnswer, beginReplyBytes, stepReplyBytes, answer, begin, step}
+use Rattle.runner.specs.Calls.{beginReplyBytes, stepReplyBytes, answer, begin, step}
 use Rattle.runner.specs.StepCalls.{StepCall, accepted, stateAfterCall, stateAfter, acceptedCount}
 use Rattle.runner.proofs.Refusals.{ready-passed, step-ready}
 
@@ -57,7 +57,7 @@ module _ (image state : List ℕ) (c : StepCall) where
       (answer (afterPeriod (imageOf image) (periodAt (c .period) 0) (stateOf state)))
   unfolding step
   accepted-step e =
-      call-passed (stepTest image state (c .period)) _ state _ (c .reply) (accepted-room e) (accepted-passed e)
+      call-passed (stepTest image state (c .period)) _ _ _ (c .reply) (accepted-room e) (accepted-passed e)
 
   -- a refused call leaves the state as it was
   pub refused-step : accepted image state c ≡ false → stateAfterCall image state c ≡ state
@@ -153,9 +153,9 @@ module _ (image state reply : List ℕ) (r : beginReplyBytes ≤ length reply) (
       let b = first-passed (imageTest image) (stateLengthTest (rowCount image) state) h in
       (b .0, length-passed (rowCount image) state (b .1))
 
-  pub begin-written : begin image state reply ≡ written (replicate (length state) 0) reply Passed beginAnswer
+  pub begin-written : begin image state reply ≡ written (replicate (length state) 0) reply Passed (alone 0)
   unfolding begin
-  begin-written = call-passed (beginTest image state) _ state _ reply r h
+  begin-written = call-passed (beginTest image state) _ _ _ reply r h
 
   pub begin-state : begin image state reply .buffers ≡ stateBytes (freshState (rowCount image))
   begin-state = ap (λ (x : After (List ℕ)). x .buffers) begin-written ∙ rw (begun .1) (fresh-bytes (rowCount image))

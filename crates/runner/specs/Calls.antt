@@ -12,11 +12,7 @@ use Rattle.states.specs.Verdicts.{verdict}
 use Rattle.machine.specs.Machine.{afterPeriod, afterPeriods}
 use Rattle.runner.specs.Refusals.{beginTest, stepTest, runTest}
 
--- ---- what they answer beside number and place
-
--- begin: a zero
-abbrev pub beginAnswer : Answer
-beginAnswer = alone 0
+-- ---- what they answer beside number and place: begin a zero
 
 -- step and run: the verdict, and behind the place blame and decision period
 abbrev pub stepAnswer : (verdict blame decision : ℕ) → Answer
@@ -28,7 +24,7 @@ answer s = stepAnswer (verdictNumber (verdict s)) (s .blame) (s .decision)
 
 -- the bytes of their replies
 abbrev pub beginReplyBytes : ℕ
-beginReplyBytes = replyBytes beginAnswer
+beginReplyBytes = replyBytes (alone 0)
 
 abbrev pub stepReplyBytes : ℕ
 stepReplyBytes = replyBytes (stepAnswer 0 0 0)
@@ -37,7 +33,7 @@ stepReplyBytes = replyBytes (stepAnswer 0 0 0)
 
 -- "Begin sets a state to zeros."
 unfoldable pub begin : (image state reply : List ℕ) → After (List ℕ)
-begin image state reply = call (beginTest image state) beginAnswer state (replicate (length state) 0) reply
+begin image state reply = call (beginTest image state) (alone 0) state (replicate (length state) 0) reply
 
 -- "Step takes one period record."
 unfoldable pub step : (image state period reply : List ℕ) → After (List ℕ)

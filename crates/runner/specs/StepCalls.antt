@@ -21,7 +21,7 @@ pub record StepCall : Type 0 where
   pub period : List ℕ
   pub reply : List ℕ
 
--- a call is accepted where it has room for its reply and its tests find this
+-- a call whose tests find this is accepted where they are passed and it has room for its reply
 abbrev pub acceptedBy : Test → StepCall → Bool
 acceptedBy t c = leb stepReplyBytes (length (c .reply)) && passed t
 

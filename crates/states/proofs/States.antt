@@ -7,7 +7,8 @@ use mathlib.Core.List.{List, [], _∷_, _++_, append-assoc}
 use lib.ListN.{length, take, drop, length-append, length-drop, take-append-drop}
 use lib.Seq.{take-all, drop-cons, drop-drop, drop-at}
 use borrow.Author.Tests.{eq-eqb}
-use Rattle.records.specs.Fields.{AllBytes, bytes, field}
+use Rattle.records.specs.Fields.{bytes, field}
+use Rattle.records.specs.Holding.{AllBytes}
 use Rattle.records.specs.declared.Test.the-variants.{Passed}
 use Rattle.records.proofs.Fields.{length-bytes, bytes-field}
 use Rattle.records.proofs.Written.{field-spelled}

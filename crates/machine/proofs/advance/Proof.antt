@@ -4,8 +4,9 @@ use native.Mathlib.Omega.{arith}
 use mathlib.Core.Path.{_≡_, refl, sym, ap, _∙_}
 use lib.ListN.{length}
 use lib.Seq.{length-sets}
-use Rattle.records.specs.Fields.{AllBytes, field}
-use Rattle.periods.specs.Periods.{periodOf}
+use Rattle.records.specs.Fields.{field}
+use Rattle.records.specs.Holding.{AllBytes}
+use Rattle.periods.specs.Computing.{periodOf}
 use Rattle.states.specs.States.{stateOf}
 use Rattle.machine.proofs.Steps.{row-values, raised-outcome, period-counted, period-computed, working-long, working-room}
 use Rattle.machine.proofs.advance.Statement.{statement}

@@ -6,7 +6,7 @@ use mathlib.Core.Path.{_≡_, refl, _∙_}
 use borrow.Author.Needs.{needs}
 use lib.Bits.{and-le-r}
 use lib.ListN.{length, getD, length-set}
-use Rattle.periods.specs.Periods.{periodOf}
+use Rattle.periods.specs.Computing.{periodOf}
 use Rattle.layout.specs.Rows.{never}
 use Rattle.layout.specs.Images.{rowCount, imageOf}
 use Rattle.layout.proofs.Images.{passed-good, good-row}

@@ -4,7 +4,7 @@ use borrow.Author.Needs.{needs}
 use borrow.Author.Tests.{ltb-true}
 use mathlib.Core.Bool.{false}
 use lib.ListN.{length, getD}
-use Rattle.periods.specs.Periods.{periodOf}
+use Rattle.periods.specs.Computing.{periodOf}
 use Rattle.machine.specs.Computing.{valuesIn}
 use Rattle.layout.proofs.Rows.{both-below}
 use Rattle.machine.proofs.Machine.{byteOf-le}

@@ -5,7 +5,7 @@ use native.Mathlib.Omega.{arith}
 use mathlib.Core.Bool.{true}
 use mathlib.Core.Path.{_≡_, refl, sym, ap, _∙_}
 use lib.ListN.{length, drop}
-use Rattle.records.specs.Fields.{AllBytes}
+use Rattle.records.specs.Holding.{AllBytes}
 use Rattle.periods.specs.Traces.{periodAt, periodsOf}
 use Rattle.periods.proofs.Traces.{length-periodsOf}
 use Rattle.layout.specs.Images.{rowCount, imageOf}

@@ -9,7 +9,8 @@ use lib.ListN.{length}
 use Rattle.records.specs.Refusals.{firstFailing}
 use Rattle.records.proofs.Refusals.{failing-here, failing-next, failing-end}
 use Rattle.periods.specs.Forms.{periodBytes}
-use Rattle.periods.specs.Traces.{marksAre, markedAs}
+use Rattle.periods.specs.Traces.{markedAs}
+use Rattle.periods.specs.Computing.{marksAre}
 use Rattle.periods.proofs.Forms.{period-inside}
 use Rattle.periods.proofs.Traces.{marks-are}
 use Rattle.periods.proofs.first_other.Statement.{statement}

@@ -1,0 +1,15 @@
+-- What is known of bytes, and of a field that is read of them.
+use Prim.Native.Nat.{ℕ, _^_, _<_}
+use mathlib.Core.Path.{_≡_}
+use mathlib.Core.List.{List}
+use lib.ListN.{getD}
+use Rattle.records.specs.Fields.{field}
+
+-- every element is a byte
+pub record AllBytes (l : List ℕ) : Type 0 where
+  pub below : (i : ℕ) → getD l i 0 < 256
+
+-- r is the number in the field of w bytes from byte `at` on, below 256 ^ w
+pub record HoldsField (l : List ℕ) (at w r : ℕ) : Type 0 where
+  pub is : r ≡ field l at w
+  pub small : r < 256 ^ w
