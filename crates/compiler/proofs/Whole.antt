@@ -9,14 +9,14 @@ use lib.Seq.{sets, take-all, length-sets}
 use Rattle.records.specs.Fields.{bytes}
 use Rattle.records.proofs.Written.{sets-append}
 use Rattle.layout.specs.Limits.{rowBytes}
-use Rattle.layout.specs.Rows.{never, initial, negation, rowRecord}
+use Rattle.layout.specs.Rows.{never, initial, negation, kind, rowRecord}
 use Rattle.layout.specs.Images.{rowsBytes, endRecord, endBytes, imageBytes, rowCount}
 use Rattle.layout.proofs.ImageBytes.{length-rowsBytes, rowCount-imageBytes}
 use Rattle.contract.specs.Meaning.{Clause}
 use Rattle.reader.specs.Limits.{recordBytes}
 use Rattle.reader.specs.Table.{clause}
 use Rattle.reader.proofs.Spelling.{length-spell}
-use Rattle.image.specs.Widths.{firstRow, laterRow, fixedRows, afterClause}
+use Rattle.image.specs.Widths.{neverRow, firstRow, laterRow, fixedRows, afterClause}
 use Rattle.image.specs.Blocks.{clauseRows}
 use Rattle.image.specs.Images as Images
 use Rattle.image.specs.Images.{rowsFor, imageFor}
@@ -36,7 +36,9 @@ withFixedRows image = writtenRows image 0 (map numbersOf (never ∷ initial ∷ 
 
 -- one after the other
 pub fixed-rows-written : (image : List ℕ)
-    → sets (sets (sets image 0 (rowRecord 0 0 0)) 8 (rowRecord 1 0 0)) 16 (rowRecord 3 1 0) ≡ withFixedRows image
+    → sets (sets (sets image (rowBytes * neverRow) (rowRecord (kind never) 0 0)) (rowBytes * firstRow) (rowRecord (kind initial) 0 0))
+    (rowBytes * laterRow) (rowRecord (kind (negation firstRow)) firstRow 0)
+    ≡ withFixedRows image
 unfolding writtenRows numbersBytes bytes
 fixed-rows-written image = refl
 
