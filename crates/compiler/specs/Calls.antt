@@ -6,12 +6,11 @@ use mathlib.Core.Path.{_≡_}
 use lib.Dec.{leb}
 use lib.ListN.{length, take}
 use lib.Seq.{sets}
-use Rattle.records.specs.Fields.{field}
 use Rattle.records.specs.declared.Fault.the-variants.{ShortBuffer}
 use Rattle.records.specs.declared.Test.{Test}
 use Rattle.records.specs.declared.Test.the-variants.{Passed}
 use Rattle.records.specs.Refusals.{require, firstOf}
-use Rattle.records.specs.Replies.{alone, replyBytes, After, Gives, call}
+use Rattle.records.specs.Replies.{alone, headSize, numberIn, ownIn, placeIn, After, Gives, call}
 use Rattle.layout.specs.Limits.{rowBytes}
 use Rattle.layout.specs.Images.{rowCount}
 use Rattle.layout.specs.Refusals.{imageTest}
@@ -28,7 +27,7 @@ compileTest contract buffer =
 
 -- the bytes of its reply: number, row count, place
 abbrev pub compileReplyBytes : ℕ
-compileReplyBytes = replyBytes (alone 0)
+compileReplyBytes = headSize
 
 -- "Compile gives a row count; the image is the first 8 × (count + 1) bytes of its buffer, and those beyond keep their old values."
 unfoldable pub compile : (contract buffer reply : List ℕ) → After (List ℕ)
@@ -40,9 +39,9 @@ compile contract buffer reply =
 -- good image that monitors the contract, with at most 32 × records + 64 rows.
 pub record Usable (contract buffer reply : List ℕ) : Type 0 where
   pub count : ℕ
-  pub number-is : field reply 0 4 ≡ 0
-  pub count-is : field reply 4 4 ≡ count
-  pub place-is : field reply 8 8 ≡ 0
+  pub number-is : numberIn reply ≡ 0
+  pub count-is : ownIn reply ≡ count
+  pub place-is : placeIn reply ≡ 0
   pub few : count ≤ allowedRows (contractRecords contract)
   pub good : imageTest (take (rowBytes * (count + 1)) buffer) ≡ Passed
   pub monitors : Monitors contract (take (rowBytes * (count + 1)) buffer)

@@ -5,7 +5,7 @@ ghost use Rattle.layout.specs.Images.{rowCount};
 ghost use Rattle.image.specs.Images.{imageFor};
 ghost use Rattle.emitter.specs.Premises.{Writes};
 ghost use Rattle.compiler.specs.Calls.{compileTest, Compiles};
-use layout::FIRST;
+use layout::INITIAL;
 use layout::NEVER;
 use layout::NOT;
 use records::Fault;
@@ -29,7 +29,7 @@ fn put_image(contract: &[u8], n: usize, image: &mut [u8]) -> u32
     ensures count { λ r. ⌜ r ≡ rowCount (imageFor (now (contract .entry))) ⌝ }
 {
     layout::put_row(image, NEVER_ROW, NEVER, 0, 0);
-    layout::put_row(image, FIRST_ROW, FIRST, 0, 0);
+    layout::put_row(image, FIRST_ROW, INITIAL, 0, 0);
     layout::put_row(image, LATER_ROW, NOT, FIRST_ROW, 0);
     let whole = emitter::emit(contract, n, image, FIXED_ROWS, FIRST_ROW, LATER_ROW);
     layout::put_end(image, whole.next, whole.sat, whole.one, whole.two);

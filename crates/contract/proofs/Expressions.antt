@@ -7,14 +7,11 @@ use mathlib.Core.List.{List, [], _∷_, _++_, append-assoc, append-nil}
 use mathlib.Core.Logic.{_↔_, _⊎_, inl, inr, ⊎-elim}
 use mathlib.Core.Path.{_≡_, refl, sym, ap, subst}
 use lib.ListN.{length, length-append}
+use Rattle.records.proofs.Cases.{or-cases}
 use Rattle.periods.specs.Periods
 use Rattle.periods.specs.Periods.{Party, party1, party2, Period}
 use Rattle.periods.proofs.Periods.{bit-own, bit-zero}
 use Rattle.contract.specs.Expressions.{Atom, any, tries, idle, succeeds, fails, holds, Expression, atom, seq, or, star, Holds, one, join, left, right, none, more, splits, joins, member, begins, holdsEmpty}
-
-pub or-true : (a b : Bool) → (a || b ≡ true) ↔ ((a ≡ true) ⊎ (b ≡ true))
-or-true true b = (λ h. inl refl, λ h. refl)
-or-true false b = (inr, ⊎-elim (λ h. cc) (λ h. h))
 
 -- a split that passes two tests
 pub record Split (f g : List Period → Bool) (w : List Period) : Type 0 where
@@ -29,7 +26,7 @@ unfolding splits
 split f g [] h =
     let b = and-eq-true-iff (f []) (g []) .0 h in
     record { front = []; rest = []; whole = refl; passes = b .0; passes-rest = b .1 }
-split f g (x ∷ w) h = ⊎-elim here (λ t. further (split (λ u. f (x ∷ u)) g w t)) (or-true (f [] && g (x ∷ w)) _ .0 h)
+split f g (x ∷ w) h = ⊎-elim here (λ t. further (split (λ u. f (x ∷ u)) g w t)) (or-cases (f [] && g (x ∷ w)) _ .0 h)
   where
     here : (f [] && g (x ∷ w)) ≡ true → Split f g (x ∷ w)
     here t = let b = and-eq-true-iff (f []) (g (x ∷ w)) .0 t in record { front = []; rest = x ∷ w; whole = refl; passes = b .0; passes-rest = b .1 }
@@ -40,8 +37,8 @@ split f g (x ∷ w) h = ⊎-elim here (λ t. further (split (λ u. f (x ∷ u)) 
 splits-at : (f g : List Period → Bool) (u v : List Period) → f u ≡ true → g v ≡ true → splits f g (u ++ v) ≡ true
 unfolding splits
 splits-at f g [] [] p q = and-eq-true-iff _ _ .1 (p, q)
-splits-at f g [] (x ∷ v) p q = or-true _ _ .1 (inl (and-eq-true-iff _ _ .1 (p, q)))
-splits-at f g (x ∷ u) v p q = or-true (f [] && g (x ∷ (u ++ v))) _ .1 (inr (splits-at (λ t. f (x ∷ t)) g u v p q))
+splits-at f g [] (x ∷ v) p q = or-cases _ _ .1 (inl (and-eq-true-iff _ _ .1 (p, q)))
+splits-at f g (x ∷ u) v p q = or-cases (f [] && g (x ∷ (u ++ v))) _ .1 (inr (splits-at (λ t. f (x ∷ t)) g u v p q))
 
 -- more joins are allowed by a larger bound
 joins-mono : (f : List Period → Bool) (n m : ℕ) (w : List Period) → n ≤ m → joins f n w ≡ true → joins f m w ≡ true
@@ -90,15 +87,15 @@ member-sound (seq l r) w h =
     let s = split (member l) (member r) w h in
     subst (Holds (seq l r)) (s .whole)
     (join (member-sound l (s .front) (s .passes)) (member-sound r (s .rest) (s .passes-rest)))
-member-sound (or l r) w h = ⊎-elim (λ t. left (member-sound l w t)) (λ t. right (member-sound r w t)) (or-true _ _ .0 h)
+member-sound (or l r) w h = ⊎-elim (λ t. left (member-sound l w t)) (λ t. right (member-sound r w t)) (or-cases _ _ .0 h)
 member-sound (star e) w h = joined e (member e) (member-sound e) (length w) w h
 
 member-complete : {e : Expression} {w : List Period} → Holds e w → member e w ≡ true
 unfolding member
 member-complete (one h) = h
 member-complete (join {l = l} {r = r} {u = u} {v = v} p q) = splits-at (member l) (member r) u v (member-complete p) (member-complete q)
-member-complete (left p) = or-true _ _ .1 (inl (member-complete p))
-member-complete (right {l = l} {w = w} p) = or-true (member l w) _ .1 (inr (member-complete p))
+member-complete (left p) = or-cases _ _ .1 (inl (member-complete p))
+member-complete (right {l = l} {w = w} p) = or-cases (member l w) _ .1 (inr (member-complete p))
 member-complete (none {e = e}) = joins-nil (member e) zero
 member-complete (more {e = e} {u = u} {v = v} p q) = joins-more (member e) u v (member-complete p) (member-complete q)
 
@@ -166,7 +163,7 @@ begins-sound (atom a) (x ∷ y ∷ w) h = absurd (false≢true h)
 begins-sound (seq l r) w h =
     ⊎-elim (λ t. first (begins-sound l w t))
     (λ t. let s = split (member l) (begins r) w t in second s (begins-sound r (s .rest) (s .passes-rest)))
-    (or-true (begins l w) _ .0 h)
+    (or-cases (begins l w) _ .0 h)
   where
     first : ((v : List Period) × Holds l (w ++ v)) → (v : List Period) × Holds (seq l r) (w ++ v)
     first p = (p .0 ++ some-list r .0, rw (append-assoc w) at (join (p .1) (some-list r .1)))
@@ -176,7 +173,7 @@ begins-sound (seq l r) w h =
 begins-sound (or l r) w h =
     ⊎-elim (λ t. let p = begins-sound l w t in (p .0, left (p .1)))
     (λ t. let p = begins-sound r w t in (p .0, right (p .1)))
-    (or-true (begins l w) _ .0 h)
+    (or-cases (begins l w) _ .0 h)
 begins-sound (star e) w h =
     let s = split (member (star e)) (begins e) w h in
     let p = begins-sound e (s .rest) (s .passes-rest) in
@@ -209,9 +206,9 @@ begins-seq : (l r : Expression) → ((w v : List Period) → Holds l (w ++ v) �
 begins-seq l r complete-l complete-r w v h = go (cuts (h .front) (h .rest) w v (sym (h .whole)))
   where
     go : Cuts (h .front) (h .rest) w v → begins l w || splits (member l) (begins r) w ≡ true
-    go (in-front m k) = or-true (begins l w) _ .1 (inl (complete-l w m (rw k at (h .held))))
+    go (in-front m k) = or-cases (begins l w) _ .1 (inl (complete-l w m (rw k at (h .held))))
     go (in-rest m j k) =
-        or-true (begins l w) _ .1
+        or-cases (begins l w) _ .1
         (inr (rw j (splits-at (member l) (begins r) (h .front) m (member-complete (h .held)) (complete-r m v (rw k at (h .held-rest))))))
 
 begins-star : (e : Expression) → ((w v : List Period) → Holds e (w ++ v) → begins e w ≡ true)
@@ -234,7 +231,7 @@ unfolding begins
 begins-complete (atom a) w v h = begins-atom h w v refl
 begins-complete (seq l r) w v h = begins-seq l r (begins-complete l) (begins-complete r) w v (held-seq h)
 begins-complete (or l r) w v h =
-    ⊎-elim (λ p. or-true (begins l w) _ .1 (inl (begins-complete l w v p))) (λ p. or-true (begins l w) _ .1 (inr (begins-complete r w v p))) (held-or h)
+    ⊎-elim (λ p. or-cases (begins l w) _ .1 (inl (begins-complete l w v p))) (λ p. or-cases (begins l w) _ .1 (inr (begins-complete r w v p))) (held-or h)
 begins-complete (star e) w v h = begins-star e (begins-complete e) h w v refl
 
 pub begins-iff : (e : Expression) (w : List Period) → (begins e w ≡ true) ↔ ((v : List Period) × Holds e (w ++ v))
@@ -245,7 +242,7 @@ empty-sound : (e : Expression) → holdsEmpty e ≡ true → Holds e []
 unfolding holdsEmpty
 empty-sound (atom a) h = absurd (false≢true h)
 empty-sound (seq l r) h = let b = and-eq-true-iff (holdsEmpty l) (holdsEmpty r) .0 h in join (empty-sound l (b .0)) (empty-sound r (b .1))
-empty-sound (or l r) h = ⊎-elim (λ t. left (empty-sound l t)) (λ t. right (empty-sound r t)) (or-true (holdsEmpty l) _ .0 h)
+empty-sound (or l r) h = ⊎-elim (λ t. left (empty-sound l t)) (λ t. right (empty-sound r t)) (or-cases (holdsEmpty l) _ .0 h)
 empty-sound (star e) h = none
 
 empty-complete : {e : Expression} {w : List Period} → Holds e w → w ≡ [] → holdsEmpty e ≡ true
@@ -253,8 +250,8 @@ unfolding holdsEmpty
 empty-complete (one h) k = cc
 empty-complete (join {u = []} {v = v} p q) k = and-eq-true-iff _ _ .1 (empty-complete p refl, empty-complete q k)
 empty-complete (join {u = x ∷ u} {v = v} p q) k = cc
-empty-complete (left p) k = or-true _ _ .1 (inl (empty-complete p k))
-empty-complete (right {l = l} p) k = or-true (holdsEmpty l) _ .1 (inr (empty-complete p k))
+empty-complete (left p) k = or-cases _ _ .1 (inl (empty-complete p k))
+empty-complete (right {l = l} p) k = or-cases (holdsEmpty l) _ .1 (inr (empty-complete p k))
 empty-complete none k = refl
 empty-complete (more p q) k = refl
 

@@ -11,7 +11,7 @@ use borrow.Author.Tests.{lt-ltb, le-ltb}
 use lib.Dec.{ltb}
 use lib.ListN.{length, take, drop, take-append-drop}
 use lib.Seq.{take-take, take-all, length-take-le}
-use Rattle.records.proofs.Numbers.{lt-or-le}
+use Rattle.records.proofs.Cases.{lt-or-le}
 use Rattle.periods.specs.Periods.{Period}
 use Rattle.contract.specs.Expressions.{Expression, Holds, member, begins}
 use Rattle.contract.specs.Readings.{Dead, AcceptedAt, RejectedAt, Reading, pending, accepted, rejected, judged, first, readingTo, reading}

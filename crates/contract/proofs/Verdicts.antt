@@ -7,7 +7,7 @@ use mathlib.Core.Path.{_≡_, refl, sym, ap, _∙_}
 use borrow.Author.Tests.{lt-ltb, le-ltb}
 use lib.ListN.{length}
 use lib.Seq.{take-append-seam}
-use Rattle.records.proofs.Numbers.{lt-or-le}
+use Rattle.records.proofs.Cases.{lt-or-le}
 use Rattle.periods.specs.Periods.{party1, party2, Period}
 use Rattle.contract.specs.Meaning.{Clause, Blame, only, bothParties, Decision, undecided, satisfied, violated, meaning, EmptyFree}
 use Rattle.contract.specs.Verdicts.{decisionPeriod, blame, verdict, DecidesOnce}

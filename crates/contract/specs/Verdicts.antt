@@ -5,7 +5,7 @@ use mathlib.Core.Logic.{_⊎_}
 use mathlib.Core.Path.{_≡_}
 use lib.ListN.{length, take}
 use Rattle.records.specs.Verdicts.{Verdict, «open», met, broken, met-after, broken-after, since}
-use Rattle.periods.specs.Periods.{number, Period}
+use Rattle.periods.specs.Periods.{partyNumber, Period}
 use Rattle.contract.specs.Meaning.{Clause, Blame, only, bothParties, Decision, undecided, satisfied, violated, meaning}
 
 -- the decision period, 0 while undecided
@@ -16,7 +16,7 @@ decisionPeriod (violated k b) = k
 
 -- "blame: 1, 2, or 3 for both parties"
 abbrev pub blameNumber : Blame → ℕ
-blameNumber (only p) = number p
+blameNumber (only p) = partyNumber p
 blameNumber bothParties = 3
 
 -- blame is 0 unless the clause is violated

@@ -7,7 +7,7 @@ use mathlib.Core.Path.{_≡_, refl, sym, _∙_}
 use native.Mathlib.Omega.{arith}
 use lib.Dec.{eqb}
 use lib.ListN.{length, take, drop, take-append-drop}
-use Rattle.periods.specs.Periods.{Party, party1, party2, number, other}
+use Rattle.periods.specs.Periods.{Party, party1, party2, partyNumber, other}
 use Rattle.layout.specs.Rows.{Row}
 use Rattle.contract.specs.Expressions as E
 use Rattle.contract.specs.Expressions.{Expression, atom, holdsEmpty}
@@ -114,7 +114,7 @@ two : {right left : List Row → List Row} → Followed right → Followed left 
 two {right} {left} r l after = rw (r (left after), l after, ← append-assoc (right []), map-append numbersOf (right [] ++ left []))
 
 -- the other party's number
-other-number : (p : Party) → number (other p) ≡ otherNumber (number p)
+other-number : (p : Party) → partyNumber (other p) ≡ otherNumber (partyNumber p)
 other-number party1 = refl
 other-number party2 = refl
 
@@ -172,7 +172,7 @@ after-node star f ts m b S = omega arith
 
 -- a literal's outputs by its party's number
 blaming-is : (p : Party) (s x y : ℕ)
-    → let second = eqb (number p) (number party2) in
+    → let second = eqb (partyNumber p) (partyNumber party2) in
     blaming p s x y ≡ record { sat = s; one = cond second y x; two = cond second x y }
 blaming-is party1 s x y = refl
 blaming-is party2 s x y = refl
@@ -198,8 +198,8 @@ block-node repeat f ts m b S K = rw (← after-node repeat f ts m b S)
 block-node when f ts m b S K = rw (← after-node when f ts m b S)
 block-node until f ts m b S K = rw (← after-node until f ts m b S)
 block-node any f ts m b S K = rw (← after-node any f ts m b S)
-block-node tries f ts m b S K = rw (cond-same (eqb (number (partyNamed (f .party))) (number party2)), ← after-node tries f ts m b S)
-block-node idle f ts m b S K = rw (cond-same (eqb (number (partyNamed (f .party))) (number party2)), ← after-node idle f ts m b S)
+block-node tries f ts m b S K = rw (cond-same (eqb (partyNumber (partyNamed (f .party))) (partyNumber party2)), ← after-node tries f ts m b S)
+block-node idle f ts m b S K = rw (cond-same (eqb (partyNumber (partyNamed (f .party))) (partyNumber party2)), ← after-node idle f ts m b S)
 block-node succeeds f ts m b S K = rw (← after-node succeeds f ts m b S)
 block-node fails f ts m b S K = rw (← after-node fails f ts m b S)
 block-node seq f ts m b S K = rw (is-empty (holdsEmpty (ts .0)), is-empty (holdsEmpty (ts .1 .0)), ← after-node seq f ts m b S)

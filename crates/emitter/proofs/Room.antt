@@ -7,7 +7,7 @@ use mathlib.Core.Logic.{_⊎_, inl, inr, ⊎-elim}
 use mathlib.Core.Path.{_≡_, refl, sym, _∙_}
 use lib.Dec.{eqb, lit<}
 use lib.ListN.{length, getD}
-use Rattle.periods.specs.Periods.{Party, party1, party2, number, other}
+use Rattle.periods.specs.Periods.{Party, party1, party2, partyNumber, other}
 use Rattle.layout.specs.Limits.{rowBytes, maxRows}
 use Rattle.reader.specs.Limits.{recordBytes}
 use Rattle.reader.specs.Table.{Sort, clause, expression, Kind, line}
@@ -57,7 +57,7 @@ small-if : (t : Bool) {x y : ℕ} → x < 256 ^ 2 → y < 256 ^ 2 → cond t x y
 small-if true h i = h
 small-if false h i = i
 
-small-number : (p : Party) → number p < 256 ^ 2
+small-number : (p : Party) → partyNumber p < 256 ^ 2
 small-number party1 = lit< tt
 small-number party2 = lit< tt
 

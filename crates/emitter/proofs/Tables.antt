@@ -1,13 +1,14 @@
 -- What holds of every plan: each rule is one computed test over the kinds.
 use Prim.Native.Nat.{ℕ, _+_, _/_, _%_, _≤_, _<_}
 use native.Mathlib.Omega.{arith}
-use mathlib.Core.Bool.{Bool, true, false, _&&_, _||_, and-eq-true-iff}
+use mathlib.Core.Bool.{Bool, true, _&&_, _||_, and-eq-true-iff}
 use mathlib.Core.List.{List}
 use mathlib.Core.Logic.{_⊎_, inl, inr, ⊎-elim}
 use mathlib.Core.Path.{_≡_, refl, sym}
 use lib.Dec.{eqb, ltb, leb}
 use lib.ListN.{length}
 use borrow.Author.Tests.{eqb-true, ltb-true, leb-true}
+use Rattle.records.proofs.Cases.{or-cases}
 use Rattle.reader.specs.Trees.{Record}
 use Rattle.reader.proofs.Table.{of-records}
 use Rattle.image.specs.Widths.{width, operandsFrom}
@@ -34,16 +35,12 @@ end p = p .from + p .before + p .after
 pub listed : (r : Record) → end (planOf r) ≤ length rowTable
 listed r = leb-true (end (planOf r)) (length rowTable) (of-records (λ r. leb (end (planOf r)) (length rowTable)) (λ f. refl) r)
 
-either : (s t : Bool) → s || t ≡ true → (s ≡ true) ⊎ (t ≡ true)
-either true t h = inl refl
-either false t h = inr h
-
 -- all of them in the first table, or all in the second
 pub in-one-table : (r : Record) → (end (planOf r) ≤ length leafRows) ⊎ (length leafRows ≤ planOf r .from)
 in-one-table r =
     let first = length leafRows in
     ⊎-elim (λ h. inl (leb-true (end (planOf r)) first h)) (λ h. inr (leb-true first (planOf r .from) h))
-    (either (leb (end (planOf r)) first) (leb first (planOf r .from))
+    (or-cases (leb (end (planOf r)) first) (leb first (planOf r .from)) .0
     (of-records (λ r. leb (end (planOf r)) first || leb first (planOf r .from)) (λ f. refl) r))
 
 pub length-kindRows : (bases : List ℕ) (r : Record)
@@ -73,7 +70,7 @@ wire-inside r x b s k h i t =
     let few : x < B + width r .before = ltb-true x (B + width r .before) (u .1) in
     let base : x / 16 ≡ 3 = omega arith in
     rw (base, ⊹-plus b (x % 16)) (omega arith))
-    (either (eqb x K) _ t)) (either (eqb x S) _ t)) (either (eqb x ZERO) _ t)
+    (or-cases (eqb x K) _ .0 t)) (or-cases (eqb x S) _ .0 t)) (or-cases (eqb x ZERO) _ .0 t)
 
 pub record WiresInside (w : Wires) (b : ℕ) : Type 0 where
   pub start-is : w .start < b

@@ -5,7 +5,7 @@ use mathlib.Core.List.{List, [], _∷_, _++_, map}
 use mathlib.Core.Path.{_≡_}
 use lib.Dec.{eqb}
 use lib.ListN.{length, take, getD}
-use Rattle.periods.specs.Periods.{party2, number, other}
+use Rattle.periods.specs.Periods.{party2, partyNumber, other}
 use Rattle.layout.specs.Rows.{Row}
 use Rattle.reader.specs.Limits.{recordBytes}
 use Rattle.reader.specs.Table.{Sort, clause, expression, Kind}
@@ -41,7 +41,7 @@ noBlock m n = record { before = m; next = n; sat = 0; one = 0; two = 0; code = 0
 
 -- the other party's number
 abbrev pub otherNumber : ℕ → ℕ
-otherNumber p = number (other (partyNamed p))
+otherNumber p = partyNumber (other (partyNamed p))
 
 -- What the bases stand for, in their order: never; the rows that start the block and keep it going; the record's first row, and the first after
 -- its operands'; what the left operand's block gives out, and the right one's; two rows that count where an operand holds the empty list;
@@ -65,8 +65,8 @@ recordBlock bases p kind party l r =
       before = l .before;
       next = l .next + p .after;
       sat = valueAt bases (p .sat);
-      one = cond (eqb party (number party2)) blames-other blames-own;
-      two = cond (eqb party (number party2)) blames-own blames-other;
+      one = cond (eqb party (partyNumber party2)) blames-other blames-own;
+      two = cond (eqb party (partyNumber party2)) blames-own blames-other;
       code = completed kind (l .code) (r .code);
     }
 

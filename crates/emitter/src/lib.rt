@@ -13,10 +13,10 @@ ghost use Rattle.emitter.specs.Plans.{named, planOf};
 ghost use Rattle.emitter.specs.Blocks.{lastRecord, recordFrom, otherNumber, basesOf, wiresOf, noBlock, recordBlock, recordWritten, Emitted};
 ghost use Rattle.emitter.specs.Premises.{Small, RoomFrom, RoomForRows, RecordRows, Emits};
 use layout::AND;
+use layout::ATTEMPT;
 use layout::NOT;
 use layout::OR;
 use layout::PREVIOUS;
-use layout::TRIES;
 
 // ---- the rows of each kind
 
@@ -69,8 +69,8 @@ const Y: u32 = 1;
 // The rows of the kinds without operands.
 const LEAF_ROWS: [u32; 35] = [
     // duty
-    KIND * TRIES as u32 + X * P as u32 + Y * A as u32,
-    KIND * TRIES as u32 + X * Q as u32 + Y * A as u32,
+    KIND * ATTEMPT as u32 + X * P as u32 + Y * A as u32,
+    KIND * ATTEMPT as u32 + X * Q as u32 + Y * A as u32,
     KIND * AND as u32 + X * S as u32 + Y * B as u32,
     KIND * AND as u32 + X * (B + 2) as u32 + Y * (B + 1) as u32,
     KIND * NOT as u32 + X * B as u32,
@@ -78,35 +78,35 @@ const LEAF_ROWS: [u32; 35] = [
     KIND * NOT as u32 + X * (B + 1) as u32,
     KIND * AND as u32 + X * (B + 2) as u32 + Y * (B + 6) as u32,
     // ban
-    KIND * TRIES as u32 + X * P as u32 + Y * A as u32,
-    KIND * TRIES as u32 + X * Q as u32 + Y * A as u32,
+    KIND * ATTEMPT as u32 + X * P as u32 + Y * A as u32,
+    KIND * ATTEMPT as u32 + X * Q as u32 + Y * A as u32,
     KIND * AND as u32 + X * S as u32 + Y * B as u32,
     KIND * AND as u32 + X * (B + 2) as u32 + Y * (B + 1) as u32,
     KIND * NOT as u32 + X * (B + 3) as u32,
     KIND * AND as u32 + X * S as u32 + Y * (B + 4) as u32,
     // power
-    KIND * TRIES as u32 + X * P as u32 + Y * A as u32,
-    KIND * TRIES as u32 + X * Q as u32 + Y * A as u32,
+    KIND * ATTEMPT as u32 + X * P as u32 + Y * A as u32,
+    KIND * ATTEMPT as u32 + X * Q as u32 + Y * A as u32,
     KIND * AND as u32 + X * S as u32 + Y * B as u32,
     KIND * NOT as u32 + X * (B + 1) as u32,
     KIND * AND as u32 + X * (B + 2) as u32 + Y * (B + 3) as u32,
     KIND * NOT as u32 + X * (B + 4) as u32,
     KIND * AND as u32 + X * S as u32 + Y * (B + 5) as u32,
     // tries
-    KIND * TRIES as u32 + X * P as u32 + Y * A as u32,
+    KIND * ATTEMPT as u32 + X * P as u32 + Y * A as u32,
     KIND * AND as u32 + X * S as u32 + Y * B as u32,
     // idle
-    KIND * TRIES as u32 + X * P as u32 + Y * A as u32,
+    KIND * ATTEMPT as u32 + X * P as u32 + Y * A as u32,
     KIND * NOT as u32 + X * B as u32,
     KIND * AND as u32 + X * S as u32 + Y * (B + 1) as u32,
     // succeeds
-    KIND * TRIES as u32 + X * (ZERO + 1) as u32 + Y * A as u32,
-    KIND * TRIES as u32 + X * (ZERO + 2) as u32 + Y * A as u32,
+    KIND * ATTEMPT as u32 + X * (ZERO + 1) as u32 + Y * A as u32,
+    KIND * ATTEMPT as u32 + X * (ZERO + 2) as u32 + Y * A as u32,
     KIND * AND as u32 + X * B as u32 + Y * (B + 1) as u32,
     KIND * AND as u32 + X * S as u32 + Y * (B + 2) as u32,
     // fails
-    KIND * TRIES as u32 + X * (ZERO + 1) as u32 + Y * A as u32,
-    KIND * TRIES as u32 + X * (ZERO + 2) as u32 + Y * A as u32,
+    KIND * ATTEMPT as u32 + X * (ZERO + 1) as u32 + Y * A as u32,
+    KIND * ATTEMPT as u32 + X * (ZERO + 2) as u32 + Y * A as u32,
     KIND * AND as u32 + X * B as u32 + Y * (B + 1) as u32,
     KIND * NOT as u32 + X * (B + 2) as u32,
     KIND * AND as u32 + X * S as u32 + Y * (B + 3) as u32,

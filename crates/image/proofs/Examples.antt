@@ -7,7 +7,7 @@ use Rattle.periods.specs.Forms.{formOf}
 use Rattle.periods.specs.Periods.{tries, bit, periodFrom}
 use Rattle.periods.specs.Traces.{wholePeriods, markedAs, periodAt, marksTest, periodTest}
 use Rattle.layout.specs.Rows.{rowOf, encode, decode}
-use Rattle.layout.specs.Images.{imageBytes, rowsBytes, endBytes, rowCount, rowsOf, imageOf, goodLength, goodRowAt, goodEnd}
+use Rattle.layout.specs.Images.{imageBytes, rowsBytes, endBytes, rowCount, rowsOf, imageOf, goodImageLength, goodRowAt, goodEnd}
 use Rattle.layout.specs.Refusals.{imageTest}
 use Rattle.states.specs.States.{stateOf, stateBytes, sound, allAtMost, allZero}
 use Rattle.states.specs.Refusals.{stateTest, countTest}
@@ -48,8 +48,8 @@ kind-vectors =
 
 pub watch-vector : WatchVector
 unfolding
-    replies repliesFrom read Reader.goodLength Reader.contractRecords readRecords readRecord numbered kindOf goodFields operandsOf node imageFor image
+    replies repliesFrom read Reader.goodContractLength Reader.contractRecords readRecords readRecord numbered kindOf goodFields operandsOf node imageFor image
     rowsFor clauseRows outputsOf afterClause imageBytes rowsBytes endBytes encode begin step call beginTest stepTest readyTest fieldsBytes
-    imageTest goodLength rowCount firstFailing goodRowAt goodEnd decode rowOf imageOf rowsOf stateTest stateOf stateBytes sound allAtMost allZero
+    imageTest goodImageLength rowCount firstFailing goodRowAt goodEnd decode rowOf imageOf rowsOf stateTest stateOf stateBytes sound allAtMost allZero
     periodTest marksTest formOf wholePeriods markedAs countTest afterPeriod valuesAfter newValues computed counted periodAt periodFrom tries bit marked bytes field value
 watch-vector = record { replied = refl }

@@ -8,15 +8,16 @@ use mathlib.Core.Path.{_≡_, refl, sym, _∙_}
 use Rattle.periods.specs.Periods.{Period}
 use Rattle.contract.specs.Expressions
 use Rattle.contract.specs.Expressions.{Atom, holds, Expression, atom, seq, or, star, Holds, one, left, right, member, begins, holdsEmpty}
-use Rattle.contract.proofs.Expressions.{Concat, or-true, member-iff, begins-iff, empty-iff, held-or}
+use Rattle.records.proofs.Cases.{or-cases}
+use Rattle.contract.proofs.Expressions.{Concat, member-iff, begins-iff, empty-iff, held-or}
 use Rattle.image.proofs.Signals.{Signal, at, _≐_, at-or, JoinsOn, whereEmpty, WiredExpression, wired-atom, wired-seq, wired-or, wired-star}
 use Rattle.image.proofs.Threads.{Active, started, kept, Exclusive, thread, thread-active}
 use Rattle.image.proofs.Languages.{Language, NonEmpty, Before, GoesOn, concat-before, concat-empty, begins-or, concat-begin, atom-single, seq-iff, seq-goes, star-iff, star-goes}
 
 or-iff : (a b : Bool) {A B : Type 0} → ((a ≡ true) ↔ A) → ((b ≡ true) ↔ B) → (a || b ≡ true) ↔ (A ⊎ B)
 or-iff a b f g = (
-  λ h. ⊎-elim (λ t. inl (f .0 t)) (λ t. inr (g .0 t)) (or-true a b .0 h),
-  ⊎-elim (λ t. or-true a b .1 (inl (f .1 t))) (λ t. or-true a b .1 (inr (g .1 t))),
+  λ h. ⊎-elim (λ t. inl (f .0 t)) (λ t. inr (g .0 t)) (or-cases a b .0 h),
+  ⊎-elim (λ t. or-cases a b .1 (inl (f .1 t))) (λ t. or-cases a b .1 (inr (g .1 t))),
 )
 
 and-iff : (a b : Bool) {A B : Type 0} → ((a ≡ true) ↔ A) → ((b ≡ true) ↔ B) → (a && b ≡ true) ↔ (A × B)

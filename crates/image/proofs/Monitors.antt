@@ -6,14 +6,14 @@ use mathlib.Core.Bool.{true, false}
 use mathlib.Core.List.{List, [], _∷_, _++_}
 use mathlib.Core.Logic.{_⊎_, inl, inr, ⊎-elim}
 use mathlib.Core.Path.{_≡_, refl, sym, ap, _∙_}
-use borrow.Author.Tests.{eq-eqb, le-leb, lt-leb, lt-ltb, le-ltb, ltb-true}
+use borrow.Author.Tests.{le-leb, lt-leb, lt-ltb, le-ltb, ltb-true}
 use lib.Dec.{ltb}
 use lib.ListN.{length, replicate, length-append}
 use Rattle.records.specs.declared.Fault.the-variants.{FullCount}
 use Rattle.records.specs.declared.Test.the-variants.{Passed}
 use Rattle.records.specs.Refusals.{require}
-use Rattle.records.proofs.Numbers.{lt-or-le}
-use Rattle.records.proofs.Refusals.{true-or-false, first-passed, require-passed, passed-not}
+use Rattle.records.proofs.Cases.{lt-or-le, true-or-false}
+use Rattle.records.proofs.Refusals.{first-passed, require-passed, passed-not}
 use Rattle.records.specs.Replies.{unwritten, written}
 use Rattle.records.proofs.Replies.{call-no-room, call-refused}
 use Rattle.periods.specs.Periods.{Period}
@@ -26,10 +26,11 @@ use Rattle.states.proofs.Fresh.{fresh-read}
 use Rattle.states.specs.Verdicts as Shown
 use Rattle.machine.specs.Machine.{afterPeriod, afterPeriods}
 use Rattle.machine.proofs.Machine.{after-snoc, periods-afterPeriods}
-use Rattle.runner.specs.Refusals.{beginTest, readyTest, stepTest}
+use Rattle.runner.specs.Refusals.{readyTest, stepTest}
 use Rattle.runner.specs.Calls.{beginReplyBytes, stepReplyBytes, stepAnswer, answer, begin, step}
 use Rattle.runner.specs.StepCalls as StepCalls
 use Rattle.runner.specs.StepCalls.{StepCall, stateAfterCall, stateAfter}
+use Rattle.runner.proofs.Refusals.{begin-passes}
 use Rattle.runner.proofs.StepCalls.{accepted-passed, accepted-step, refused-step, taken-read, stays-sound, begin-written, begin-sound}
 use Rattle.contract.specs.Meaning.{Clause, Decision, undecided, satisfied, violated, meaning}
 use Rattle.contract.specs.Verdicts.{verdict}
@@ -148,16 +149,12 @@ module _ (c : Clause) (image : List ℕ) (right : RightFor c image) where
       (counted w state h k, answers-call w state h k, answers-calls ks (periodsAfter w k) (stateAfterCall image state k) (next-at w state h k))
 
   -- begin leaves the machine's first state
-  begins : (state : List ℕ) → length state ≡ headBytes + rowCount image → beginTest image state ≡ Passed
-  unfolding beginTest
-  begins state l = rw (right .good, eq-eqb (length state) (headBytes + rowCount image) l)
-
   begun-at : (state reply : List ℕ) → length state ≡ headBytes + rowCount image → beginReplyBytes ≤ length reply
       → At [] (begin image state reply .buffers)
   unfolding afterPeriods
   begun-at state reply l r =
-      let b = begin-written image state reply r (begins state l) in
-      record { ready = begin-sound image state reply r (begins state l); is = rw (b, l); few = omega arith }
+      let b = begin-written image state reply r (begin-passes image state (right .good) l) in
+      record { ready = begin-sound image state reply r (begin-passes image state (right .good) l); is = rw (b, l); few = omega arith }
 
   pub right-monitors : (contract : List ℕ) → read contract ≡ taken c → Monitors contract image
   right-monitors contract e =
@@ -165,7 +162,7 @@ module _ (c : Clause) (image : List ℕ) (right : RightFor c image) where
         clause = c;
         means = e;
         answers = λ state reply l r.
-            (begin-written image state reply r (begins state l), λ ks. answers-calls ks [] (begin image state reply .buffers) (begun-at state reply l r));
+            (begin-written image state reply r (begin-passes image state (right .good) l), λ ks. answers-calls ks [] (begin image state reply .buffers) (begun-at state reply l r));
       }
 
 -- ---- the theorem

@@ -11,7 +11,7 @@ use borrow.Author.Tests.{lt-ltb, le-ltb, eqb-true, eqb-false, eq-eqb, ne-eqb}
 use lib.Dec.{eqb, ltb}
 use lib.ListN.{length, take}
 use lib.Seq.{take-append-seam}
-use Rattle.records.proofs.Numbers.{lt-or-le}
+use Rattle.records.proofs.Cases.{lt-or-le}
 use Rattle.periods.specs.Periods.{Party, party1, party2, Period}
 use Rattle.contract.specs.Expressions.{Expression, Holds}
 use Rattle.contract.specs.Readings.{Reading, pending, accepted, rejected, reading}

@@ -9,7 +9,7 @@ use mathlib.Core.Path.{_≡_, refl, sym, ap, _∙_}
 use borrow.Author.Tests.{lt-ltb, le-ltb, eq-eqb, ne-eqb}
 use lib.ListN.{length, take, drop, take-append-drop}
 use lib.Seq.{take-all, take-length}
-use Rattle.records.proofs.Numbers.{lt-or-le}
+use Rattle.records.proofs.Cases.{lt-or-le}
 use Rattle.periods.specs.Periods.{Period}
 use Rattle.contract.specs.Expressions.{Expression, Holds, member, begins}
 use Rattle.contract.specs.Readings.{AcceptedAt, RejectedAt, Reading, pending, accepted, rejected, judged, first, readingTo, reading}

@@ -9,7 +9,7 @@ use mathlib.Core.Path.{_≡_, refl}
 use borrow.Author.Tests.{le-ltb, lt-leb, le-leb}
 use lib.Dec.{leb}
 use lib.ListN.{length}
-use Rattle.records.proofs.Numbers.{lt-or-le}
+use Rattle.records.proofs.Cases.{lt-or-le}
 use Rattle.periods.specs.Periods.{party1, party2, Period}
 use Rattle.contract.specs.Expressions.{Expression, member}
 use Rattle.contract.specs.Readings.{Reading, pending, accepted, rejected, reading}

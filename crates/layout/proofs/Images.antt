@@ -17,35 +17,36 @@ use Rattle.records.specs.declared.Fault.{Fault}
 use Rattle.records.specs.declared.Fault.the-variants.{BadImage}
 use Rattle.records.specs.declared.Test.the-variants.{Passed}
 use Rattle.records.specs.Refusals.{require, firstOf, firstFailing}
-use Rattle.records.proofs.Numbers.{lt-or-le}
-use Rattle.records.proofs.Refusals.{all-pass, all-passed, first-passed, require-passed, onlyFor, only-require, only-first}
+use Rattle.records.proofs.Cases.{lt-or-le}
+use Rattle.records.proofs.Searches.{all-pass, all-passed}
+use Rattle.records.proofs.Refusals.{first-passed, require-passed, onlyFor, only-require, only-first}
 use Rattle.layout.specs.Limits.{rowBytes, maxRows}
 use Rattle.layout.specs.Rows.{Row, never, rowOf, decode, namesRows, goodRow}
-use Rattle.layout.specs.Images.{rowCount, rowsOf, imageOf, goodLength, goodRowAt, goodEnd}
+use Rattle.layout.specs.Images.{rowCount, rowsOf, imageOf, goodImageLength, goodRowAt, goodEnd}
 use Rattle.layout.specs.Refusals.{imageTest}
 use Rattle.layout.proofs.Rows.{cond-some, names-any}
 
 -- ---- the length
 
 module _ (l : List ℕ) where
-  pub uneven : (length l % rowBytes ≡ 0 → ⊥) → goodLength l ≡ false
-  unfolding goodLength
+  pub uneven : (length l % rowBytes ≡ 0 → ⊥) → goodImageLength l ≡ false
+  unfolding goodImageLength
   uneven h = rw (ne-eqb (length l % rowBytes) 0 h)
 
-  pub too-short : length l < rowBytes * 2 → goodLength l ≡ false
-  unfolding goodLength
+  pub too-short : length l < rowBytes * 2 → goodImageLength l ≡ false
+  unfolding goodImageLength
   too-short h = rw (lt-leb (rowBytes * 2) (length l) h, and-false)
 
-  pub too-long : rowBytes * (maxRows + 1) < length l → goodLength l ≡ false
-  unfolding goodLength
+  pub too-long : rowBytes * (maxRows + 1) < length l → goodImageLength l ≡ false
+  unfolding goodImageLength
   too-long h = rw (lt-leb (length l) (rowBytes * (maxRows + 1)) h, and-false)
 
-  pub right-length : length l % rowBytes ≡ 0 → rowBytes * 2 ≤ length l → length l ≤ rowBytes * (maxRows + 1) → goodLength l ≡ true
-  unfolding goodLength
+  pub right-length : length l % rowBytes ≡ 0 → rowBytes * 2 ≤ length l → length l ≤ rowBytes * (maxRows + 1) → goodImageLength l ≡ true
+  unfolding goodImageLength
   right-length e h i = rw (eq-eqb (length l % rowBytes) 0 e, le-leb (rowBytes * 2) (length l) h, le-leb (length l) (rowBytes * (maxRows + 1)) i)
 
-  length-facts : goodLength l ≡ true → (length l % rowBytes ≡ 0) × (rowBytes * 2 ≤ length l) × (length l ≤ rowBytes * (maxRows + 1))
-  unfolding goodLength
+  length-facts : goodImageLength l ≡ true → (length l % rowBytes ≡ 0) × (rowBytes * 2 ≤ length l) × (length l ≤ rowBytes * (maxRows + 1))
+  unfolding goodImageLength
   length-facts e =
       let w = simp and-eq-true-iff at e in
       (eqb-true (length l % rowBytes) 0 (w .0 .0), leb-true (rowBytes * 2) (length l) (w .0 .1), leb-true (length l) (rowBytes * (maxRows + 1)) (w .1))
@@ -65,10 +66,10 @@ module _ (l : List ℕ) (n : ℕ) (e : length l ≡ rowBytes * (n + 1)) where
   unfolding rowCount
   rowCount-of = omega arith
 
-  counted-length : 1 ≤ n → n ≤ maxRows → goodLength l ≡ true
+  counted-length : 1 ≤ n → n ≤ maxRows → goodImageLength l ≡ true
   counted-length h i = right-length l (omega arith) (omega arith) (omega arith)
 
-rowCount-facts : (l : List ℕ) → goodLength l ≡ true → (length l ≡ rowBytes * (rowCount l + 1)) × (1 ≤ rowCount l) × (rowCount l ≤ maxRows)
+rowCount-facts : (l : List ℕ) → goodImageLength l ≡ true → (length l ≡ rowBytes * (rowCount l + 1)) × (1 ≤ rowCount l) × (rowCount l ≤ maxRows)
 unfolding rowCount
 rowCount-facts l e =
     let f = length-facts l e in
@@ -79,9 +80,9 @@ unfolding imageTest
 passed-good l e =
     let n = rowCount l in
     let bad = firstFailing (goodRowAt l n) 0 n in
-    let u = first-passed (require (goodLength l) BadImage 0) _ e in
+    let u = first-passed (require (goodImageLength l) BadImage 0) _ e in
     let v = first-passed (require (eqb bad n) BadImage bad) _ (u .1) in
-    let f = rowCount-facts l (require-passed (goodLength l) BadImage 0 (u .0)) in
+    let f = rowCount-facts l (require-passed (goodImageLength l) BadImage 0 (u .0)) in
     let b = eqb-true bad n (require-passed (eqb bad n) BadImage bad (v .0)) in
     record {
       count = f .0;
@@ -203,5 +204,5 @@ image-only l =
     let bad = firstFailing (goodRowAt l n) 0 n in
     let rows = require (eqb bad n) BadImage bad in
     let end = require (goodEnd l n) BadImage n in
-    only-first imageFaults (require (goodLength l) BadImage 0) (firstOf rows end) (only-require imageFaults BadImage refl (goodLength l) 0)
+    only-first imageFaults (require (goodImageLength l) BadImage 0) (firstOf rows end) (only-require imageFaults BadImage refl (goodImageLength l) 0)
     (only-first imageFaults rows end (only-require imageFaults BadImage refl (eqb bad n) bad) (only-require imageFaults BadImage refl (goodEnd l n) n))

@@ -15,7 +15,7 @@ use borrow.Author.Tests.{ne-eqb, lt-ltb, le-leb, lt-leb, eqb-true, ltb-true}
 use Rattle.records.specs.Fields.{bytes, field}
 use Rattle.records.specs.Holding.{AllBytes}
 use Rattle.records.specs.Marks.{rowMark, marked}
-use Rattle.records.proofs.Numbers.{lt-or-le}
+use Rattle.records.proofs.Cases.{lt-or-le}
 use Rattle.records.proofs.Fields.{allBytes-cons, allBytes-append, allBytes-bytes, value-bytes-lt, bytes-field}
 use Rattle.records.proofs.Marks.{of-marked}
 use Rattle.periods.specs.Limits.{actions}
@@ -23,9 +23,9 @@ use Rattle.periods.specs.Periods.{party1, party2, partyOf}
 use Rattle.layout.specs.Limits.{rowBytes}
 use Rattle.layout.specs.Rows.{Row, never, initial, attempt, negation, conjunction, disjunction, previous, rowOf, namesRows, goodRow, attemptOf, kind, fieldX, fieldY, Fits, encode, decode}
 
--- ---- kinds above 6
+-- ---- kinds above the last
 
-other-kind : (j x y : ℕ) → 6 < j → rowOf j x y ≡ none
+other-kind : (j x y : ℕ) → kind (previous x) < j → rowOf j x y ≡ none
 unfolding rowOf
 other-kind j x y h =
     rw (ne-eqb j 0 (λ e. omega arith), ne-eqb j 1 (λ e. omega arith), ne-eqb j 2 (λ e. omega arith), ne-eqb j 3 (λ e. omega arith), ne-eqb j 4 (λ e. omega arith), ne-eqb j 5 (λ e. omega arith), ne-eqb j 6 (λ e. omega arith))
@@ -50,31 +50,31 @@ module _ (k n : ℕ) where
       rw (ne-eqb x′ 1 (λ e. omega arith), ne-eqb x′ 2 (λ e. omega arith), le-leb 1 x′ (omega arith), lt-leb x′ 2 (omega arith))
 
   module _ (x y : ℕ) where
-    pub good-first : (j : ℕ) → j < 2 → goodRow k n (rowOf j x y) ≡ (eqb x 0 && eqb y 0)
+    pub good-first : (j : ℕ) → j < kind (attempt party1 y) → goodRow k n (rowOf j x y) ≡ (eqb x 0 && eqb y 0)
     unfolding rowOf
     good-first j h =
         ⊎-elim
         (λ e. rw e (good-cond (eqb x 0 && eqb y 0) never ∙ and-true (eqb x 0 && eqb y 0)))
         (λ e. rw e (good-cond (eqb x 0 && eqb y 0) initial ∙ and-true (eqb x 0 && eqb y 0)))
-        (one-of-two 0 j (omega arith) h)
+        (one-of-two (kind never) j (omega arith) h)
 
-    pub good-attempt : goodRow k n (rowOf 2 x y) ≡ (leb 1 x && leb x 2 && ltb y actions)
+    pub good-attempt : goodRow k n (rowOf (kind (attempt party1 y)) x y) ≡ (leb 1 x && leb x 2 && ltb y actions)
     unfolding rowOf
     good-attempt = good-attemptOf x y
 
-    pub good-negation : goodRow k n (rowOf 3 x y) ≡ (eqb y 0 && ltb x k)
+    pub good-negation : goodRow k n (rowOf (kind (negation x)) x y) ≡ (eqb y 0 && ltb x k)
     unfolding rowOf
     good-negation = good-cond (eqb y 0) (negation x)
 
-    pub good-two : (j : ℕ) → 4 ≤ j → j < 6 → goodRow k n (rowOf j x y) ≡ (ltb x k && ltb y k)
+    pub good-two : (j : ℕ) → kind (conjunction x y) ≤ j → j < kind (previous x) → goodRow k n (rowOf j x y) ≡ (ltb x k && ltb y k)
     unfolding rowOf
-    good-two j h i = ⊎-elim (λ e. rw e) (λ e. rw e) (one-of-two 4 j h i)
+    good-two j h i = ⊎-elim (λ e. rw e) (λ e. rw e) (one-of-two (kind (conjunction x y)) j h i)
 
-    pub good-previous : goodRow k n (rowOf 6 x y) ≡ (eqb y 0 && ltb x n)
+    pub good-previous : goodRow k n (rowOf (kind (previous x)) x y) ≡ (eqb y 0 && ltb x n)
     unfolding rowOf
     good-previous = good-cond (eqb y 0) (previous x)
 
-    pub good-other : (j : ℕ) → 6 < j → goodRow k n (rowOf j x y) ≡ false
+    pub good-other : (j : ℕ) → kind (previous x) < j → goodRow k n (rowOf j x y) ≡ false
     good-other j h = rw (other-kind j x y h)
 
 -- ---- the rows that a row names

@@ -53,8 +53,8 @@ imageOf l =
 -- ---- what makes the bytes an image
 
 -- a multiple of 8 bytes, room for a row and the end record, and for no more than maxRows
-unfoldable pub goodLength : List ℕ → Bool
-goodLength l = eqb (length l % rowBytes) 0 && leb (rowBytes * 2) (length l) && leb (length l) (rowBytes * (maxRows + 1))
+unfoldable pub goodImageLength : List ℕ → Bool
+goodImageLength l = eqb (length l % rowBytes) 0 && leb (rowBytes * 2) (length l) && leb (length l) (rowBytes * (maxRows + 1))
 
 -- row k is a good row of an image of n rows
 unfoldable pub goodRowAt : List ℕ → ℕ → ℕ → Bool

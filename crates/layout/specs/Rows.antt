@@ -8,7 +8,7 @@ use lib.ListN.{getD}
 use Rattle.records.specs.Fields.{bytes, field}
 use Rattle.records.specs.Marks.{rowMark, marked}
 use Rattle.periods.specs.Limits.{actions}
-use Rattle.periods.specs.Periods.{Party, number, partyOf}
+use Rattle.periods.specs.Periods.{Party, partyNumber, partyOf}
 
 -- kinds 0 to 6: false; true in period 1 only; a party tries an action; not x; x and y; x or y; the value that row x had in the
 -- period before
@@ -35,7 +35,7 @@ kind (previous x) = 6
 abbrev pub fieldX : Row → ℕ
 fieldX never = 0
 fieldX initial = 0
-fieldX (attempt p a) = number p
+fieldX (attempt p a) = partyNumber p
 fieldX (negation x) = x
 fieldX (conjunction x y) = x
 fieldX (disjunction x y) = x
@@ -56,7 +56,7 @@ rowRecord k x y = rowMark ++ (k ∷ 0 ∷ (bytes 2 x ++ bytes 2 y))
 unfoldable pub encode : Row → List ℕ
 encode r = rowRecord (kind r) (fieldX r) (fieldY r)
 
--- the fields fit a row's bytes: an action is below 16, a row's number fits two bytes
+-- the fields fit a row's bytes: an action is one of those that there are, a row's number fits two bytes
 abbrev pub Fits : Row → Type 0
 Fits never = Unit {0}
 Fits initial = Unit {0}

@@ -20,9 +20,9 @@ pub const ROW_BYTES: usize = 8;
 // The kinds of rows.
 pub const NEVER: u8 = 0;
 
-pub const FIRST: u8 = 1;
+pub const INITIAL: u8 = 1;
 
-pub const TRIES: u8 = 2;
+pub const ATTEMPT: u8 = 2;
 
 pub const NOT: u8 = 3;
 

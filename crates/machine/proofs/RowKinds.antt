@@ -11,10 +11,10 @@ use lib.Bits.{bitAnd, bitOr}
 use lib.Dec.{eqb, ltb}
 use lib.ListN.{length, getD, List·getD-map}
 use mir.Val.{boolByte}
-use Rattle.records.proofs.Numbers.{lt-or-le}
+use Rattle.records.proofs.Cases.{lt-or-le}
 use Rattle.periods.specs.Limits.{actions}
-use Rattle.periods.specs.Periods.{Period, Party, party1, party2, number, tries}
-use Rattle.layout.specs.Rows.{Row, never, initial, attempt, negation, conjunction, disjunction, previous, attemptOf, rowOf, namesRows, goodRow}
+use Rattle.periods.specs.Periods.{Period, Party, party1, party2, partyNumber, tries}
+use Rattle.layout.specs.Rows.{Row, never, initial, attempt, negation, conjunction, disjunction, previous, attemptOf, rowOf, namesRows, goodRow, kind}
 use Rattle.layout.proofs.Rows.{good-other}
 use Rattle.states.specs.States.{allAtMost}
 use Rattle.states.proofs.Values.{allAtMost-at}
@@ -22,7 +22,7 @@ use Rattle.machine.specs.Machine.{byteOf, isTrue, value}
 use Rattle.machine.specs.Computing.{firstBits, valuesIn, oldIn, KindRow}
 use Rattle.machine.proofs.Computing.{byteOf-bool, byteOf-not, byte-of, first-bit, first-byte, first-and, first-or}
 
--- r is what bytes hold, and names rows below k, or below n in kind 6
+-- r is what bytes hold, and names rows below k, or below n where the row is a previous one
 pub record Is (k n : ℕ) (o : Option Row) (r : Row) : Type 0 where
   pub row : Option·getD o never ≡ r
   pub names : namesRows k n r ≡ true
@@ -35,10 +35,10 @@ only false k n r g = absurd (false≢true g)
 pub record Attempt (o : Option Row) (x y : ℕ) : Type 0 where
   pub party : Party
   pub row : Option·getD o never ≡ attempt party y
-  pub is-party : x ≡ number party
+  pub is-party : x ≡ partyNumber party
   pub is-action : y < actions
 
-attempted : (k n : ℕ) (x y : ℕ) (p : Party) (t : Bool) → ltb y actions ≡ t → x ≡ number p
+attempted : (k n : ℕ) (x y : ℕ) (p : Party) (t : Bool) → ltb y actions ≡ t → x ≡ partyNumber p
     → goodRow k n (cond t (some (attempt p y)) none) ≡ true → Attempt (cond t (some (attempt p y)) none) x y
 attempted k n x y p true e q g = record { party = p; row = refl; is-party = q; is-action = ltb-true y actions e }
 attempted k n x y p false e q g = absurd (false≢true g)
@@ -51,38 +51,38 @@ attempt-row k n x y false true e f g = attempted k n x y party2 (ltb y actions) 
 attempt-row k n x y false false e f g = absurd (false≢true g)
 
 module _ (k n x y : ℕ) where
-  pub row-0 : goodRow k n (rowOf 0 x y) ≡ true → Is k n (rowOf 0 x y) never
+  pub row-never : goodRow k n (rowOf (kind never) x y) ≡ true → Is k n (rowOf (kind never) x y) never
   unfolding rowOf
-  row-0 g = only (eqb x 0 && eqb y 0) k n never g
+  row-never g = only (eqb x 0 && eqb y 0) k n never g
 
-  pub row-1 : goodRow k n (rowOf 1 x y) ≡ true → Is k n (rowOf 1 x y) initial
+  pub row-initial : goodRow k n (rowOf (kind initial) x y) ≡ true → Is k n (rowOf (kind initial) x y) initial
   unfolding rowOf
-  row-1 g = only (eqb x 0 && eqb y 0) k n initial g
+  row-initial g = only (eqb x 0 && eqb y 0) k n initial g
 
-  pub row-2 : goodRow k n (rowOf 2 x y) ≡ true → Attempt (rowOf 2 x y) x y
+  pub row-attempt : goodRow k n (rowOf (kind (attempt party1 y)) x y) ≡ true → Attempt (rowOf (kind (attempt party1 y)) x y) x y
   unfolding rowOf
-  row-2 g = attempt-row k n x y (eqb x 1) (eqb x 2) refl refl g
+  row-attempt g = attempt-row k n x y (eqb x 1) (eqb x 2) refl refl g
 
-  pub row-3 : goodRow k n (rowOf 3 x y) ≡ true → Is k n (rowOf 3 x y) (negation x)
+  pub row-negation : goodRow k n (rowOf (kind (negation x)) x y) ≡ true → Is k n (rowOf (kind (negation x)) x y) (negation x)
   unfolding rowOf
-  row-3 g = only (eqb y 0) k n (negation x) g
+  row-negation g = only (eqb y 0) k n (negation x) g
 
-  pub row-4 : goodRow k n (rowOf 4 x y) ≡ true → Is k n (rowOf 4 x y) (conjunction x y)
+  pub row-conjunction : goodRow k n (rowOf (kind (conjunction x y)) x y) ≡ true → Is k n (rowOf (kind (conjunction x y)) x y) (conjunction x y)
   unfolding rowOf
-  row-4 g = only true k n (conjunction x y) g
+  row-conjunction g = only true k n (conjunction x y) g
 
-  pub row-5 : goodRow k n (rowOf 5 x y) ≡ true → Is k n (rowOf 5 x y) (disjunction x y)
+  pub row-disjunction : goodRow k n (rowOf (kind (disjunction x y)) x y) ≡ true → Is k n (rowOf (kind (disjunction x y)) x y) (disjunction x y)
   unfolding rowOf
-  row-5 g = only true k n (disjunction x y) g
+  row-disjunction g = only true k n (disjunction x y) g
 
-  pub row-6 : goodRow k n (rowOf 6 x y) ≡ true → Is k n (rowOf 6 x y) (previous x)
+  pub row-previous : goodRow k n (rowOf (kind (previous x)) x y) ≡ true → Is k n (rowOf (kind (previous x)) x y) (previous x)
   unfolding rowOf
-  row-6 g = only (eqb y 0) k n (previous x) g
+  row-previous g = only (eqb y 0) k n (previous x) g
 
--- no kind above 6 makes a row
-pub kind-6 : (k n kind x y : ℕ) → 5 < kind → goodRow k n (rowOf kind x y) ≡ true → kind ≡ 6
-kind-6 k n kind x y h g =
-    ⊎-elim (λ l. absurd (false≢true (sym (good-other k n x y kind l) ∙ g))) (λ l. omega arith) (lt-or-le 6 kind)
+-- no kind above the last makes a row
+pub last-kind : (k n j x y : ℕ) → kind (disjunction x y) < j → goodRow k n (rowOf j x y) ≡ true → j ≡ kind (previous x)
+last-kind k n j x y h g =
+    ⊎-elim (λ l. absurd (false≢true (sym (good-other k n x y j l) ∙ g))) (λ l. omega arith) (lt-or-le (kind (previous x)) j)
 
 -- ---- what row values hold where the first k rows have new ones
 
@@ -125,35 +125,35 @@ fresh-value false o h = refl
 
 module _ (k : ℕ) (values : List ℕ) (x y : ℕ) (first : Bool) (p : Period) where
   abbrev the : ℕ → ℕ
-  the kind = byteOf (value first p (oldIn k values) (valuesIn values) (Option·getD (rowOf kind x y) never))
+  the j = byteOf (value first p (oldIn k values) (valuesIn values) (Option·getD (rowOf j x y) never))
 
-  pub value-0 : KindRow k values 0 x y first → 0 ≡ the 0
-  value-0 h = rw (row-0 (length values) (length values) x y (h .good) .row)
+  pub value-never : KindRow k values (kind never) x y first → 0 ≡ the (kind never)
+  value-never h = rw (row-never (length values) (length values) x y (h .good) .row)
 
-  pub value-1 : KindRow k values 1 x y first → boolByte first ≡ the 1
-  value-1 h = rw (row-1 (length values) (length values) x y (h .good) .row, byteOf-bool first)
+  pub value-initial : KindRow k values (kind initial) x y first → boolByte first ≡ the (kind initial)
+  value-initial h = rw (row-initial (length values) (length values) x y (h .good) .row, byteOf-bool first)
 
-  pub value-2 : KindRow k values 2 x y first → (r : Bool) → ((q : Party) → x ≡ number q → r ≡ tries p q y) → boolByte r ≡ the 2
-  value-2 h r e =
-      let g = row-2 (length values) (length values) x y (h .good) in
+  pub value-attempt : KindRow k values (kind (attempt party1 y)) x y first → (r : Bool) → ((q : Party) → x ≡ partyNumber q → r ≡ tries p q y) → boolByte r ≡ the (kind (attempt party1 y))
+  value-attempt h r e =
+      let g = row-attempt (length values) (length values) x y (h .good) in
       rw (g .row, e (g .party) (g .is-party), byteOf-bool (tries p (g .party) y))
 
-  pub value-3 : KindRow k values 3 x y first → 1 - bitAnd (getD values x 0) 1 ≡ the 3
-  value-3 h =
+  pub value-negation : KindRow k values (kind (negation x)) x y first → 1 - bitAnd (getD values x 0) 1 ≡ the (kind (negation x))
+  value-negation h =
       let b = getD (valuesIn values) x false in
-      rw (row-3 (length values) (length values) x y (h .good) .row, new-first values x) (omega (arith, byteOf-not b))
+      rw (row-negation (length values) (length values) x y (h .good) .row, new-first values x) (omega (arith, byteOf-not b))
 
-  pub value-4 : KindRow k values 4 x y first → bitAnd (bitAnd (getD values x 0) 1) (bitAnd (getD values y 0) 1) ≡ the 4
-  value-4 h =
-      rw (row-4 (length values) (length values) x y (h .good) .row, new-first values x, new-first values y)
+  pub value-conjunction : KindRow k values (kind (conjunction x y)) x y first → bitAnd (bitAnd (getD values x 0) 1) (bitAnd (getD values y 0) 1) ≡ the (kind (conjunction x y))
+  value-conjunction h =
+      rw (row-conjunction (length values) (length values) x y (h .good) .row, new-first values x, new-first values y)
       (first-and (getD (valuesIn values) x false) (getD (valuesIn values) y false))
 
-  pub value-5 : KindRow k values 5 x y first → bitOr (bitAnd (getD values x 0) 1) (bitAnd (getD values y 0) 1) ≡ the 5
-  value-5 h =
-      rw (row-5 (length values) (length values) x y (h .good) .row, new-first values x, new-first values y)
+  pub value-disjunction : KindRow k values (kind (disjunction x y)) x y first → bitOr (bitAnd (getD values x 0) 1) (bitAnd (getD values y 0) 1) ≡ the (kind (disjunction x y))
+  value-disjunction h =
+      rw (row-disjunction (length values) (length values) x y (h .good) .row, new-first values x, new-first values y)
       (first-or (getD (valuesIn values) x false) (getD (valuesIn values) y false))
 
-  pub value-6 : KindRow k values 6 x y first → (r : ℕ) → r ≡ byteOf (getD (oldIn k values) x false) → r ≡ the 6
-  value-6 h r e =
-      e ∙ rw (row-6 (length values) (length values) x y (h .good) .row)
+  pub value-previous : KindRow k values (kind (previous x)) x y first → (r : ℕ) → r ≡ byteOf (getD (oldIn k values) x false) → r ≡ the (kind (previous x))
+  value-previous h r e =
+      e ∙ rw (row-previous (length values) (length values) x y (h .good) .row)
       (fresh-value first (getD (oldIn k values) x false) (λ q. h .bytes-of-two .fresh q x))

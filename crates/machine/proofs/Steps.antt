@@ -10,7 +10,7 @@ use lib.ListN.{length, getD, take, drop, length-drop, length-map, List·getD-map
 use lib.Seq.{sets, getD-drop}
 use Rattle.records.specs.Fields.{bytes, field}
 use Rattle.records.specs.Holding.{AllBytes}
-use Rattle.records.proofs.Written.{drop-after, getD-before}
+use Rattle.records.proofs.Written.{drop-after, getD-before, part-rest}
 use Rattle.records.proofs.Fields.{length-bytes}
 use Rattle.periods.specs.Periods.{Period}
 use Rattle.layout.specs.Images.{Image, rowCount, imageOf}
@@ -20,7 +20,7 @@ use Rattle.states.specs.States.{State, stateOf, stateBytes, allAtMost}
 use Rattle.states.specs.Premises.{Answering}
 use Rattle.states.proofs.Refusals.{state-passed}
 use Rattle.states.proofs.Soundness.{Sound, decision≤}
-use Rattle.states.proofs.States.{stateBytes-stateOf, read-back, sound-passes, part-rest, length-stateBytes}
+use Rattle.states.proofs.States.{stateBytes-stateOf, read-back, sound-passes, length-stateBytes}
 use Rattle.machine.specs.Machine.{byteOf, isTrue, valuesAfter, outcomeOf, blameOf, computed, counted, afterPeriod, afterPeriods}
 use Rattle.machine.specs.Computing.{firstBits, valuesIn, trimmed, packed, newBits, RowValues, withDecision, decidedBytes, Working, Advanced}
 use Rattle.machine.specs.Premises.{Ready}

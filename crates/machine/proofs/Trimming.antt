@@ -12,14 +12,13 @@ use lib.ListN.{length, getD, set, take, drop, length-append, length-drop, length
 use lib.Seq.{take-append-le, take-take, getD-take, drop-at, length-take-le}
 use Rattle.records.specs.Fields.{value, bytes, field}
 use Rattle.records.specs.declared.Test.the-variants.{Passed}
-use Rattle.records.proofs.Written.{drop-take}
+use Rattle.records.proofs.Written.{part-is, part-rest}
 use Rattle.states.specs.Limits.{headBytes}
 use Rattle.states.specs.States.{State, stateOf, stateBytes, allAtMost}
 use Rattle.states.specs.Refusals.{stateTest}
 use Rattle.states.proofs.Refusals.{state-passed}
 use Rattle.states.proofs.Values.{allAtMost-mono}
 use Rattle.states.proofs.Soundness.{Sound, sound-facts, values≤}
-use Rattle.states.proofs.States.{part-rest}
 use Rattle.machine.specs.Computing.{firstBits, trimmed}
 
 -- ---- a function put to a list's first k elements, one after the other
@@ -115,10 +114,8 @@ module _ (l : List ℕ) (h : headBytes ≤ length l) where
   trimmed-field : (at w : ℕ) → at + w ≤ headBytes → field (trimmed l) at w ≡ field l at w
   unfolding trimmed field
   trimmed-field at w k =
-      let part : (m : List ℕ) → drop at (take (at + w) m) ≡ take w (drop at m) =
-      λ m. let e : at + w - at ≡ w = omega arith in rw e at (drop-take at (at + w) m) in
-      ap value (sym (part (take headBytes l ++ rest))
-      ∙ ap (drop at) (take-append-le (at + w) (take headBytes l) rest (rw head-long k) ∙ take-take (at + w) headBytes l k) ∙ part l)
+      ap value (sym (part-is at w (take headBytes l ++ rest))
+      ∙ ap (drop at) (take-append-le (at + w) (take headBytes l) rest (rw head-long k) ∙ take-take (at + w) headBytes l k) ∙ part-is at w l)
 
   trimmed-rest : drop headBytes (trimmed l) ≡ rest
   unfolding trimmed

@@ -8,10 +8,9 @@ ghost use Rattle.records.specs.Marks.{marked};
 ghost use Rattle.records.specs.Refusals.{firstFailing};
 ghost use Rattle.periods.specs.Limits.{actions};
 ghost use Rattle.periods.specs.Forms.{formMark, periodBytes, formOf};
-ghost use Rattle.periods.specs.Periods.{Party, number, bit, tries, periodFrom};
-ghost use Rattle.periods.specs.Computing.{periodOf, HoldsPeriod};
+ghost use Rattle.periods.specs.Periods.{Party, partyNumber, bit, tries, periodFrom};
+ghost use Rattle.periods.specs.Computing.{periodOf, HoldsPeriod, marksAre};
 ghost use Rattle.periods.specs.Traces.{wholePeriods, periodRecords, periodAt, marksTest, periodTest, traceTest};
-ghost use Rattle.periods.specs.Computing.{marksAre};
 use records::Fault;
 use records::Test;
 
@@ -42,7 +41,7 @@ pub fn bit(mask: u32, action: u32) -> bool
 // Whether party `party` tries the action.
 pub fn tried(a: Attempts, party: u32, action: u32) -> bool
     requires { ⌜ action < actions ⌝ }
-    ensures { λ r. ⌜ ((p : Party) → party ≡ number p → r ≡ tries (periodOf a) p action) ⌝ }
+    ensures { λ r. ⌜ ((p : Party) → party ≡ partyNumber p → r ≡ tries (periodOf a) p action) ⌝ }
 {
     if party == 1 {
         bit(a.one, action)

@@ -6,7 +6,7 @@ use mathlib.Core.Path.{_≡_, refl, sym}
 use lib.Dec.{eqb, ltb, leb}
 use borrow.Author.Tests.{eqb-true, eqb-false, leb-true, le-leb, ltb-true, ltb-false}
 use Rattle.periods.specs.Limits.{actions}
-use Rattle.periods.specs.Periods.{party1, party2, number}
+use Rattle.periods.specs.Periods.{party1, party2, partyNumber}
 use Rattle.reader.specs.Table.{Kind, Range, within, partyNumbers, Line, line}
 use Rattle.reader.specs.Trees.{Fields, Record, goodFields, partyNamed}
 use Rattle.reader.specs.Spelling.{Allowed}
@@ -19,7 +19,7 @@ uses r = ltb 0 (r .greatest)
 abbrev pub used : Kind → Fields → Fields
 used k f =
     record {
-      party = cond (uses (line k .party)) (number (partyNamed (f .party))) 0;
+      party = cond (uses (line k .party)) (partyNumber (partyNamed (f .party))) 0;
       action = cond (uses (line k .action)) (f .action) 0;
       last = cond (uses (line k .last)) (f .last) 0;
     }
@@ -54,21 +54,21 @@ used-number r n h = go (uses r) refl
     go true e = refl
     go false e = omega (arith, ltb-false 0 (r .greatest) e, inside r n h)
 
-number-named : (n : ℕ) → within partyNumbers n ≡ true → number (partyNamed n) ≡ n
+number-named : (n : ℕ) → within partyNumbers n ≡ true → partyNumber (partyNamed n) ≡ n
 number-named n h = go (eqb n 1) refl
   where
-    go : (t : Bool) → eqb n 1 ≡ t → number (cond t party1 party2) ≡ n
+    go : (t : Bool) → eqb n 1 ≡ t → partyNumber (cond t party1 party2) ≡ n
     go true e = sym (eqb-true n 1 e)
     go false e = let d : n ≡ 1 → ⊥ = eqb-false n 1 e in omega (arith, inside partyNumbers n h)
 
--- a range of partyNumbers' numbers, or of 0 alone
+-- a range of parties, or of 0 alone
 abbrev ofParties : Range → Bool
 ofParties r = not (uses r) || (leb (partyNumbers .least) (r .least) && leb (r .greatest) (partyNumbers .greatest))
 
-used-party : (r : Range) → ofParties r ≡ true → (n : ℕ) → within r n ≡ true → cond (uses r) (number (partyNamed n)) 0 ≡ n
+used-party : (r : Range) → ofParties r ≡ true → (n : ℕ) → within r n ≡ true → cond (uses r) (partyNumber (partyNamed n)) 0 ≡ n
 used-party r g n h = go (uses r) refl
   where
-    go : (t : Bool) → uses r ≡ t → cond t (number (partyNamed n)) 0 ≡ n
+    go : (t : Bool) → uses r ≡ t → cond t (partyNumber (partyNamed n)) 0 ≡ n
     go true e =
         let b = and-eq-true-iff (leb (partyNumbers .least) (r .least)) (leb (r .greatest) (partyNumbers .greatest)) .0 (rw e at g) in
         let l : partyNumbers .least ≤ r .least = leb-true (partyNumbers .least) (r .least) (b .0) in

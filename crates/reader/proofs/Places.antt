@@ -19,7 +19,7 @@ use Rattle.contract.specs.Meaning.{Clause}
 use Rattle.reader.specs.Limits.{maxRecords, recordBytes}
 use Rattle.reader.specs.Table.{clause, expression, kindOf, line}
 use Rattle.reader.specs.Trees.{goodFields, node}
-use Rattle.reader.specs.Reader.{Result, refused, taken, next, provided, demand, fieldsIn, Operand, operand, operandsOf, holdsEmptyUnder, readRecord, readRecords, justOne, contractRecords, goodLength, read, recordFaults, testOf, readTest, Faultless, FirstFault}
+use Rattle.reader.specs.Reader.{Result, refused, taken, next, provided, demand, fieldsIn, Operand, operand, operandsOf, holdsEmptyUnder, readRecord, readRecords, justOne, contractRecords, goodContractLength, read, recordFaults, testOf, readTest, Faultless, FirstFault}
 use Rattle.reader.proofs.Nodes.{refused-taken, followed}
 use Rattle.reader.proofs.Reader.{WholeRecords, good-length}
 
@@ -164,15 +164,15 @@ end-refused n (operand expression e ∷ p ∷ st) f k h = (cc, cc)
 
 -- how a contract is refused
 data Refusal (l : List ℕ) (f : Fault) (k : ℕ) : Type 0 where
-  at-length : goodLength l ≡ false → BadLength ≡ f → 0 ≡ k → Refusal l f k
+  at-length : goodContractLength l ≡ false → BadLength ≡ f → 0 ≡ k → Refusal l f k
   at-record : WholeRecords l → readRecords 0 (contractRecords l) [] l ≡ refused f k → Refusal l f k
   at-end : WholeRecords l → (st : List Operand) → readRecords 0 (contractRecords l) [] l ≡ taken st → NotOneClause ≡ f → contractRecords l ≡ k → Refusal l f k
 
 refusal : (l : List ℕ) (f : Fault) (k : ℕ) → read l ≡ refused f k → Refusal l f k
 unfolding read
-refusal l f k h = go (goodLength l) refl (readRecords 0 (contractRecords l) [] l) refl
+refusal l f k h = go (goodContractLength l) refl (readRecords 0 (contractRecords l) [] l) refl
   where
-    go : (t : Bool) → goodLength l ≡ t → (r : Result (List Operand)) → readRecords 0 (contractRecords l) [] l ≡ r → Refusal l f k
+    go : (t : Bool) → goodContractLength l ≡ t → (r : Result (List Operand)) → readRecords 0 (contractRecords l) [] l ≡ r → Refusal l f k
     go false e r i = let h′ = rw e at h in at-length e (cc) (cc)
     go true e (refused g j) i =
         let h′ = rw (e, i) at h in
@@ -215,7 +215,7 @@ first-fault l f k h o = go (refusal l f k h)
         }
 
 -- and a fault that is met where the bytes end with record k is met whatever whole records come after it, as far as there are not too many
-pub fault-stays : (l : List ℕ) (f : Fault) (k : ℕ) → goodLength l ≡ true → k < contractRecords l → among recordFaults f ≡ true
+pub fault-stays : (l : List ℕ) (f : Fault) (k : ℕ) → goodContractLength l ≡ true → k < contractRecords l → among recordFaults f ≡ true
     → read (take (recordBytes * suc k) l) ≡ refused f k → read l ≡ refused f k
 unfolding read
 fault-stays l f k g c o h = go (refusal (take (recordBytes * suc k) l) f k h)
@@ -228,10 +228,10 @@ fault-stays l f k g c o h = go (refusal (take (recordBytes * suc k) l) f k h)
         rw (count-front l (suc k) c, records-take 0 (suc k) (suc k) [] l (le-refl (suc k))) at r in
         rw (g, still-refused 0 (suc k) (contractRecords l) [] l f k c here)
 
-pub refused-length : (l : List ℕ) (k : ℕ) → read l ≡ refused BadLength k → (goodLength l ≡ false) × (k ≡ 0)
+pub refused-length : (l : List ℕ) (k : ℕ) → read l ≡ refused BadLength k → (goodContractLength l ≡ false) × (k ≡ 0)
 refused-length l k h = go (refusal l BadLength k h)
   where
-    go : Refusal l BadLength k → (goodLength l ≡ false) × (k ≡ 0)
+    go : Refusal l BadLength k → (goodContractLength l ≡ false) × (k ≡ 0)
     go (at-length g e i) = (g, sym i)
     go (at-record w r) = absurd (false≢true (stopped 0 (contractRecords l) [] l BadLength k r .of-record))
     go (at-end w st g e i) = (cc, cc)

@@ -16,7 +16,7 @@ use Rattle.reader.specs.Limits.{maxRecords, recordBytes}
 use Rattle.reader.specs.Table.{Sort, clause, expression, Kind, line}
 use Rattle.reader.specs.Trees.{Tree, Trees, Fields, goodFields, node}
 use Rattle.reader.specs.Spelling.{spellRecord, spell, records, InRange, Spells, spellTree, treeRecords}
-use Rattle.reader.specs.Reader.{taken, Operand, operand, holdsEmptyUnder, readRecord, readRecords, justOne, contractRecords, goodLength, read}
+use Rattle.reader.specs.Reader.{taken, Operand, operand, holdsEmptyUnder, readRecord, readRecords, justOne, contractRecords, goodContractLength, read}
 use Rattle.reader.proofs.Fields.{used, recordOf}
 use Rattle.reader.proofs.Spelling.{spellTrees, treesRecords, All, on-tree, spell-node, records-node, length-spell, some-records}
 use Rattle.reader.proofs.Nodes.{Good, good-node, onto, read-node, Completed, required, followed, completed}
@@ -71,11 +71,11 @@ pub record WholeRecords (l : List ℕ) : Type 0 where
   pub few-records : contractRecords l ≤ maxRecords
   pub whole : length l ≡ recordBytes * contractRecords l
 
-pub good-length : (l : List ℕ) → goodLength l ≡ true ↔ WholeRecords l
-unfolding goodLength contractRecords
+pub good-length : (l : List ℕ) → goodContractLength l ≡ true ↔ WholeRecords l
+unfolding goodContractLength contractRecords
 good-length l = (there, back)
   where
-    there : goodLength l ≡ true → WholeRecords l
+    there : goodContractLength l ≡ true → WholeRecords l
     there h =
         let a = and-eq-true-iff (ltb 0 (length l) && eqb (length l % recordBytes) 0) (leb (length l) (recordBytes * maxRecords)) .0 h in
         let b = and-eq-true-iff (ltb 0 (length l)) (eqb (length l % recordBytes) 0) .0 (a .0) in
@@ -84,16 +84,16 @@ good-length l = (there, back)
         let e = leb-true (length l) (recordBytes * maxRecords) (a .1) in
         record { some-records = omega arith; few-records = omega arith; whole = omega arith }
 
-    back : WholeRecords l → goodLength l ≡ true
+    back : WholeRecords l → goodContractLength l ≡ true
     back w =
         let e : length l ≡ recordBytes * (length l / recordBytes) = w .whole in
         let f = le-leb (length l) (recordBytes * maxRecords) (omega (arith, w .few-records)) in
         rw (lt-ltb 0 (length l) (omega (arith, w .some-records)), eq-eqb (length l % recordBytes) 0 (omega arith), f)
 
-pub not-whole : (l : List ℕ) → ¬ WholeRecords l → goodLength l ≡ false
-not-whole l n = go (goodLength l) refl
+pub not-whole : (l : List ℕ) → ¬ WholeRecords l → goodContractLength l ≡ false
+not-whole l n = go (goodContractLength l) refl
   where
-    go : (t : Bool) → goodLength l ≡ t → t ≡ false
+    go : (t : Bool) → goodContractLength l ≡ t → t ≡ false
     go true e = absurd (n (good-length l .0 e))
     go false e = refl
 
@@ -110,11 +110,11 @@ module _ (l : List ℕ) (c : Clause) (h : read l ≡ taken c) where
   read-taken : WholeRecords l × (readRecords 0 (contractRecords l) [] l ≡ taken (operand clause c ∷ []))
   unfolding read
   read-taken =
-      required (goodLength l) BadLength 0 h λ g h₂.
+      required (goodContractLength l) BadLength 0 h λ g h₂.
       followed (readRecords 0 (contractRecords l) [] l) h₂ λ st h₃ h₄.
       (good-length l .0 g, rw (just-one (contractRecords l) st c h₄) at h₃)
 
-  pub taken-length : goodLength l ≡ true
+  pub taken-length : goodContractLength l ≡ true
   taken-length = good-length l .1 (read-taken .0)
 
   taken-stack : (l ≡ spell c) × Good clause c

@@ -9,7 +9,7 @@ use mathlib.Core.Option.{Option, none, some}
 use lib.Dec.{eqb, ltb, leb}
 use lib.ListN.{length, getD}
 use borrow.Author.Tests.{eqb-true, lt-ltb, le-leb}
-use Rattle.records.proofs.Numbers.{lt-or-le}
+use Rattle.records.proofs.Cases.{lt-or-le}
 use Rattle.reader.specs.declared.Lookup.the-variants.{Found, Unknown}
 use Rattle.reader.specs.Table.{Kind, kinds, numbered, kindOf, line, duty, ban, power, both, then, repair, repeat, when, until, any, tries, idle, succeeds, fails, seq, or, star}
 use Rattle.reader.specs.Trees.{Fields, Record}

@@ -39,7 +39,7 @@ entryOf k =
       last = record { least = line k .last .least; greatest = line k .last .greatest };
     }
 
--- a line as one number: from its lowest bits up two bits each for the operands, the sorts and the partyNumbers, five for the actions, four for the last
+-- a line as one number: from its lowest bits up two bits each for the operands, the sorts and the parties, five for the actions, four for the last
 -- byte
 abbrev pub packedLine : Entry → ℕ
 packedLine e =

@@ -121,12 +121,12 @@ unfoldable pub contractRecords : List ℕ → ℕ
 contractRecords l = length l / recordBytes
 
 -- 1: "contract empty, not a multiple of 6 bytes, or over 64 records; 0"
-unfoldable pub goodLength : List ℕ → Bool
-goodLength l = ltb 0 (length l) && eqb (length l % recordBytes) 0 && leb (length l) (recordBytes * maxRecords)
+unfoldable pub goodContractLength : List ℕ → Bool
+goodContractLength l = ltb 0 (length l) && eqb (length l % recordBytes) 0 && leb (length l) (recordBytes * maxRecords)
 
 -- the clause that a contract's records spell, or the first refusal: "A contract means what the clause that its last record completes means."
 unfoldable pub read : List ℕ → Result Clause
-read l = provided (require (goodLength l) BadLength 0) (next (readRecords 0 (contractRecords l) [] l) (justOne (contractRecords l)))
+read l = provided (require (goodContractLength l) BadLength 0) (next (readRecords 0 (contractRecords l) [] l) (justOne (contractRecords l)))
 
 -- ---- refusals 1 to 7
 

@@ -4,7 +4,7 @@ use mathlib.Core.Bool.{true}
 use mathlib.Core.List.{List, [], _∷_, _++_}
 use mathlib.Core.Path.{_≡_}
 use Rattle.records.specs.Marks.{contractMark}
-use Rattle.periods.specs.Periods.{Party, number}
+use Rattle.periods.specs.Periods.{Party, partyNumber}
 use Rattle.contract.specs.Expressions.{Atom, any, tries, idle, succeeds, fails, Expression, atom, seq, or, star}
 use Rattle.contract.specs.Meaning.{Literal, duty, ban, power, Clause, literal, both, then, repair, repeat, when, until, EmptyFree}
 use Rattle.reader.specs.Limits.{maxRecords}
@@ -26,15 +26,15 @@ plainRecord k = recordWith k 0 0
 
 abbrev pub atomRecord : Atom → Record
 atomRecord any = plainRecord K.any
-atomRecord (tries p a) = recordWith K.tries (number p) a
-atomRecord (idle p a) = recordWith K.idle (number p) a
+atomRecord (tries p a) = recordWith K.tries (partyNumber p) a
+atomRecord (idle p a) = recordWith K.idle (partyNumber p) a
 atomRecord (succeeds a) = recordWith K.succeeds 0 a
 atomRecord (fails a) = recordWith K.fails 0 a
 
 abbrev pub literalRecord : Literal → Party → ℕ → Record
-literalRecord duty p a = recordWith K.duty (number p) a
-literalRecord ban p a = recordWith K.ban (number p) a
-literalRecord power p a = recordWith K.power (number p) a
+literalRecord duty p a = recordWith K.duty (partyNumber p) a
+literalRecord ban p a = recordWith K.ban (partyNumber p) a
+literalRecord power p a = recordWith K.power (partyNumber p) a
 
 unfoldable pub spellExpression : Expression → List ℕ
 spellExpression (atom x) = spellRecord (atomRecord x)

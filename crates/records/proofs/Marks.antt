@@ -3,13 +3,13 @@ use Prim.Native.Nat.{ℕ, suc, _+_, _≤_}
 use native.Mathlib.Nat.{add-zero}
 use native.Mathlib.Numerals.{add-one}
 use native.Mathlib.Omega.{arith}
-use mathlib.Core.Path.{_≡_, refl, sym, ap, _∙_}
+use mathlib.Core.Path.{_≡_, refl, ap}
 use mathlib.Core.Bool.{true, false, and-eq-true-iff}
 use mathlib.Core.List.{List, [], _∷_, map}
 use lib.Dec.{eqb}
 use lib.ListN.{length, take, drop, getD}
-use lib.Seq.{drop-cons, getD-take, getD-drop}
-use borrow.Author.Tests.{eq-eqb, eqb-true}
+use lib.Seq.{drop-cons, getD-drop}
+use borrow.Author.Tests.{eqb-true}
 use Rattle.records.specs.Marks.{marks, marked}
 
 -- the four marks are pairwise different: each matches itself and no other
@@ -31,24 +31,12 @@ module _ (l : List ℕ) (at : ℕ) (m : List ℕ) (h : marked l at m ≡ true) w
   unfolding marked
   second = eqb-true (getD l (at + 1) 0) (getD m 1 0) (and-eq-true-iff (eqb (getD l at 0) (getD m 0 0)) _ .0 h .1)
 
-  -- where one mark stands, another stands only if it is the same
-  pub marked-as : (m′ : List ℕ) → marked l at m′ ≡ marked m 0 m′
-  unfolding marked
-  marked-as m′ = rw (first, second)
-
 -- a mark in the bytes from a place on
 pub marked-drop : (l : List ℕ) (at : ℕ) (mark : List ℕ) → marked l at mark ≡ marked (drop at l) 0 mark
 unfolding marked
 marked-drop l at mark = simp (getD-drop, add-zero)
 
--- a mark stands where its two bytes do
-pub marked-of : (l : List ℕ) (at a b : ℕ) → take 2 (drop at l) ≡ a ∷ b ∷ [] → marked l at (a ∷ b ∷ []) ≡ true
-unfolding marked
-marked-of l at a b e =
-    let p : getD (drop at l) 0 0 ≡ a = sym (getD-take 2 (drop at l) 0 0 (omega arith)) ∙ ap (λ (x : List ℕ). getD x 0 0) e in
-    let q : getD (drop at l) 1 0 ≡ b = sym (getD-take 2 (drop at l) 1 0 (omega arith)) ∙ ap (λ (x : List ℕ). getD x 1 0) e in
-    rw (eq-eqb (getD l at 0) a (rw (getD-drop, add-zero) at p), eq-eqb (getD l (at + 1) 0) b (rw getD-drop at q))
-
+-- its two bytes stand where a mark does
 pub of-marked : (l : List ℕ) (at a b : ℕ) → at + 2 ≤ length l → marked l at (a ∷ b ∷ []) ≡ true → take 2 (drop at l) ≡ a ∷ b ∷ []
 of-marked l at a b k h =
     rw (drop-cons l at 0 (omega arith), drop-cons l (suc at) 0 (omega arith), first l at (a ∷ b ∷ []) h)

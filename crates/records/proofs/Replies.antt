@@ -11,13 +11,13 @@ use Rattle.records.specs.Fields.{bytes, field}
 use Rattle.records.specs.declared.Test.{Test}
 use Rattle.records.specs.declared.Test.the-variants.{Passed, Refused}
 use Rattle.records.specs.Refusals.{numberOf, placeOf}
-use Rattle.records.specs.Replies.{Field, fieldsBytes, size, Answer, alone, replyOf, replyBytes, zeroed, Gives, unwritten, written, answered, call}
+use Rattle.records.specs.Replies.{Field, fieldsBytes, fieldsSize, Answer, alone, replyOf, replyBytes, zeroed, Gives, unwritten, written, answered, call}
 use Rattle.records.proofs.Fields.{length-bytes}
 use Rattle.records.proofs.Written.{sets-append, drop-after, field-in, field-spelled}
 
 -- ---- the bytes of fields
 
-pub length-fields : (fs : List Field) → length (fieldsBytes fs) ≡ size fs
+pub length-fields : (fs : List Field) → length (fieldsBytes fs) ≡ fieldsSize fs
 unfolding fieldsBytes
 length-fields [] = refl
 length-fields (f ∷ fs) = rw (length-append, length-bytes, length-fields fs)
@@ -27,12 +27,12 @@ unfolding fieldsBytes
 fields-append [] gs = refl
 fields-append (f ∷ fs) gs = rw (fields-append fs gs, append-assoc)
 
-pub size-append : (fs gs : List Field) → size (fs ++ gs) ≡ size fs + size gs
+pub size-append : (fs gs : List Field) → fieldsSize (fs ++ gs) ≡ fieldsSize fs + fieldsSize gs
 size-append [] gs = rw zero-add
 size-append (f ∷ fs) gs = rw (size-append fs gs, add-assoc)
 
 -- fields written behind others
-pub fields-written : (area : List ℕ) (fs gs : List Field) → sets area 0 (fieldsBytes (fs ++ gs)) ≡ sets (sets area 0 (fieldsBytes fs)) (size fs) (fieldsBytes gs)
+pub fields-written : (area : List ℕ) (fs gs : List Field) → sets area 0 (fieldsBytes (fs ++ gs)) ≡ sets (sets area 0 (fieldsBytes fs)) (fieldsSize fs) (fieldsBytes gs)
 fields-written area fs gs = rw (fields-append fs gs, sets-append, length-fields fs, zero-add)
 
 -- a reply's first three fields
@@ -42,21 +42,21 @@ unfolding fieldsBytes
 head-written area t own = simp (append-nil, sets-append, length-bytes)
 
 -- the field behind some fields, with any others after it, is read back
-pub field-back : (before : List Field) (f : Field) (others : List Field) (area : List ℕ) → size (before ++ (f ∷ others)) ≤ length area → f .value < 256 ^ f .width
-    → field (sets area 0 (fieldsBytes (before ++ (f ∷ others)))) (size before) (f .width) ≡ f .value
+pub field-back : (before : List Field) (f : Field) (others : List Field) (area : List ℕ) → fieldsSize (before ++ (f ∷ others)) ≤ length area → f .value < 256 ^ f .width
+    → field (sets area 0 (fieldsBytes (before ++ (f ∷ others)))) (fieldsSize before) (f .width) ≡ f .value
 unfolding fieldsBytes
 field-back before f others area h small =
     let fs = before ++ (f ∷ others) in
     let e : fieldsBytes fs ≡ fieldsBytes before ++ (bytes (f .width) (f .value) ++ fieldsBytes others) = fields-append before (f ∷ others) in
     let fits : length (fieldsBytes fs) ≤ length area = rw (length-fields fs) h in
-    let within : size before + f .width ≤ length (fieldsBytes fs) = rw (length-fields fs, size-append before (f ∷ others)) (omega arith) in
-    rw zero-add at (field-in area 0 (fieldsBytes fs) (size before) (f .width) (rw zero-add fits) within)
-    ∙ rw e (field-spelled (fieldsBytes before) (f .width) (f .value) (fieldsBytes others) (size before) (length-fields before))
+    let within : fieldsSize before + f .width ≤ length (fieldsBytes fs) = rw (length-fields fs, size-append before (f ∷ others)) (omega arith) in
+    rw zero-add at (field-in area 0 (fieldsBytes fs) (fieldsSize before) (f .width) (rw zero-add fits) within)
+    ∙ rw e (field-spelled (fieldsBytes before) (f .width) (f .value) (fieldsBytes others) (fieldsSize before) (length-fields before))
     ∙ mod-eq-of-lt small
 
 -- the bytes past a reply are as they were
-pub after-fields : (fs : List Field) (area : List ℕ) → drop (size fs) (sets area 0 (fieldsBytes fs)) ≡ drop (size fs) area
-after-fields fs area = drop-after area 0 (fieldsBytes fs) (size fs) (rw length-fields (omega arith))
+pub after-fields : (fs : List Field) (area : List ℕ) → drop (fieldsSize fs) (sets area 0 (fieldsBytes fs)) ≡ drop (fieldsSize fs) area
+after-fields fs area = drop-after area 0 (fieldsBytes fs) (fieldsSize fs) (rw length-fields (omega arith))
 
 -- ---- what a call leaves
 

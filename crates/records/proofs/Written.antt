@@ -5,8 +5,8 @@ use native.Mathlib.Nat.{add-zero, add-suc, suc-add, le-refl, mod-eq-of-lt, sub-z
 use native.Mathlib.Omega.{arith}
 use mathlib.Core.Path.{_≡_, refl, sym, ap, _∙_}
 use mathlib.Core.List.{List, [], _∷_, _++_, append-assoc}
-use lib.ListN.{length, take, drop, getD, set, length-append, length-drop, List·getD-append}
-use lib.Seq.{sets, sets-eq, take-nil, set-comm, take-set-le, drop-set-lt, getD-take, getD-drop, drop-drop, take-append-le, drop-append-le, take-at, drop-at, length-take-le}
+use lib.ListN.{length, take, drop, getD, set, length-append, length-drop}
+use lib.Seq.{sets, sets-eq, take-all, take-nil, set-comm, take-set-le, drop-set-lt, getD-take, getD-drop, drop-drop, take-append-le, drop-append-le, take-at, drop-at, length-take-le}
 use Rattle.records.specs.Fields.{value, bytes, field}
 use Rattle.records.proofs.Fields.{length-bytes, value-bytes, bytes-add}
 
@@ -51,12 +51,17 @@ module _ {ℓ} {A : Type ℓ} where
   drop-take (suc k) (suc n) [] = sym (take-nil (suc n - suc k))
   drop-take (suc k) (suc n) (x ∷ l) = rw suc-sub-suc (drop-take k n l)
 
+  -- the n elements at a place
+  pub part-is : (at n : ℕ) (l : List A) → drop at (take (at + n) l) ≡ take n (drop at l)
+  part-is at n l = let e : at + n - at ≡ n = omega arith in rw e at (drop-take at (at + n) l)
+
+  -- all that stand from a place on
+  pub part-rest : (n : ℕ) (l : List A) → take (length l - n) (drop n l) ≡ drop n l
+  part-rest n l = take-all (length l - n) (drop n l) (simp length-drop (le-refl (length l - n)))
+
   -- the n elements at a place that end before the run
   pub part-before : (l : List A) (i : ℕ) (vs : List A) (at n : ℕ) → at + n ≤ i → take n (drop at (sets l i vs)) ≡ take n (drop at l)
-  part-before l i vs at n h =
-      let part : (m : List A) → drop at (take (at + n) m) ≡ take n (drop at m) =
-      λ m. let e : at + n - at ≡ n = omega arith in rw e at (drop-take at (at + n) m) in
-      sym (part (sets l i vs)) ∙ ap (drop at) (take-before l i vs (at + n) h) ∙ part l
+  part-before l i vs at n h = sym (part-is at n (sets l i vs)) ∙ ap (drop at) (take-before l i vs (at + n) h) ∙ part-is at n l
 
   -- ---- in the run stands what was written
 
@@ -76,11 +81,6 @@ module _ {ℓ} {A : Type ℓ} where
       let rest : List A = drop (i + length vs) l in
       rw (← drop-drop k i (sets l i vs), drop-from l i vs h, drop-append-le k vs rest (omega arith))
       (take-append-le n (drop k vs) rest (simp length-drop (omega arith)))
-
-  pub getD-in : (l : List A) (i : ℕ) (vs : List A) (k : ℕ) (d : A) → i + length vs ≤ length l → k < length vs
-      → getD (sets l i vs) (i + k) d ≡ getD vs k d
-  getD-in l i vs k d h e =
-      rw (← getD-drop i (sets l i vs) k d, drop-from l i vs h) (List·getD-append vs (drop (i + length vs) l) d k e)
 
 -- ---- fields
 

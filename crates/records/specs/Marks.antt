@@ -18,6 +18,10 @@ rowMark = 0x54 ∷ 0x52 ∷ []
 abbrev pub endMark : List ℕ
 endMark = 0x54 ∷ 0x45 ∷ []
 
+-- the bytes of a mark
+abbrev pub markBytes : ℕ
+markBytes = 2
+
 abbrev pub marks : List (List ℕ)
 marks = contractMark ∷ periodMark ∷ rowMark ∷ endMark ∷ []
 

@@ -6,7 +6,7 @@ use mathlib.Core.Path.{_≡_}
 use lib.Dec.{ltb}
 use lib.ListN.{length}
 use lib.Seq.{sets}
-use Rattle.records.specs.Fields.{bytes}
+use Rattle.records.specs.Fields.{bytes, field}
 use Rattle.records.specs.declared.Test.{Test}
 use Rattle.records.specs.declared.Test.the-variants.{Passed, Refused}
 use Rattle.records.specs.Refusals.{numberOf, placeOf}
@@ -29,9 +29,9 @@ unfoldable pub fieldsBytes : List Field → List ℕ
 fieldsBytes [] = []
 fieldsBytes (f ∷ fs) = bytes (f .width) (f .value) ++ fieldsBytes fs
 
-abbrev pub size : List Field → ℕ
-size [] = 0
-size (f ∷ fs) = f .width + size fs
+abbrev pub fieldsSize : List Field → ℕ
+fieldsSize [] = 0
+fieldsSize (f ∷ fs) = f .width + fieldsSize fs
 
 -- what a call answers beside number and place: the field between the two, and those behind them
 pub record Answer : Type 0 where
@@ -51,7 +51,20 @@ replyOf t a = fieldsBytes (replyFields t a)
 
 -- how many they are, whatever the tests find
 abbrev pub replyBytes : Answer → ℕ
-replyBytes a = size (replyFields Passed a)
+replyBytes a = fieldsSize (replyFields Passed a)
+
+-- a reply's first three fields as its bytes hold them, and where the others start
+abbrev pub numberIn : List ℕ → ℕ
+numberIn reply = field reply 0 4
+
+abbrev pub ownIn : List ℕ → ℕ
+ownIn reply = field reply 4 4
+
+abbrev pub placeIn : List ℕ → ℕ
+placeIn reply = field reply 8 8
+
+abbrev pub headSize : ℕ
+headSize = replyBytes (alone 0)
 
 -- "every other field is 0"
 abbrev pub zeroed : Answer → Answer

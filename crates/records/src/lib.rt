@@ -5,10 +5,10 @@ ghost use Prim.Native.Nat.{_+_, _<_, _≤_};
 ghost use lib.ListN.{length, getD};
 ghost use lib.Seq.{sets};
 ghost use Rattle.records.specs.Fields.{bytes};
-ghost use Rattle.records.specs.Holding.{HoldsField};
+ghost use Rattle.records.specs.Holding.{HoldsField, HoldsHead};
 ghost use Rattle.records.specs.Marks.{marked};
 ghost use Rattle.records.specs.Refusals.{faultNumber, numberOf, placeOf};
-ghost use Rattle.records.specs.Replies.{alone, replyOf, replyBytes};
+ghost use Rattle.records.specs.Replies.{alone, replyOf, headSize};
 
 // The first two bytes of each record.
 pub const CONTRACT_MARK: [u8; 2] = [0x54, 0x43];
@@ -169,9 +169,27 @@ pub fn place(t: Test) -> u64
 // The bytes of a reply's first three fields: number (4 bytes), a field of the call's own (4), place (8).
 pub const REPLY_HEAD: usize = 16;
 
+// These fields.
+pub struct Head {
+    pub number: u32,
+    pub own: u32,
+    pub place: u64,
+}
+
+pub fn get_head(reply: &[u8]) -> Head
+    requires { ⌜ headSize ≤ length (now reply) ⌝ }
+    ensures { λ r. ⌜ HoldsHead (now (reply .entry)) r ⌝ }
+{
+    Head {
+        number: get4(reply, 0),
+        own: get4(reply, 4),
+        place: get8(reply, 8),
+    }
+}
+
 // Writes a reply's first three fields.
 pub fn put_head(reply: &mut [u8], t: Test, own: u32)
-    requires { ⌜ replyBytes (alone own) ≤ length (now reply) ⌝ }
+    requires { ⌜ headSize ≤ length (now reply) ⌝ }
     ensures { λ _. ⌜ now (reply .exit) ≡ sets (now (reply .entry)) 0 (replyOf t (alone own)) ⌝ }
 {
     put4(reply, 0, number(t));

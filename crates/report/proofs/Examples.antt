@@ -19,7 +19,7 @@ use Rattle.report.proofs.Reports.{longer}
 
 pub report-vectors : ReportVectors
 unfolding
-    report contractLength firstPeriod firstFailing formOf wholePeriods markedAs marked read Reader.goodLength Reader.contractRecords readRecords readRecord numbered
+    report contractLength firstPeriod firstFailing formOf wholePeriods markedAs marked read Reader.goodContractLength Reader.contractRecords readRecords readRecord numbered
     kindOf goodFields operandsOf node onTrace traceTest marksTest lines periodLines meantLine periodsOf periodAt periodFrom field value meaning repeatMeaning
     tries bit periodLine decidedLine refusedLine decimal digits
 report-vectors =

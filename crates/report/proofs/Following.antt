@@ -1,5 +1,5 @@
 -- Laws of the lines of a trace: each step's reply holds what its line says.
-use Prim.Native.Nat.{ℕ, suc, _+_, _*_, _-_, _^_, _≤_, _<_}
+use Prim.Native.Nat.{ℕ, suc, _+_, _*_, _-_, _≤_, _<_}
 use native.Mathlib.Numerals.{add-one}
 use native.Mathlib.Omega.{arith}
 use mathlib.Core.Bool.{true}
@@ -8,11 +8,13 @@ use mathlib.Core.Path.{_≡_, refl, sym, _∙_}
 use borrow.Author.Tests.{lt-ltb}
 use lib.ListN.{length, replicate, take, drop}
 use lib.Seq.{sets}
-use Rattle.records.specs.Holding.{HoldsField}
-use Rattle.records.specs.Verdicts.{Verdict, «open», met, broken, met-after, broken-after, verdictNumber}
+use Rattle.records.specs.Holding.{HoldsField, HoldsHead}
+use Rattle.records.specs.declared.Head.{Head}
+use Rattle.records.specs.Verdicts.{Verdict, verdictNumber}
 use Rattle.records.specs.declared.Test.the-variants.{Passed}
-use Rattle.records.specs.Replies.{four, eight, replyOf, Gives}
+use Rattle.records.specs.Replies.{four, eight, replyOf, headSize, Gives}
 use Rattle.records.proofs.Replies.{field-back}
+use Rattle.records.proofs.Verdicts.{few-verdicts}
 use Rattle.periods.specs.Forms.{periodBytes, formOf}
 use Rattle.periods.specs.Periods.{Period, party1, party2}
 use Rattle.periods.specs.Traces.{periodRecords, markedAt, periodsOf, periodRecordAt}
@@ -31,7 +33,7 @@ use Rattle.report.specs.declared.Stepped.{Stepped}
 use Rattle.report.specs.Limits.{lineBytes, inputPeriods}
 use Rattle.report.specs.Texts.{periodLine, decidedLine, Puts}
 use Rattle.report.specs.Reports.{meantLine, periodLines, lines}
-use Rattle.report.specs.Putting.{Stepping, Follows, Listing, Listed, Following, Followed}
+use Rattle.report.specs.Putting.{Stepping, Follows, MayList, Lists, MayFollow, FollowsTrace}
 use Rattle.report.proofs.Texts.{puts-both, short-period, short-decided}
 
 -- ---- a step's reply
@@ -39,27 +41,20 @@ use Rattle.report.proofs.Texts.{puts-both, short-period, short-decided}
 -- what a step on a part of the trace leaves, the part being its record k
 pub stepped-on : (image state trace : List ℕ) (k bytes : ℕ) → bytes ≡ periodBytes (formOf trace) → (result : ℕ) (later reply : List ℕ)
     → Gives (step image state (take (bytes * k + bytes - bytes * k) (drop (bytes * k) trace)) (replicate stepReplyBytes 0)) result later reply
-    → (s : Stepped) → HoldsField reply 4 4 (s .verdict) → HoldsField reply 16 4 (s .blame) → HoldsField reply 20 4 (s .decision)
+    → (s : Stepped) (h : Head) → HoldsHead reply h → h .own ≡ s .verdict → HoldsField reply headSize 4 (s .blame) → HoldsField reply (headSize + 4) 4 (s .decision)
     → Stepping image state trace k later s
 unfolding periodRecordAt
-stepped-on image state trace k bytes i result later reply g s v b d =
+stepped-on image state trace k bytes i result later reply g s h v o b d =
     let e : bytes * k + bytes - bytes * k ≡ bytes = omega arith in
-    let h = rw (e, i) at g in
+    let w = rw (e, i) at g in
     record {
-      state-is = h .buffers-are;
-      verdict-is = rw (← h .reply-is) (v .is);
-      blame-is = rw (← h .reply-is) (b .is);
-      decision-is = rw (← h .reply-is) (d .is);
+      state-is = w .buffers-are;
+      verdict-is = rw (← w .reply-is) (sym o ∙ v .own-is);
+      blame-is = rw (← w .reply-is) (b .is);
+      decision-is = rw (← w .reply-is) (d .is);
     }
 
--- the fields of a reply are small
-small-verdict : (v : Verdict) → verdictNumber v < 256 ^ 4
-small-verdict «open» = omega arith
-small-verdict met = omega arith
-small-verdict broken = omega arith
-small-verdict met-after = omega arith
-small-verdict broken-after = omega arith
-
+-- a blame is one digit
 pub small-blame : (d : Decision) → blame d < 10
 small-blame undecided = omega arith
 small-blame (satisfied k) = omega arith
@@ -109,7 +104,7 @@ module _ (c : Clause) (image state trace : List ℕ) (k : ℕ) (later : List ℕ
       g .verdict-is
       ∙ rw reply-meant
       (field-back (four 0 ∷ []) (four seen) (eight 0 ∷ four (blame decided) ∷ four (decisionPeriod decided) ∷ []) (replicate stepReplyBytes 0) (omega arith)
-      (small-verdict (verdict decided (length next))))
+      (omega (arith, few-verdicts (verdict decided (length next)))))
 
   pub seen-blame : s .blame ≡ blame decided
   unfolding meantAnswer
@@ -163,7 +158,7 @@ module _ (c : Clause) (image trace text₀ state : List ℕ) where
 
 -- ---- the loop, for whichever clause the first state follows
 
-module _ {image state₀ trace text₀ : List ℕ} {n : ℕ} (a : Listing image state₀ trace n text₀) where
+module _ {image state₀ trace text₀ : List ℕ} {n : ℕ} (a : MayList image state₀ trace n text₀) where
   module _ (k : ℕ) (i : k < n) where
     pub next-whole : k < periodRecords trace
     next-whole = omega (arith, a .whole)
@@ -207,7 +202,7 @@ module _ {image state₀ trace text₀ : List ℕ} {n : ℕ} (a : Listing image 
     last-room i j e = omega (arith, a .room, short-decided decision (omega (arith, small-decision i)))
 
     -- with the last line the report is whole
-    pub all-listed : k ≡ n → (last : List ℕ) (r : ℕ) → Puts text at (decidedLine decision) last r → Listed image state₀ trace n text₀ last r
+    pub all-listed : k ≡ n → (last : List ℕ) (r : ℕ) → Puts text at (decidedLine decision) last r → Lists image state₀ trace n text₀ last r
     unfolding lines
     all-listed e last r p =
         record {
@@ -218,22 +213,22 @@ module _ {image state₀ trace text₀ : List ℕ} {n : ℕ} (a : Listing image 
 
 -- ---- a state that begin leaves
 
-module _ {image state trace text : List ℕ} (a : Following image state trace text) where
+module _ {image state trace text : List ℕ} (a : MayFollow image state trace text) where
   -- begin's state follows the clause of whichever contract the image monitors
-  pub begun : (contract : List ℕ) (c : Clause) → Monitors contract image → read contract ≡ taken c → (reply : List ℕ) → beginReplyBytes ≤ length reply
+  pub begin-follows : (contract : List ℕ) (c : Clause) → Monitors contract image → read contract ≡ taken c → (reply : List ℕ) → beginReplyBytes ≤ length reply
       → Follows c image (begin image state reply .buffers) []
-  begun contract c m e reply r =
+  begin-follows contract c m e reply r =
       let i : m .clause ≡ c = let g = sym (m .means) ∙ e in cc in
       record { free = taken-spells contract c e .empty-free; answers = rw i at (m .answers state reply (a .state-long) r .1) }
 
   -- the lines can be put
   pub may-list : (reply later : List ℕ) → beginReplyBytes ≤ length reply → later ≡ begin image state reply .buffers
-      → Listing image later trace (periodRecords trace) text
+      → MayList image later trace (periodRecords trace) text
   may-list reply later r e =
       let sixes = few-whole (formOf trace) trace in
       rw e record {
         clause = a .monitors .clause;
-        follows = begun (a .contract) (a .monitors .clause) (a .monitors) (a .monitors .means) reply r;
+        follows = begin-follows (a .contract) (a .monitors .clause) (a .monitors) (a .monitors .means) reply r;
         whole = omega arith;
         marks = trace-marks trace (a .passed);
         few = omega (arith, a .short);
@@ -241,6 +236,6 @@ module _ {image state trace text : List ℕ} (a : Following image state trace te
       }
 
   pub all-followed : (reply later : List ℕ) → beginReplyBytes ≤ length reply → later ≡ begin image state reply .buffers → (last : List ℕ) (n : ℕ)
-      → Listed image later trace (periodRecords trace) text last n → Followed image trace text last n
+      → Lists image later trace (periodRecords trace) text last n → FollowsTrace image trace text last n
   all-followed reply later r e last n l =
-      record { puts = λ contract c m d. l .puts c (rw e (begun contract c m d reply r)) }
+      record { puts = λ contract c m d. l .puts c (rw e (begin-follows contract c m d reply r)) }

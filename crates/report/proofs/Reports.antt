@@ -5,15 +5,17 @@ use native.Mathlib.Omega.{arith}
 use mathlib.Core.List.{List, [], _∷_}
 use mathlib.Core.Path.{_≡_, refl, sym, _∙_}
 use lib.ListN.{length, take, drop, replicate, length-drop}
-use lib.Seq.{sets, length-sets, length-take-le, take-all}
-use borrow.Author.Tests.{le-leb, lt-leb, eq-eqb}
+use lib.Seq.{sets, length-sets, length-take-le}
+use borrow.Author.Tests.{le-leb, lt-leb}
+use Rattle.records.specs.declared.Head.{Head}
 use Rattle.records.specs.declared.Fault.{Fault}
 use Rattle.records.specs.declared.Fault.the-variants.{LongInput}
 use Rattle.records.specs.declared.Test.{Test}
 use Rattle.records.specs.declared.Test.the-variants.{Passed, Refused}
-use Rattle.records.specs.Refusals.{faultNumber, numberOf, placeOf, firstOf}
+use Rattle.records.specs.Refusals.{faultNumber, numberOf, placeOf}
 use Rattle.records.specs.Replies.{four, eight, alone, replyOf, call}
-use Rattle.records.proofs.Refusals.{fault-bounds}
+use Rattle.records.proofs.Refusals.{first-only, fault-bounds}
+use Rattle.records.proofs.Written.{part-rest}
 use Rattle.records.proofs.Replies.{field-back}
 use Rattle.periods.specs.Forms.{formOf}
 use Rattle.periods.specs.Traces.{periodRecords, traceTest}
@@ -26,8 +28,9 @@ use Rattle.states.specs.Limits.{headBytes, maxPeriods}
 use Rattle.states.specs.States.{stateOf}
 use Rattle.states.specs.Refusals.{countTest}
 use Rattle.states.proofs.Fresh.{freshState, fresh-read}
-use Rattle.runner.specs.Refusals.{beginTest, runTest}
+use Rattle.runner.specs.Refusals.{runTest}
 use Rattle.runner.specs.Calls.{beginReplyBytes, begin}
+use Rattle.runner.proofs.Refusals.{begin-passes}
 use Rattle.runner.proofs.StepCalls.{begin-written, begin-sound}
 use Rattle.contract.specs.Meaning.{Clause}
 use Rattle.reader.specs.Limits.{maxRecords}
@@ -38,12 +41,11 @@ use Rattle.image.specs.Limits.{bufferBytes}
 use Rattle.image.specs.Images.{imageFor}
 use Rattle.image.specs.Monitors.{Monitors}
 use Rattle.compiler.specs.Calls.{compileTest, compileReplyBytes, compile, Usable}
-use Rattle.report.specs.declared.Compiled.{Compiled}
 use Rattle.report.specs.Limits.{inputBytes, textBytes}
 use Rattle.report.specs.Texts.{refusedLine, Puts}
 use Rattle.report.specs.Split.{contractLength, contractOf, traceOf}
 use Rattle.report.specs.Reports.{onTrace, onContract, report}
-use Rattle.report.specs.Putting.{Compiling, Following, Followed}
+use Rattle.report.specs.Putting.{Compiling, MayFollow, FollowsTrace}
 use Rattle.report.proofs.Split.{contract-within}
 
 -- ---- the input's length
@@ -76,7 +78,7 @@ module _ (contract buffer : List ℕ) (e : length buffer ≡ bufferBytes maxReco
   same-long = rw (i, le-leb (bufferBytes (contractRecords contract)) (length buffer) roomy) (length-sets buffer 0 (imageFor contract))
 
 -- refused exactly where the number is not 0
-module _ {contract buffer later : List ℕ} {r : Compiled} (h : Compiling contract buffer later r) (e : length buffer ≡ bufferBytes maxRecords) where
+module _ {contract buffer later : List ℕ} {r : Head} (h : Compiling contract buffer later r) (e : length buffer ≡ bufferBytes maxRecords) where
   -- the reply of a refusal
   refused-reply : (f : Fault) (k : ℕ) → read contract ≡ refused f k
       → h .reply ≡ sets (replicate compileReplyBytes 0) 0 (replyOf (Refused f k) (alone 0))
@@ -85,11 +87,11 @@ module _ {contract buffer later : List ℕ} {r : Compiled} (h : Compiling contra
 
   number-of : (f : Fault) (k : ℕ) → read contract ≡ refused f k → r .number ≡ faultNumber f
   number-of f k i =
-      h .number-is ∙ rw (refused-reply f k i) (field-back [] (four (faultNumber f)) (four 0 ∷ eight k ∷ []) (replicate compileReplyBytes 0) (omega arith) (omega (arith, fault-bounds f .1)))
+      h .holds .number-is ∙ rw (refused-reply f k i) (field-back [] (four (faultNumber f)) (four 0 ∷ eight k ∷ []) (replicate compileReplyBytes 0) (omega arith) (omega (arith, fault-bounds f .1)))
 
   place-of : (f : Fault) (k : ℕ) → read contract ≡ refused f k → r .place ≡ k
   place-of f k i =
-      h .place-is ∙ rw (refused-reply f k i) (field-back (four (faultNumber f) ∷ four 0 ∷ []) (eight k) [] (replicate compileReplyBytes 0) (omega arith) (omega (arith, place-max contract f k i)))
+      h .holds .place-is ∙ rw (refused-reply f k i) (field-back (four (faultNumber f) ∷ four 0 ∷ []) (eight k) [] (replicate compileReplyBytes 0) (omega arith) (omega (arith, place-max contract f k i)))
 
   usable : (c : Clause) → read contract ≡ taken c → Usable contract later (h .reply)
   usable c i = h .compiles .usable c i (le-refl compileReplyBytes) (roomy contract buffer e c i)
@@ -99,16 +101,16 @@ module _ {contract buffer later : List ℕ} {r : Compiled} (h : Compiling contra
     where
       go : (o : Result Clause) → read contract ≡ o → onContract (read contract) trace ≡ refusedLine (r .number) (r .place)
       go (refused f k) i = rw (i, number-of f k i, place-of f k i)
-      go (taken c) i = absurd (n (h .number-is ∙ usable c i .number-is))
+      go (taken c) i = absurd (n (h .holds .number-is ∙ usable c i .number-is))
 
-  pub taken-contract : r .number ≡ 0 → Served contract later (r .rows)
+  pub taken-contract : r .number ≡ 0 → Served contract later (r .own)
   taken-contract n = go (read contract) refl
     where
-      go : (o : Result Clause) → read contract ≡ o → Served contract later (r .rows)
+      go : (o : Result Clause) → read contract ≡ o → Served contract later (r .own)
       go (refused f k) i = absurd (omega (arith, number-of f k i, fault-bounds f .0))
       go (taken c) i =
           let u = usable c i in
-          let s : r .rows ≡ u .count = h .rows-is ∙ u .count-is in
+          let s : r .own ≡ u .count = h .holds .own-is ∙ u .count-is in
           let few : u .count ≤ maxRows = omega (arith, u .few, taken-count contract c i, taken-spells contract c i .few-records) in
           let long : length later ≡ length buffer = rw (h .compiles .gives .buffers-are) (same-long contract buffer e c i) in
           let within : rowBytes * (u .count + 1) ≤ length later = omega arith in
@@ -131,15 +133,12 @@ module _ (input : List ℕ) (end : ℕ) (e : end ≡ contractLength input) where
   abbrev rest : List ℕ
   rest = take (length input - end) (drop end input)
 
-  rest-is : rest ≡ drop end input
-  rest-is = take-all (length input - end) (drop end input) (rw length-drop (omega arith))
-
-  module _ {buffer later : List ℕ} {r : Compiled} (h : Compiling (take end input) buffer later r) (b : length buffer ≡ bufferBytes maxRecords) where
+  module _ {buffer later : List ℕ} {r : Head} (h : Compiling (take end input) buffer later r) (b : length buffer ≡ bufferBytes maxRecords) where
     pub contract-refused : ¬ (r .number ≡ 0) → onContract (read (contractOf input)) (traceOf input) ≡ refusedLine (r .number) (r .place)
     contract-refused n = rw (← e) (refused-contract h b n (drop end input))
 
     module _ (z : r .number ≡ 0) where
-      pub served : Served (take end input) later (r .rows)
+      pub served : Served (take end input) later (r .own)
       served = taken-contract h b z
 
       on-taken : onContract (read (contractOf input)) (traceOf input) ≡ onTrace (served .monitors .clause) (drop end input)
@@ -148,46 +147,38 @@ module _ (input : List ℕ) (end : ℕ) (e : end ≡ contractLength input) where
       pub trace-refused : (t : Test) → t ≡ traceTest rest → (f : Fault) (k : ℕ) → t ≡ Refused f k
           → onContract (read (contractOf input)) (traceOf input) ≡ refusedLine (numberOf t) (placeOf t)
       unfolding onTrace
-      trace-refused t i f k j = on-taken ∙ rw (← (rw rest-is at i), j)
+      trace-refused t i f k j = on-taken ∙ rw (← (rw (part-rest end input) at i), j)
 
       module _ (p : traceTest rest ≡ Passed) where
         pub may-follow : (state text : List ℕ) → length state ≡ headBytes + maxRows → length text ≡ textBytes → length input ≤ inputBytes
-            → Following (take (rowBytes * (r .rows + 1)) later) (take (headBytes + r .rows) state) rest text
+            → MayFollow (take (rowBytes * (r .own + 1)) later) (take (headBytes + r .own) state) rest text
         may-follow state text s t l =
             record {
               contract = take end input;
               monitors = served .monitors;
-              state-long = rw (served .count) (length-take-le (headBytes + r .rows) state (omega (arith, served .few)));
+              state-long = rw (served .count) (length-take-le (headBytes + r .own) state (omega (arith, served .few)));
               passed = p;
-              short = rw (rest-is, length-drop) (omega arith);
+              short = rw (part-rest end input, length-drop) (omega arith);
               room = omega arith;
             }
 
-        pub followed : {text last : List ℕ} {s : ℕ} → Followed (take (rowBytes * (r .rows + 1)) later) rest text last s
+        pub followed : {text last : List ℕ} {s : ℕ} → FollowsTrace (take (rowBytes * (r .own + 1)) later) rest text last s
             → Puts text 0 (onContract (read (contractOf input)) (traceOf input)) last s
         unfolding onTrace
         followed f =
             let m = served .monitors in
-            rw (on-taken, rw rest-is at p)
-            (rw rest-is at (f .puts (take end input) (m .clause) m (m .means)))
+            rw (on-taken, rw (part-rest end input) at p)
+            (rw (part-rest end input) at (f .puts (take end input) (m .clause) m (m .means)))
 
 -- ---- "run's on the trace" is the trace's own test: from the state that begin leaves no other test of run's refuses
 
-first-only : (t : Test) → firstOf t Passed ≡ t
-first-only Passed = refl
-first-only (Refused f k) = refl
-
 module _ (image state reply : List ℕ) (g : imageTest image ≡ Passed) (e : length state ≡ headBytes + rowCount image)
     (r : beginReplyBytes ≤ length reply) where
-  begins : beginTest image state ≡ Passed
-  unfolding beginTest
-  begins = rw (g, eq-eqb (length state) (headBytes + rowCount image) e)
-
-  begun : stateOf (begin image state reply .buffers) ≡ freshState (rowCount image)
-  begun = rw (begin-written image state reply r begins, e) (fresh-read (rowCount image))
+  begin-fresh : stateOf (begin image state reply .buffers) ≡ freshState (rowCount image)
+  begin-fresh = rw (begin-written image state reply r (begin-passes image state g e), e) (fresh-read (rowCount image))
 
   pub only-trace : (trace : List ℕ) → length trace ≤ inputBytes → runTest image (begin image state reply .buffers) trace ≡ traceTest trace
   unfolding runTest countTest
   only-trace trace l =
       let few : periodRecords trace ≤ maxPeriods = omega (arith, few-whole (formOf trace) trace) in
-      rw (begin-sound image state reply r begins, begun, zero-add, le-leb (periodRecords trace) maxPeriods few) (first-only (traceTest trace))
+      rw (begin-sound image state reply r (begin-passes image state g e), begin-fresh, zero-add, le-leb (periodRecords trace) maxPeriods few) (first-only (traceTest trace))

@@ -8,7 +8,7 @@ use lib.Dec.{eqb}
 use lib.ListN.{length}
 use borrow.Author.Tests.{eq-eqb, ne-eqb}
 use Rattle.records.specs.Refusals.{firstFailing}
-use Rattle.records.proofs.Refusals.{failing-max}
+use Rattle.records.proofs.Searches.{failing-max}
 use Rattle.periods.specs.declared.Form.the-variants.{Short}
 use Rattle.periods.specs.Forms.{periodBytes}
 use Rattle.periods.specs.Traces.{wholePeriods}

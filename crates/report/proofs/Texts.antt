@@ -1,16 +1,16 @@
--- Laws of the lines: puts one behind the other, verdicts by their numbers, and how long numbers and lines are.
+-- Laws of the lines: puts one behind the other, and how long numbers and lines are.
 use Prim.Native.Nat.{ℕ, zero, suc, _+_, _/_, _%_, _^_, _≤_, _<_}
 use native.Mathlib.Nat.{add-suc, div-lt-self, div-lt-iff-lt-mul}
 use native.Mathlib.Numerals.{add-one}
 use native.Mathlib.Omega.{arith}
 use mathlib.Core.Bool.{Bool, true, false}
 use mathlib.Core.List.{List, [], _∷_, _++_}
-use mathlib.Core.Path.{_≡_, refl, sym, ap, _∙_}
+use mathlib.Core.Path.{_≡_, refl, ap, _∙_}
 use lib.Dec.{ltb}
 use lib.ListN.{length, take, getD, set, length-append}
 use lib.Seq.{take-suc, length-sets}
 use borrow.Author.Tests.{lt-ltb, le-ltb, ltb-false}
-use Rattle.records.specs.Verdicts.{Verdict, «open», met, broken, met-after, broken-after, verdictNumber, verdictName}
+use Rattle.records.specs.Verdicts.{Verdict, «open», met, broken, met-after, broken-after, verdictName}
 use Rattle.records.proofs.Written.{sets-append}
 use Rattle.report.specs.Limits.{inputPeriods, nameBytes, lineBytes}
 use Rattle.report.specs.Texts.{ascii, digit, digits, decimal, periodLine, decidedLine, refusedLine, Puts}
@@ -41,28 +41,6 @@ pub puts-next : (text : List ℕ) (at : ℕ) (word : List ℕ) (k : ℕ) {later 
     → Puts text at (take (k + 1) word) (set later (at + k) (getD word k 0)) (at + (k + 1))
 puts-next text at word k {later} h l p =
     rw (add-one, take-suc word k 0, add-suc, ← add-one) (puts-both text at (take k word) (getD word k 0 ∷ []) p (puts-one later (at + k) (getD word k 0) (omega (arith, puts-length p))))
-
--- ---- verdicts and their numbers
-
-abbrev verdictOf : ℕ → Verdict
-verdictOf n = getD («open» ∷ met ∷ broken ∷ met-after ∷ []) n broken-after
-
-verdictOf-number : (v : Verdict) → verdictOf (verdictNumber v) ≡ v
-verdictOf-number «open» = refl
-verdictOf-number met = refl
-verdictOf-number broken = refl
-verdictOf-number met-after = refl
-verdictOf-number broken-after = refl
-
-pub same-verdict : (v w : Verdict) → verdictNumber v ≡ verdictNumber w → v ≡ w
-same-verdict v w e = sym (verdictOf-number v) ∙ ap verdictOf e ∙ verdictOf-number w
-
-pub few-verdicts : (v : Verdict) → verdictNumber v ≤ 4
-few-verdicts «open» = omega arith
-few-verdicts met = omega arith
-few-verdicts broken = omega arith
-few-verdicts met-after = omega arith
-few-verdicts broken-after = omega arith
 
 -- ---- numbers
 

@@ -5,7 +5,10 @@ use mathlib.Core.List.{List, []}
 use mathlib.Core.Path.{_≡_}
 use lib.ListN.{length, replicate}
 use Rattle.records.specs.Fields.{field}
+use Rattle.records.specs.Holding.{HoldsHead}
+use Rattle.records.specs.declared.Head.{Head}
 use Rattle.records.specs.declared.Test.the-variants.{Passed}
+use Rattle.records.specs.Replies.{ownIn, headSize}
 use Rattle.periods.specs.Periods.{Period}
 use Rattle.periods.specs.Traces.{periodRecords, markedAt, traceTest, periodRecordAt}
 use Rattle.layout.specs.Images.{rowCount}
@@ -17,26 +20,23 @@ use Rattle.reader.specs.Reader.{taken, read}
 use Rattle.image.specs.Monitors.{AnswersCalls, Monitors}
 use Rattle.compiler.specs.Calls.{compileReplyBytes, Compiles}
 use Rattle.report.specs.declared.Stepped.{Stepped}
-use Rattle.report.specs.declared.Compiled.{Compiled}
 use Rattle.report.specs.Limits.{inputBytes, lineBytes, inputPeriods, textBytes}
 use Rattle.report.specs.Texts.{Puts}
 use Rattle.report.specs.Reports.{lines}
 
 -- what compile leaves where its reply is read from an area of zeros
-pub record Compiling (contract buffer later : List ℕ) (r : Compiled) : Type 0 where
+pub record Compiling (contract buffer later : List ℕ) (h : Head) : Type 0 where
   pub result : ℕ
   pub reply : List ℕ
   pub compiles : Compiles contract buffer (replicate compileReplyBytes 0) result later reply
-  pub number-is : r .number ≡ field reply 0 4
-  pub rows-is : r .rows ≡ field reply 4 4
-  pub place-is : r .place ≡ field reply 8 8
+  pub holds : HoldsHead reply h
 
 -- what a step on record k of a trace leaves where its reply is read from an area of zeros
 pub record Stepping (image state trace : List ℕ) (k : ℕ) (later : List ℕ) (r : Stepped) : Type 0 where
   pub state-is : later ≡ step image state (periodRecordAt trace k) (replicate stepReplyBytes 0) .buffers
-  pub verdict-is : r .verdict ≡ field (step image state (periodRecordAt trace k) (replicate stepReplyBytes 0) .reply) 4 4
-  pub blame-is : r .blame ≡ field (step image state (periodRecordAt trace k) (replicate stepReplyBytes 0) .reply) 16 4
-  pub decision-is : r .decision ≡ field (step image state (periodRecordAt trace k) (replicate stepReplyBytes 0) .reply) 20 4
+  pub verdict-is : r .verdict ≡ ownIn (step image state (periodRecordAt trace k) (replicate stepReplyBytes 0) .reply)
+  pub blame-is : r .blame ≡ field (step image state (periodRecordAt trace k) (replicate stepReplyBytes 0) .reply) headSize 4
+  pub decision-is : r .decision ≡ field (step image state (periodRecordAt trace k) (replicate stepReplyBytes 0) .reply) (headSize + 4) 4
 
 -- from this state, after the periods w, every list of step calls is answered by what the clause means
 pub record Follows (c : Clause) (image state : List ℕ) (w : List Period) : Type 0 where
@@ -44,7 +44,7 @@ pub record Follows (c : Clause) (image state : List ℕ) (w : List Period) : Typ
   pub answers : (calls : List StepCall) → AnswersCalls c image state w calls
 
 -- a state to begin with, a trace of n good records and room for their lines
-pub record Listing (image state trace : List ℕ) (n : ℕ) (text : List ℕ) : Type 0 where
+pub record MayList (image state trace : List ℕ) (n : ℕ) (text : List ℕ) : Type 0 where
   pub clause : Clause
   pub follows : Follows clause image state []
   pub whole : n ≤ periodRecords trace
@@ -53,11 +53,11 @@ pub record Listing (image state trace : List ℕ) (n : ℕ) (text : List ℕ) : 
   pub room : lineBytes * (n + 1) ≤ length text
 
 -- the lines are those of whichever clause the state follows
-pub record Listed (image state trace : List ℕ) (n : ℕ) (text later : List ℕ) (r : ℕ) : Type 0 where
+pub record Lists (image state trace : List ℕ) (n : ℕ) (text later : List ℕ) (r : ℕ) : Type 0 where
   pub puts : (c : Clause) → Follows c image state [] → Puts text 0 (lines c trace n) later r
 
 -- an image that monitors a contract with its clause, a state for its rows, a trace without a fault and room for its lines
-pub record Following (image state trace text : List ℕ) : Type 0 where
+pub record MayFollow (image state trace text : List ℕ) : Type 0 where
   pub contract : List ℕ
   pub monitors : Monitors contract image
   pub state-long : length state ≡ headBytes + rowCount image
@@ -66,5 +66,5 @@ pub record Following (image state trace text : List ℕ) : Type 0 where
   pub room : textBytes ≤ length text
 
 -- the lines are those of whichever contract the image monitors
-pub record Followed (image trace text later : List ℕ) (r : ℕ) : Type 0 where
+pub record FollowsTrace (image trace text later : List ℕ) (r : ℕ) : Type 0 where
   pub puts : (contract : List ℕ) (c : Clause) → Monitors contract image → read contract ≡ taken c → Puts text 0 (lines c trace (periodRecords trace)) later r

@@ -13,9 +13,10 @@ ghost use Rattle.report.specs.Limits.{inputBytes, inputPeriods, nameByte
 ghost use Rattle.report.specs.Texts.{ascii, decimal, periodLine, decidedLine, refusedLine, Puts};
 ghost use Rattle.report.specs.Split.{contractLength, contractOf, traceOf};
 ghost use Rattle.report.specs.Reports.{onContract, report};
-ghost use Rattle.report.specs.Putting.{Compiling, Stepping, Listing, Listed, Following, Followed};
+ghost use Rattle.report.specs.Putting.{Compiling, Stepping, MayList, Lists, MayFollow, FollowsTrace};
 use periods::Form;
 use records::Fault;
+use records::Head;
 use records::Test;
 
 // The most bytes of an input.
@@ -131,24 +132,15 @@ fn contract_length(input: &[u8]) -> usize
     periods::period_bytes(Form::Short) * k
 }
 
-// ---- compile and step, with their replies' fields
+// ---- compile and step, and what they reply
 
-pub struct Compiled {
-    pub number: u32,
-    pub rows: u32,
-    pub place: u64,
-}
-
-fn compile(contract: &[u8], image: &mut [u8]) -> Compiled
+// Compile's reply: its number, row count and place.
+fn compile(contract: &[u8], image: &mut [u8]) -> Head
     ensures { λ r. ⌜ Compiling (now (contract .entry)) (now (image .entry)) (now (image .exit)) r ⌝ }
 {
     let mut reply = [0u8; compiler::COMPILE_REPLY_BYTES];
     compiler::monitor_compile(contract, image, &mut reply);
-    Compiled {
-        number: records::get4(&reply, 0),
-        rows: records::get4(&reply, 4),
-        place: records::get8(&reply, 8),
-    }
+    records::get_head(&reply)
 }
 
 pub struct Stepped {
@@ -166,8 +158,9 @@ fn step(image: &[u8], state: &mut [u8], trace: &[u8], k: usize) -> Stepped
     let from = bytes * k;
     let mut reply = [0u8; runner::STEP_REPLY_BYTES];
     runner::monitor_step(image, state, &trace[from..from + bytes], &mut reply);
+    let head = records::get_head(&reply);
     Stepped {
-        verdict: records::get4(&reply, 4),
+        verdict: head.own,
         blame: records::get4(&reply, records::REPLY_HEAD),
         decision: records::get4(&reply, records::REPLY_HEAD + 4),
     }
@@ -177,8 +170,8 @@ fn step(image: &[u8], state: &mut [u8], trace: &[u8], k: usize) -> Stepped
 
 // Puts the lines of n periods, then the decision period. The state has been begun.
 fn put_lines(image: &[u8], state: &mut [u8], trace: &[u8], n: usize, text: &mut [u8]) -> usize
-    requires { ⌜ Listing (now image) (now state) (now trace) n (now text) ⌝ }
-    ensures { λ r. ⌜ Listed (now (image .entry)) (now (state .entry)) (now (trace .entry)) n (now (text .entry)) (now (text .exit)) r ⌝ }
+    requires { ⌜ MayList (now image) (now state) (now trace) n (now text) ⌝ }
+    ensures { λ r. ⌜ Lists (now (image .entry)) (now (state .entry)) (now (trace .entry)) n (now (text .entry)) (now (text .exit)) r ⌝ }
 {
     let mut at = 0;
     let mut decision = 0;
@@ -194,8 +187,8 @@ fn put_lines(image: &[u8], state: &mut [u8], trace: &[u8], n: usize, text: &mut 
 
 // Begins a state and puts the lines of a trace without a fault.
 fn follow(image: &[u8], state: &mut [u8], trace: &[u8], text: &mut [u8]) -> usize
-    requires { ⌜ Following (now image) (now state) (now trace) (now text) ⌝ }
-    ensures { λ r. ⌜ Followed (now (image .entry)) (now (trace .entry)) (now (text .entry)) (now (text .exit)) r ⌝ }
+    requires { ⌜ MayFollow (now image) (now state) (now trace) (now text) ⌝ }
+    ensures { λ r. ⌜ FollowsTrace (now (image .entry)) (now (trace .entry)) (now (text .entry)) (now (text .exit)) r ⌝ }
 {
     let mut reply = [0u8; runner::BEGIN_REPLY_BYTES];
     runner::monitor_begin(image, state, &mut reply);
@@ -220,7 +213,7 @@ fn put_parts(input: &[u8], image: &mut [u8], state: &mut [u8], text: &mut [u8]) 
     let Test::Passed = t else {
         return put_refused(text, records::number(t) as u64, records::place(t));
     };
-    let rows = compiled.rows as usize;
+    let rows = compiled.own as usize;
     let image_length = layout::ROW_BYTES * (rows + 1);
     let state_length = states::HEAD_BYTES + rows;
     follow(

@@ -1,11 +1,11 @@
 -- The bytes of the replies of begin, step and run. Document 01, "Calls" and "Replies that refuse".
-use Prim.Native.Nat.{ℕ}
+use Prim.Native.Nat.{ℕ, _+_}
 use mathlib.Core.Path.{_≡_, refl, _∙_}
 use mathlib.Core.List.{List, [], _∷_, append-nil}
 use lib.Seq.{sets}
 use Rattle.records.specs.Fields.{bytes}
 use Rattle.records.specs.declared.Test.{Test}
-use Rattle.records.specs.Replies.{four, fieldsBytes, alone, replyFields, replyOf}
+use Rattle.records.specs.Replies.{four, fieldsBytes, alone, replyFields, replyOf, headSize}
 use Rattle.records.proofs.Fields.{length-bytes}
 use Rattle.records.proofs.Written.{sets-append}
 use Rattle.records.proofs.Replies.{fields-written}
@@ -17,6 +17,6 @@ reply-bytes = (refl, refl)
 
 -- the first three fields, and then blame and decision period
 pub step-written : (area : List ℕ) (t : Test) (v b d : ℕ)
-    → sets area 0 (replyOf t (stepAnswer v b d)) ≡ sets (sets (sets area 0 (replyOf t (alone v))) 16 (bytes 4 b)) 20 (bytes 4 d)
+    → sets area 0 (replyOf t (stepAnswer v b d)) ≡ sets (sets (sets area 0 (replyOf t (alone v))) headSize (bytes 4 b)) (headSize + 4) (bytes 4 d)
 unfolding fieldsBytes
 step-written area t v b d = fields-written area (replyFields t (alone v)) (four b ∷ four d ∷ []) ∙ simp (append-nil, sets-append, length-bytes)

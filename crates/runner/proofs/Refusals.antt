@@ -1,10 +1,11 @@
--- What passed tests of step and run show. Document 01, "Replies that refuse".
-use Prim.Native.Nat.{ℕ, _-_, _≤_, _<_}
+-- What passed tests of begin, step and run show, and which faults they can give. Document 01, "Replies that refuse".
+use Prim.Native.Nat.{ℕ, _+_, _≤_, _<_}
 use native.Mathlib.Omega.{arith}
 use mathlib.Core.Path.{_≡_}
 use mathlib.Core.Bool.{true}
 use mathlib.Core.List.{List, _++_}
 use lib.ListN.{length}
+use borrow.Author.Tests.{eq-eqb}
 use Rattle.records.specs.declared.Fault.{Fault}
 use Rattle.records.specs.declared.Test.{Test}
 use Rattle.records.specs.declared.Test.the-variants.{Passed}
@@ -18,9 +19,20 @@ use Rattle.layout.proofs.Images.{imageFaults, image-only}
 use Rattle.states.specs.Limits.{headBytes}
 use Rattle.states.specs.States.{stateOf, sound}
 use Rattle.states.specs.Refusals.{stateLengthTest, stateTest, countTest}
-use Rattle.states.proofs.Refusals.{state-passed, passed-count, stateFaults, countFaults, length-only, state-only, count-only}
+use Rattle.states.proofs.Refusals.{length-passed, state-passed, passed-count, stateFaults, countFaults, length-only, state-only, count-only}
 use Rattle.machine.specs.Premises.{Ready}
 use Rattle.runner.specs.Refusals.{beginTest, readyTest, stepTest, runTest}
+
+-- a good image and a state as long as its rows ask pass begin's tests
+pub begin-passes : (image state : List ℕ) → imageTest image ≡ Passed → length state ≡ headBytes + rowCount image → beginTest image state ≡ Passed
+unfolding beginTest
+begin-passes image state g e = rw (g, eq-eqb (length state) (headBytes + rowCount image) e)
+
+pub begin-passed : (image state : List ℕ) → beginTest image state ≡ Passed → (imageTest image ≡ Passed) × (length state ≡ headBytes + rowCount image)
+unfolding beginTest
+begin-passed image state h =
+    let b = first-passed (imageTest image) (stateLengthTest (rowCount image) state) h in
+    (b .0, length-passed (rowCount image) state (b .1))
 
 pub ready-passed : (image state : List ℕ) → readyTest image state ≡ Passed → (imageTest image ≡ Passed) × (stateTest (rowCount image) state ≡ Passed)
 unfolding readyTest

@@ -15,9 +15,10 @@ use Rattle.records.specs.Holding.{AllBytes}
 use Rattle.records.specs.declared.Fault.the-variants.{BadPeriod, FullCount}
 use Rattle.records.specs.declared.Test.the-variants.{Passed, Refused}
 use Rattle.records.specs.Refusals.{passed}
-use Rattle.records.proofs.Numbers.{lt-or-le}
+use Rattle.records.proofs.Cases.{lt-or-le}
 use Rattle.records.proofs.Fields.{field-lt}
-use Rattle.records.proofs.Refusals.{failing-is, all-pass, first-refused}
+use Rattle.records.proofs.Searches.{failing-is, all-pass}
+use Rattle.records.proofs.Refusals.{first-refused}
 use Rattle.records.specs.Replies.{replyOf, After, written}
 use Rattle.records.proofs.Replies.{call-no-room, call-passed, call-refused}
 use Rattle.periods.specs.Forms.{periodBytes, formOf}

@@ -12,8 +12,8 @@ use lib.Dec.{leb}
 use lib.ListN.{length, replicate}
 use Rattle.records.specs.declared.Test.the-variants.{Passed}
 use Rattle.records.specs.Refusals.{passed}
-use Rattle.records.proofs.Numbers.{lt-or-le}
-use Rattle.records.proofs.Refusals.{true-or-false, first-passed, passed-first, passed-is, passed-not}
+use Rattle.records.proofs.Cases.{lt-or-le, true-or-false}
+use Rattle.records.proofs.Refusals.{passed-first, passed-is, passed-not}
 use Rattle.records.specs.Replies.{alone, After, written}
 use Rattle.records.proofs.Replies.{call-no-room, call-passed, call-refused}
 use Rattle.periods.specs.Traces.{periodAt}
@@ -21,8 +21,8 @@ use Rattle.layout.specs.Images.{rowCount, imageOf}
 use Rattle.layout.specs.Refusals.{imageTest}
 use Rattle.states.specs.Limits.{headBytes}
 use Rattle.states.specs.States.{stateOf, stateBytes}
-use Rattle.states.specs.Refusals.{stateLengthTest, stateTest}
-use Rattle.states.proofs.Refusals.{length-passed, state-passed}
+use Rattle.states.specs.Refusals.{stateTest}
+use Rattle.states.proofs.Refusals.{state-passed}
 use Rattle.states.proofs.States.{sound-passes}
 use Rattle.states.proofs.Fresh.{freshState, fresh-bytes, fresh-sound}
 use Rattle.machine.specs.Machine.{afterPeriod, afterPeriods}
@@ -32,7 +32,7 @@ use Rattle.machine.proofs.Steps.{later-ready, step-read}
 use Rattle.runner.specs.Refusals.{beginTest, readyTest, stepTest}
 use Rattle.runner.specs.Calls.{beginReplyBytes, stepReplyBytes, answer, begin, step}
 use Rattle.runner.specs.StepCalls.{StepCall, accepted, stateAfterCall, stateAfter, acceptedCount}
-use Rattle.runner.proofs.Refusals.{ready-passed, step-ready}
+use Rattle.runner.proofs.Refusals.{begin-passed, ready-passed, step-ready}
 
 -- ---- one call
 
@@ -147,21 +147,15 @@ keeps-decision image state (c ∷ cs) d =
 
 -- begin leaves that state, which is sound
 module _ (image state reply : List ℕ) (r : beginReplyBytes ≤ length reply) (h : beginTest image state ≡ Passed) where
-  begun : (imageTest image ≡ Passed) × (length state ≡ headBytes + rowCount image)
-  unfolding beginTest
-  begun =
-      let b = first-passed (imageTest image) (stateLengthTest (rowCount image) state) h in
-      (b .0, length-passed (rowCount image) state (b .1))
-
   pub begin-written : begin image state reply ≡ written (replicate (length state) 0) reply Passed (alone 0)
   unfolding begin
   begin-written = call-passed (beginTest image state) _ _ _ reply r h
 
   pub begin-state : begin image state reply .buffers ≡ stateBytes (freshState (rowCount image))
-  begin-state = ap (λ (x : After (List ℕ)). x .buffers) begin-written ∙ rw (begun .1) (fresh-bytes (rowCount image))
+  begin-state = ap (λ (x : After (List ℕ)). x .buffers) begin-written ∙ rw (begin-passed image state h .1) (fresh-bytes (rowCount image))
 
   pub begin-sound : readyTest image (begin image state reply .buffers) ≡ Passed
   unfolding readyTest
   begin-sound =
-      passed-first (imageTest image) (stateTest (rowCount image) (begin image state reply .buffers)) (begun .0)
+      passed-first (imageTest image) (stateTest (rowCount image) (begin image state reply .buffers)) (begin-passed image state h .0)
       (rw begin-state (sound-passes (rowCount image) (freshState (rowCount image)) (fresh-sound (rowCount image)) (omega arith)))

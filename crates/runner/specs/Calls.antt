@@ -4,7 +4,7 @@ use Prim.Native.Nat.{ℕ}
 use mathlib.Core.List.{List, [], _∷_}
 use lib.ListN.{length, replicate}
 use Rattle.records.specs.Verdicts.{verdictNumber}
-use Rattle.records.specs.Replies.{four, Answer, alone, replyBytes, After, call}
+use Rattle.records.specs.Replies.{four, Answer, alone, replyBytes, headSize, After, call}
 use Rattle.periods.specs.Traces.{periodRecords, periodAt, periodsOf}
 use Rattle.layout.specs.Images.{imageOf}
 use Rattle.states.specs.States.{State, stateOf, stateBytes}
@@ -24,7 +24,7 @@ answer s = stepAnswer (verdictNumber (verdict s)) (s .blame) (s .decision)
 
 -- the bytes of their replies
 abbrev pub beginReplyBytes : ℕ
-beginReplyBytes = replyBytes (alone 0)
+beginReplyBytes = headSize
 
 abbrev pub stepReplyBytes : ℕ
 stepReplyBytes = replyBytes (stepAnswer 0 0 0)

@@ -1,11 +1,11 @@
 -- The bytes of a state. Document 01, "Image and row machine", from "State".
-use Prim.Native.Nat.{ℕ, _+_, _-_, _^_, _≤_, _<_}
-use native.Mathlib.Nat.{mod-eq-of-lt, le-refl}
+use Prim.Native.Nat.{ℕ, _+_, _^_, _≤_, _<_}
+use native.Mathlib.Nat.{mod-eq-of-lt}
 use native.Mathlib.Omega.{arith}
 use mathlib.Core.Path.{_≡_, refl, _∙_}
 use mathlib.Core.List.{List, [], _∷_, _++_, append-assoc}
-use lib.ListN.{length, take, drop, length-append, length-drop, take-append-drop}
-use lib.Seq.{take-all, drop-cons, drop-drop, drop-at}
+use lib.ListN.{length, drop, length-append, take-append-drop}
+use lib.Seq.{drop-cons, drop-drop, drop-at}
 use borrow.Author.Tests.{eq-eqb}
 use Rattle.records.specs.Fields.{bytes, field}
 use Rattle.records.specs.Holding.{AllBytes}
@@ -18,10 +18,6 @@ use Rattle.states.specs.Refusals.{stateTest}
 use Rattle.states.proofs.Soundness.{Sound, decision≤, facts-sound}
 
 -- ---- the bytes of a state
-
--- the rest of a list from a place on, as a part of it
-pub part-rest : (n : ℕ) (l : List ℕ) → take (length l - n) (drop n l) ≡ drop n l
-part-rest n l = take-all (length l - n) (drop n l) (simp length-drop (le-refl (length l - n)))
 
 pub length-stateBytes : (s : State) → length (stateBytes s) ≡ headBytes + length (s .values)
 unfolding stateBytes

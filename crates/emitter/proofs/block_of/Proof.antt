@@ -5,7 +5,7 @@ use mathlib.Core.Path.{_≡_}
 use borrow.Author.Needs.{needs}
 use borrow.Author.Tests.{eq-eqb, ne-eqb}
 use lib.Dec.{eqb}
-use Rattle.periods.specs.Periods.{party2, number}
+use Rattle.periods.specs.Periods.{party2, partyNumber}
 use Rattle.emitter.specs.Blocks.{recordBlock}
 use Rattle.emitter.proofs.block_of.Statement.{statement}
 use Rattle.emitter.proofs.block_of.Tie as tie
@@ -37,7 +37,7 @@ returns c =
     let others = known .before .value-at3 in
     let own = known .before .before .value-at2 in
     let sat = known .before .before .before .value-at in
-    let second = eqb (known .before .before .before .before .before .before .args .r .party) (number party2) in
+    let second = eqb (known .before .before .before .before .before .before .args .r .party) (partyNumber party2) in
     let one-is : one .if1 .one ≡ cond second (others .result) (own .result) =
     ⊎-elim (λ w. rw (eq-eqb _ _ (w .0 .taken)) (w .1)) (λ w. rw (ne-eqb _ _ (w .0 .left)) (w .1)) (one .if1 .came) in
     let two-is : two .if2 .two ≡ cond second (own .result) (others .result) =

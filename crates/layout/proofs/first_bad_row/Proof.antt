@@ -5,7 +5,7 @@ use native.Mathlib.Nat.{sub-zero}
 use native.Mathlib.Omega.{arith}
 use mathlib.Core.Path.{_≡_, sym, _∙_}
 use Rattle.records.specs.Refusals.{firstFailing}
-use Rattle.records.proofs.Refusals.{failing-next, failing-here, failing-end}
+use Rattle.records.proofs.Searches.{failing-next, failing-here, failing-end}
 use Rattle.layout.specs.Images.{goodRowAt}
 use Rattle.layout.proofs.first_bad_row.Statement.{statement}
 use Rattle.layout.proofs.first_bad_row.Tie as tie

@@ -5,7 +5,7 @@ use native.Mathlib.Omega.{arith}
 use mathlib.Core.Path.{_≡_}
 use mathlib.Core.Bool.{true, false}
 use mathlib.Core.Logic.{⊎-elim}
-use Rattle.layout.specs.Images.{rowCount, goodLength}
+use Rattle.layout.specs.Images.{rowCount, goodImageLength}
 use Rattle.layout.specs.Refusals.{imageTest}
 use Rattle.layout.proofs.Images.{uneven, too-short, too-long, right-length}
 use Rattle.layout.proofs.image_test.Statement.{statement}
@@ -29,7 +29,7 @@ returns : tie.Need-returns
 unfolding imageTest
 returns c =
     let l = c .before .before .args .image .now in
-    let e : goodLength l ≡ false =
+    let e : goodImageLength l ≡ false =
     ⊎-elim
     (λ w. uneven l (w .taken))
     (⊎-elim (λ w. too-short l (ltb-true _ _ (w .1 .taken))) (λ w. too-long l (ltb-true _ _ (w .2 .taken))))
@@ -45,7 +45,7 @@ first-bad-row-requires c κs = omega (arith, c .row-count .ensures)
 
 -- past the tests of the length
 right : (c : lts.Else3 (row-count-reads.Asked, row-count-reads.Learnt, first-bad-row-reads.Asked, first-bad-row-reads.Learnt, good-end-reads.Asked, good-end-reads.Learnt) reads.Pre reads.Post)
-    → goodLength (c .before .before .before .before .args .image .now) ≡ true
+    → goodImageLength (c .before .before .before .before .args .image .now) ≡ true
 right c =
     right-length (c .before .before .before .before .args .image .now) (c .before .before .if1 .left) (ltb-false _ _ (c .before .if2 .left)) (ltb-false _ _ (c .if3 .left))
 

@@ -7,7 +7,7 @@ use mathlib.Core.Path.{_≡_, sym, _∙_}
 use borrow.Author.Tests.{not-true, not-false}
 use lib.ListN.{length}
 use Rattle.records.specs.Refusals.{firstFailing}
-use Rattle.records.proofs.Refusals.{failing-here, failing-next, failing-end}
+use Rattle.records.proofs.Searches.{failing-here, failing-next, failing-end}
 use Rattle.periods.specs.Forms.{periodBytes}
 use Rattle.periods.specs.Traces.{markedAs}
 use Rattle.periods.specs.Computing.{marksAre}

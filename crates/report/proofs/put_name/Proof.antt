@@ -3,7 +3,7 @@ use native.Mathlib.Omega.{arith}
 use mathlib.Core.Path.{sym, _∙_}
 use borrow.Author.Needs.{needs}
 use Rattle.records.specs.Verdicts.{«open», met, broken, met-after, broken-after}
-use Rattle.report.proofs.Texts.{same-verdict, few-verdicts}
+use Rattle.records.proofs.Verdicts.{same-verdict, few-verdicts}
 use Rattle.report.proofs.put_name.Statement.{statement}
 use Rattle.report.proofs.put_name.Tie as tie
 

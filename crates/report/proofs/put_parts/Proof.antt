@@ -108,7 +108,7 @@ add-state-length c = search needs
 
 -- past compile the image is in its buffer
 compiled : (c : lts.Else1 (contract-length-reads.Asked, contract-length-reads.Learnt, compile-reads.Asked, compile-reads.Learnt, put-refused-reads.Asked, put-refused-reads.Learnt, trace-test-reads.Asked, trace-test-reads.Learnt, number-reads.Asked, number-reads.Learnt, place-reads.Asked, place-reads.Learnt, follow-reads.Asked, follow-reads.Learnt) reads.Pre reads.Post)
-    → Served (take (c .before .before .before .before .before .before .before .contract-length .result) (c .before .before .before .before .before .before .before .before .before .before .before .before .args .input .now)) (c .before .before .before .before .compile .last .1 .0) (c .before .before .before .before .compile .result .rows)
+    → Served (take (c .before .before .before .before .before .before .before .contract-length .result) (c .before .before .before .before .before .before .before .before .before .before .before .before .args .input .now)) (c .before .before .before .before .compile .last .1 .0) (c .before .before .before .before .compile .result .own)
 compiled c =
     let d = c .before .before .before .before in
     let k = d .before .before .before in

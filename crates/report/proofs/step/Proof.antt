@@ -2,7 +2,7 @@
 use borrow.Author.Needs.{needs}
 use Prim.Native.Nat.{_+_, _*_, _≤_}
 use native.Mathlib.Omega.{arith}
-use mathlib.Core.Path.{_≡_, ap, _∙_}
+use mathlib.Core.Path.{_≡_, refl, ap, _∙_}
 use lib.ListN.{length}
 use Rattle.periods.specs.Forms.{periodBytes, formOf}
 use Rattle.periods.proofs.Forms.{period-inside}
@@ -14,6 +14,7 @@ use Rattle.report.proofs.step.Lts as lts
 use Rattle.periods.proofs.form_of.Reads as form-of-reads
 use Rattle.periods.proofs.period_bytes.Reads as period-bytes-reads
 use Rattle.records.proofs.get4.Reads as get4-reads
+use Rattle.records.proofs.get_head.Reads as get-head-reads
 use Rattle.runner.proofs.monitor_step.Reads as monitor-step-reads
 
 form-of-requires : tie.Need-form-of-requires
@@ -23,7 +24,7 @@ period-bytes-requires : tie.Need-period-bytes-requires
 period-bytes-requires c κs = search needs
 
 -- the record is inside the trace
-inside : (c : lts.After-period-bytes (form-of-reads.Asked, form-of-reads.Learnt, period-bytes-reads.Asked, period-bytes-reads.Learnt, monitor-step-reads.Asked, monitor-step-reads.Learnt, get4-reads.Asked, get4-reads.Learnt) reads.Pre reads.Post)
+inside : (c : lts.After-period-bytes (form-of-reads.Asked, form-of-reads.Learnt, period-bytes-reads.Asked, period-bytes-reads.Learnt, monitor-step-reads.Asked, monitor-step-reads.Learnt, get-head-reads.Asked, get-head-reads.Learnt, get4-reads.Asked, get4-reads.Learnt) reads.Pre reads.Post)
     → let a = c .before .before .before .before .before .args in
     (c .period-bytes .result ≡ periodBytes (formOf (a .trace .now))) × (c .period-bytes .result * a .k + c .period-bytes .result ≤ length (a .trace .now))
 inside c =
@@ -53,6 +54,12 @@ slice-aggregate-monitor-step c = search needs
 monitor-step-requires : tie.Need-monitor-step-requires
 monitor-step-requires c κs = search needs
 
+slice-aggregate-get-head : tie.Need-slice-aggregate-get-head
+slice-aggregate-get-head c = search needs
+
+get-head-requires : tie.Need-get-head-requires
+get-head-requires c κs = search needs
+
 slice-aggregate-get4 : tie.Need-slice-aggregate-get4
 slice-aggregate-get4 c = search needs
 
@@ -62,17 +69,11 @@ get4-requires c κs = search needs
 slice-aggregate-get4-2 : tie.Need-slice-aggregate-get4-2
 slice-aggregate-get4-2 c = search needs
 
-get4-requires-2 : tie.Need-get4-requires-2
-get4-requires-2 c κs = search needs
-
-slice-aggregate-get4-3 : tie.Need-slice-aggregate-get4-3
-slice-aggregate-get4-3 c = search needs
-
 add-get4 : tie.Need-add-get4
 add-get4 c = search needs
 
-get4-requires-3 : tie.Need-get4-requires-3
-get4-requires-3 c κs = search needs
+get4-requires-2 : tie.Need-get4-requires-2
+get4-requires-2 c κs = search needs
 
 same-length : tie.Need-same-length
 same-length c = search needs
@@ -80,7 +81,7 @@ same-length c = search needs
 returns : tie.Need-returns
 returns c =
     let m = c .before .before .before .before .before .before .before .before .before in
-    stepped-on _ _ _ _ _ (inside (m .before .before .before .before) .0) _ _ _ (m .monitor-step .ensures) _ (c .before .before .before .before .get4 .ensures) (c .before .before .get42 .ensures) (c .get43 .ensures)
+    stepped-on _ _ _ _ _ (inside (m .before .before .before .before) .0) _ _ _ (m .monitor-step .ensures) _ _ (c .before .before .before .before .get-head .ensures) refl (c .before .before .get4 .ensures) (c .get42 .ensures)
 
 pub step-spec : {M : Type 1} → statement M
 step-spec =
@@ -95,12 +96,12 @@ step-spec =
     part-monitor-step-end
     slice-aggregate-monitor-step
     monitor-step-requires
+    slice-aggregate-get-head
+    get-head-requires
     slice-aggregate-get4
     get4-requires
     slice-aggregate-get4-2
-    get4-requires-2
-    slice-aggregate-get4-3
     add-get4
-    get4-requires-3
+    get4-requires-2
     same-length
     returns)

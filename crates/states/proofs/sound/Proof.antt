@@ -10,7 +10,7 @@ use Rattle.records.proofs.wide.Reads as wide-reads
 use Rattle.states.proofs.sound_head.Reads as sound-head-reads
 use Rattle.states.proofs.all_at_most.Reads as all-at-most-reads
 use Rattle.states.proofs.Soundness.{HeadSound, unsound-head, sound-none-taken, sound-some-taken}
-use Rattle.states.proofs.States.{part-rest}
+use Rattle.records.proofs.Written.{part-rest}
 use Rattle.states.proofs.sound.Statement.{statement}
 use Rattle.states.proofs.sound.Tie as tie
 use Rattle.states.proofs.sound.Reads as reads
