@@ -3,7 +3,7 @@
 #include "testing.h"
 
 _Static_assert(MONITOR_BUFFER_BYTES(1) == 776, "776 bytes take one record");
-_Static_assert(MONITOR_BUFFER_BYTES(MONITOR_MOST_RECORDS) == BUFFER_BYTES, "16,904 bytes take every contract");
+_Static_assert(MONITOR_BUFFER_BYTES(MONITOR_MAX_RECORDS) == BUFFER_BYTES, "16,904 bytes take every contract");
 
 #define DUTY MONITOR_RECORD(MONITOR_DUTY, 1, 0)
 #define REPEAT MONITOR_RECORD(MONITOR_REPEAT, 0, 0)
@@ -102,9 +102,9 @@ static void refusals(void)
 }
 
 /* 31 `both` of 32 duties under repeats, one for 64 records: no contract of so many has more rows. */
-static struct bytes most_rows(int repeats)
+static struct bytes max_rows(int repeats)
 {
-    static uint8_t records[MONITOR_RECORD_BYTES * (MONITOR_MOST_RECORDS + 1)];
+    static uint8_t records[MONITOR_RECORD_BYTES * (MONITOR_MAX_RECORDS + 1)];
 
     nest_left(MONITOR_DUTY, MONITOR_BOTH, 32);
     add_run(0, MONITOR_REPEAT, 0, repeats);
@@ -124,9 +124,9 @@ static void buffers(void)
     buffer("duty, repeat", duty_repeat, 1032);
     buffer("watch", watched, MONITOR_BUFFER_BYTES(4) - 1);
     buffer("watch", watched, MONITOR_BUFFER_BYTES(4));
-    buffer("64 records", most_rows(1), BUFFER_BYTES - 1);
-    buffer("64 records", most_rows(1), BUFFER_BYTES);
-    buffer("65 records", most_rows(2), BUFFER_BYTES);
+    buffer("64 records", max_rows(1), BUFFER_BYTES - 1);
+    buffer("64 records", max_rows(1), BUFFER_BYTES);
+    buffer("65 records", max_rows(2), BUFFER_BYTES);
 }
 
 /* A line for each: the reply area's length, the result, and how far the area and the image buffer were changed. */
@@ -173,6 +173,6 @@ int main(void)
     areas("any", any);
     contents("duty", duty);
     contents("duty, duty, repair, repeat", watched);
-    contents("64 records", most_rows(1));
+    contents("64 records", max_rows(1));
     return faults != 0;
 }

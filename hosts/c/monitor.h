@@ -13,12 +13,12 @@ extern "C" {
 /* Sizes in bytes, the most records of a contract, the most rows of an image, and the number of actions. */
 enum {
     MONITOR_RECORD_BYTES = 6,   /* a contract record */
-    MONITOR_MOST_RECORDS = 64,
+    MONITOR_MAX_RECORDS = 64,
     MONITOR_ACTIONS = 16,       /* numbered from 0 */
     MONITOR_ROW_BYTES = 8,      /* a row, and the end record */
     MONITOR_HEAD_BYTES = 10,    /* a state before its row values */
     MONITOR_PERIOD_BYTES = 6,   /* a period record */
-    MONITOR_MOST_ROWS = 2112
+    MONITOR_MAX_ROWS = 2112
 };
 
 /* The least bytes of an image buffer for a contract of so many records; those of an image of so many rows, and of its state. */

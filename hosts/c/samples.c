@@ -408,14 +408,14 @@ static void walk(const char *name, struct bytes rows, struct bytes records)
 /* Images of 2,112 rows, the most, and of one row more. */
 static void largest(void)
 {
-    enum { LAST = MONITOR_MOST_ROWS - 1, MOST_STATE = MONITOR_HEAD_BYTES + MONITOR_MOST_ROWS + 1 };
+    enum { LAST = MONITOR_MAX_ROWS - 1, MAX_STATE = MONITOR_HEAD_BYTES + MONITOR_MAX_ROWS + 1 };
     static const uint8_t blank[] = {ROW(0, 0, 0)};
     static const uint8_t last_row[] = {ROW(3, LAST - 1, 0)}, own_row[] = {ROW(3, LAST, 0)};
     static const uint8_t end[] = {END(LAST, LAST - 1, 0)}, far_end[] = {END(LAST + 1, LAST - 1, 0)};
-    static uint8_t rows[BUFFER_BYTES + MONITOR_ROW_BYTES], high[MOST_STATE], zero[MOST_STATE];
+    static uint8_t rows[BUFFER_BYTES + MONITOR_ROW_BYTES], high[MAX_STATE], zero[MAX_STATE];
     uint8_t *last_at = rows + MONITOR_ROW_BYTES * LAST, *end_at = last_at + MONITOR_ROW_BYTES;
     struct bytes most = {rows, BUFFER_BYTES}, longer = {rows, sizeof rows};
-    struct bytes full = {high, MOST_STATE - 1}, zeros = {zero, MOST_STATE - 1};
+    struct bytes full = {high, MAX_STATE - 1}, zeros = {zero, MAX_STATE - 1};
 
     memset(high, 7, sizeof high);
     for (size_t k = 0; k < sizeof rows; k += sizeof blank)
@@ -434,7 +434,7 @@ static void largest(void)
     sample(RUN, "S is 2112", most, zeros, two_records);
     memcpy(end_at, blank, sizeof blank);
     memcpy(end_at + MONITOR_ROW_BYTES, end, sizeof end);
-    full.length = zeros.length = MOST_STATE;
+    full.length = zeros.length = MAX_STATE;
     sample(BEGIN, "image of 16912 bytes", longer, full, no_bytes);
     sample(STEP, "image of 16912 bytes", longer, zeros, one_record);
     sample(RUN, "image of 16912 bytes", longer, zeros, two_records);

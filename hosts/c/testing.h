@@ -66,12 +66,12 @@ enum {
     GUARD = 165,
     GUARD_BYTES = 16,
     UNWRITTEN = 238,                                                /* each byte of an area before a call writes it */
-    MOST_BYTES = MONITOR_ROW_BYTES * (MONITOR_MOST_ROWS + 2),       /* an image of one row too many */
-    BUFFER_BYTES = MONITOR_ROW_BYTES * (MONITOR_MOST_ROWS + 1)      /* an image buffer that takes every contract */
+    MAX_BYTES = MONITOR_ROW_BYTES * (MONITOR_MAX_ROWS + 2),       /* an image of one row too many */
+    BUFFER_BYTES = MONITOR_ROW_BYTES * (MONITOR_MAX_ROWS + 1)      /* an image buffer that takes every contract */
 };
 
 struct area {
-    uint8_t all[GUARD_BYTES + MOST_BYTES + GUARD_BYTES];
+    uint8_t all[GUARD_BYTES + MAX_BYTES + GUARD_BYTES];
     size_t length;
 };
 
@@ -85,10 +85,10 @@ static inline uint8_t *start(struct area *a)
 /* The area has so many bytes from now on; all others are guards. */
 static inline void cut(struct area *a, size_t length)
 {
-    if (length > MOST_BYTES)
+    if (length > MAX_BYTES)
         abort();
     memset(a->all, GUARD, GUARD_BYTES);
-    memset(start(a) + length, GUARD, MOST_BYTES - length + GUARD_BYTES);
+    memset(start(a) + length, GUARD, MAX_BYTES - length + GUARD_BYTES);
     a->length = length;
 }
 
@@ -124,7 +124,7 @@ static inline size_t changed(struct area *a, uint8_t before)
 
 static inline void check_guards(struct area *a)
 {
-    if (reach(a->all, GUARD_BYTES, GUARD) != 0 || reach(start(a) + a->length, MOST_BYTES - a->length + GUARD_BYTES, GUARD) != 0)
+    if (reach(a->all, GUARD_BYTES, GUARD) != 0 || reach(start(a) + a->length, MAX_BYTES - a->length + GUARD_BYTES, GUARD) != 0)
         fault("guard bytes changed");
 }
 

@@ -3,7 +3,7 @@
 use crate::contracts::{self, Open};
 use crate::inputs::{self, Random};
 use crate::timing::{nanoseconds, Plan};
-use reference::watch::{watch, MOST_INPUT};
+use reference::watch::{watch, MAX_INPUT};
 use std::fs;
 use std::io::{Read, Write};
 use std::path::Path;
@@ -44,7 +44,7 @@ fn input(random: &mut Random, contract: &Open, periods: usize) -> Vec<u8> {
 }
 
 fn longest(plan: &Plan, random: &mut Random, contract: &Open) -> Vec<u8> {
-    let periods = (MOST_INPUT - contract.bytes.len()) / 6;
+    let periods = (MAX_INPUT - contract.bytes.len()) / 6;
     input(random, contract, plan.size(periods, 40))
 }
 

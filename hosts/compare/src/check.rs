@@ -6,7 +6,7 @@ use crate::random::Random;
 use crate::report::{Difference, Tally};
 use monitor::calls as product;
 use reference::calls::{self, short_reply, LONG_REPLY, SHORT_REPLY};
-use reference::contract::{compile, least_buffer, most_rows};
+use reference::contract::{compile, least_buffer, max_rows};
 use reference::records::{four_bytes, RECORD_BYTES};
 use reference::{image, Clause, Monitor, Period};
 use std::rc::Rc;
@@ -86,7 +86,7 @@ fn check_compile(
 /// The image in the first 8 × (rows + 1) bytes, with no more rows than the buffer must hold, and
 /// a good one.
 fn picked(buffer: &Lent, rows: usize, records: usize) -> Result<&[u8], Difference> {
-    let most = most_rows(records);
+    let most = max_rows(records);
     if !(1..=most).contains(&rows) {
         return Err(Difference::new(
             "compile",
@@ -401,7 +401,7 @@ mod tests {
         let buffer = |image: &[u8]| Lent::new("image buffer", image, &mut Random::new(1));
         assert!(picked(&buffer(&image), rows, 1).is_ok());
         assert!(picked(&buffer(&image), 0, 1).is_err());
-        assert!(picked(&buffer(&image), most_rows(1) + 1, 1).is_err());
+        assert!(picked(&buffer(&image), max_rows(1) + 1, 1).is_err());
         assert!(picked(&buffer(&vec![0; image.len()]), rows, 1).is_err());
     }
 }

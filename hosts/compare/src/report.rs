@@ -70,14 +70,14 @@ pub fn hex(bytes: &[u8]) -> String {
 }
 
 /// Most lines of bytes that are printed of one list.
-const MOST_LINES: usize = 200;
+const MAX_LINES: usize = 200;
 
 fn print_lines(name: &str, bytes: &[u8], width: usize) {
     println!("{name}, {} bytes:", bytes.len());
-    for line in bytes.chunks(width).take(MOST_LINES) {
+    for line in bytes.chunks(width).take(MAX_LINES) {
         println!("  {}", hex(line));
     }
-    if bytes.len() > MOST_LINES * width {
+    if bytes.len() > MAX_LINES * width {
         println!("  and so on");
     }
 }
@@ -133,7 +133,7 @@ pub struct Tally {
     /// Compiled contracts by records: 1, 2 to 8, 9 to 32, 33 to 63, 64.
     records: [usize; 5],
     kinds: BTreeMap<u8, usize>,
-    most_rows: usize,
+    max_rows: usize,
 }
 
 const NO_ROOM: u32 = 99;
@@ -173,7 +173,7 @@ impl Tally {
 
     pub fn compiled(&mut self, records: usize, rows: usize) {
         self.records[bucket(records, [1, 8, 32, 63])] += 1;
-        self.most_rows = self.most_rows.max(rows);
+        self.max_rows = self.max_rows.max(rows);
     }
 
     /// Counts the kinds of a contract's records.
@@ -224,8 +224,8 @@ impl Tally {
         print_counts("decision periods", &periods, &self.periods);
         let records = ["1:", "2 to 8:", "9 to 32:", "33 to 63:", "64:"];
         print_counts("compiled, by records", &records, &self.records);
-        if self.most_rows > 0 {
-            println!("  most rows of an image: {}", self.most_rows);
+        if self.max_rows > 0 {
+            println!("  most rows of an image: {}", self.max_rows);
         }
         if !self.kinds.is_empty() {
             let count = |number: u8| self.kinds.get(&number).copied().unwrap_or(0);

@@ -6,7 +6,7 @@ use crate::images::{rows_of, ROW};
 use reference::contract::{kind_of, least_buffer};
 
 /// Most changes that are tried.
-const MOST_TRIED: usize = 60000;
+const MAX_TRIED: usize = 60000;
 
 struct Shrinker<'a, T> {
     now: T,
@@ -38,7 +38,7 @@ pub fn case(case: Case, differs: &mut dyn FnMut(&Case) -> bool) -> Case {
         now: case,
         differs,
         tried: 0,
-        most: MOST_TRIED,
+        most: MAX_TRIED,
         changed: true,
     };
     while s.changed && s.tried < s.most {

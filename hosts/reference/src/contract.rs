@@ -5,7 +5,7 @@ use crate::records::{refused, Refusal, CONTRACT_MARK, RECORD_BYTES};
 use std::rc::Rc;
 
 /// "A contract is 1 to 64 records."
-pub const MOST_RECORDS: usize = 64;
+pub const MAX_RECORDS: usize = 64;
 
 /// The sort of an operand, or of what a record completes.
 #[derive(Clone, Copy, Debug, PartialEq, Eq)]
@@ -93,7 +93,7 @@ impl Operand {
 /// 7, then 6".
 pub fn read(contract: &[u8]) -> Result<Rc<Clause>, Refusal> {
     let records = contract.len() / RECORD_BYTES;
-    if contract.is_empty() || !contract.len().is_multiple_of(RECORD_BYTES) || records > MOST_RECORDS
+    if contract.is_empty() || !contract.len().is_multiple_of(RECORD_BYTES) || records > MAX_RECORDS
     {
         return refused(1, 0);
     }
@@ -207,7 +207,7 @@ pub fn least_buffer(records: usize) -> usize {
 
 /// The most rows of the image of a contract of so many records: what such a buffer has room for
 /// beside the end record.
-pub fn most_rows(records: usize) -> usize {
+pub fn max_rows(records: usize) -> usize {
     32 * records + 64
 }
 

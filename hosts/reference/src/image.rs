@@ -5,7 +5,7 @@ use crate::records::{refused, two_bytes, Refusal, END_MARK, ROW_MARK};
 /// Bytes of a row, and of the end record.
 pub const ROW_BYTES: usize = 8;
 /// "An image is 1 to 2,112 rows."
-pub const MOST_ROWS: usize = 2112;
+pub const MAX_ROWS: usize = 2112;
 
 /// A row: "`54 52`, kind, a zero byte, two-byte fields x and y".
 #[derive(Clone, Copy, Debug, PartialEq, Eq)]

@@ -8,7 +8,7 @@ use std::fmt::Write;
 use std::rc::Rc;
 
 /// "`watch` reads standard input up to 65,520 bytes."
-pub const MOST_INPUT: usize = 65520;
+pub const MAX_INPUT: usize = 65520;
 
 /// The text for an input: "a line per period (number, verdict name, blame) and then `decided` with
 /// the decision period, 0 for none. A refusal prints only `refused`, number, place."
@@ -22,7 +22,7 @@ pub fn watch(input: &[u8]) -> String {
 /// "13 is tested first, then compile's, then run's on the trace." Watch has buffers of its own that
 /// are long enough, so 8 to 10 don't arise, and 65,520 bytes hold too few periods for 12.
 fn read(input: &[u8]) -> Result<(Rc<Clause>, Vec<Period>), Refusal> {
-    if input.len() > MOST_INPUT {
+    if input.len() > MAX_INPUT {
         return refused(13, 0);
     }
     let (contract, trace) = input.split_at(contract_length(input));

@@ -147,7 +147,7 @@ pub struct Contract(Vec<u8>);
 
 impl Contract {
     /// The most records of a contract.
-    pub const MOST_RECORDS: usize = 64;
+    pub const MAX_RECORDS: usize = 64;
 
     /// The contract of these records, operands before their operator.
     pub fn from_records(records: &[Record]) -> Contract {

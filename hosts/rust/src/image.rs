@@ -24,7 +24,7 @@ impl Image {
     pub fn compile(contract: impl AsRef<[u8]>) -> Result<Image, Refusal> {
         let contract = contract.as_ref();
         // Of any length that isn't 1 to 64 records, refusal 1 comes before the buffer is looked at.
-        let records = (contract.len() / Record::BYTES).min(Contract::MOST_RECORDS);
+        let records = (contract.len() / Record::BYTES).min(Contract::MAX_RECORDS);
         let mut image = vec![0; ROW_BYTES * (32 * records + 65)];
         let rows = answers::compile(contract, &mut image)?;
         // Proved: these are at most 32 × records + 64 rows.
