@@ -2,35 +2,27 @@
 use Prim.Native.Nat.{ℕ, _+_, _*_, _^_, _≤_, _<_}
 use native.Mathlib.Nat.{zero-add}
 use native.Mathlib.Omega.{arith}
-use mathlib.Core.Bool.{true}
-use mathlib.Core.List.{List, [], _∷_, _++_}
+use mathlib.Core.List.{List, [], _∷_}
 use mathlib.Core.Path.{_≡_, refl}
-use lib.Dec.{leb, lit<}
+use lib.Dec.{lit<}
 use lib.ListN.{length, take}
 use lib.Seq.{sets}
-use borrow.Author.Tests.{le-leb, leb-true}
-use Rattle.records.specs.declared.Fault.{Fault}
-use Rattle.records.specs.declared.Fault.the-variants.{ShortBuffer}
 use Rattle.records.specs.declared.Test.the-variants.{Passed}
-use Rattle.records.specs.Refusals.{require}
 use Rattle.records.specs.Replies.{four, eight, alone, replyOf}
-use Rattle.records.proofs.Refusals.{first-passed, require-passed, onlyFor, only-require, only-append}
 use Rattle.records.proofs.Replies.{field-back, gives-no-room, gives-refused, gives-passed}
 use Rattle.records.proofs.Written.{take-through}
 use Rattle.layout.specs.Limits.{rowBytes}
 use Rattle.layout.specs.Images.{rowCount}
 use Rattle.layout.proofs.Images.{GoodImage, passed-good}
 use Rattle.contract.specs.Meaning.{Clause}
-use Rattle.reader.specs.Limits.{maxRecords}
-use Rattle.reader.specs.Reader.{taken, read, contractRecords, readTest}
-use Rattle.reader.proofs.Places.{readFaults, read-only}
-use Rattle.reader.proofs.Answers.{test-passed}
+use Rattle.reader.specs.Reader.{taken, read, contractRecords}
 use Rattle.image.specs.Limits.{bufferBytes}
 use Rattle.image.specs.Images.{imageFor}
 use Rattle.image.proofs.Images.{right-for, sized-for}
 use Rattle.image.proofs.Monitors.{monitors}
-use Rattle.emitter.specs.Premises.{Writes}
-use Rattle.compiler.specs.Calls.{compileTest, compileReplyBytes, compile, Usable, Compiles}
+use Rattle.compiler.specs.Refusals.{compileTest}
+use Rattle.compiler.proofs.Refusals.{taken-passes}
+use Rattle.compiler.specs.Calls.{compileReplyBytes, compile, Usable, Compiles}
 
 -- ---- the image and the reply in their places
 
@@ -59,35 +51,6 @@ module _ (contract buffer reply : List ℕ) (c : Clause) (e : read contract ≡ 
         monitors = rw first-bytes (monitors contract c e);
       }
 
--- ---- the tests
-
-abbrev pub compileFaults : List Fault
-compileFaults = readFaults ++ (ShortBuffer ∷ [])
-
-module _ (contract buffer : List ℕ) where
-  -- a contract that is taken, with a buffer that does not meet 8, passes them
-  passes : (c : Clause) → read contract ≡ taken c → bufferBytes (contractRecords contract) ≤ length buffer → compileTest contract buffer ≡ Passed
-  unfolding compileTest readTest
-  passes c e h = rw (e, le-leb (bufferBytes (contractRecords contract)) (length buffer) h)
-
-  -- and the image of one that passes them may be written
-  pub may-write : compileTest contract buffer ≡ Passed → Writes contract (contractRecords contract) buffer
-  unfolding compileTest
-  may-write e =
-      let room = leb (bufferBytes (contractRecords contract)) (length buffer) in
-      let t = first-passed (readTest contract) (require room ShortBuffer 0) e in
-      record { taken = test-passed contract (t .0); room = leb-true (bufferBytes (contractRecords contract)) (length buffer) (require-passed room ShortBuffer 0 (t .1)) }
-
-  -- no test gives another fault
-  pub compile-only : onlyFor compileFaults (compileTest contract buffer) ≡ true
-  unfolding compileTest
-  compile-only =
-      let room = leb (bufferBytes (contractRecords contract)) (length buffer) in
-      only-append readFaults (ShortBuffer ∷ []) (readTest contract) (require room ShortBuffer 0) (read-only contract) (only-require (ShortBuffer ∷ []) ShortBuffer refl room 0)
-
-pub few-records : (contract : List ℕ) → readTest contract ≡ Passed → contractRecords contract ≤ maxRecords
-few-records contract e = let k = test-passed contract e in omega (arith, k .count, k .spells .few-records)
-
 -- ---- the ways out
 
 module _ (contract buffer reply : List ℕ) where
@@ -98,7 +61,7 @@ module _ (contract buffer reply : List ℕ) where
   pub turned-away : compileReplyBytes ≤ length reply → ¬ (compileTest contract buffer ≡ Passed) → (r : List ℕ)
       → r ≡ sets reply 0 (replyOf (compileTest contract buffer) (alone 0)) → Compiles contract buffer reply 1 buffer r
   unfolding compile
-  turned-away h e r i = record { gives = gives-refused _ _ _ _ _ h e r i; usable = λ c t j b. absurd (e (passes contract buffer c t b)) }
+  turned-away h e r i = record { gives = gives-refused _ _ _ _ _ h e r i; usable = λ c t j b. absurd (e (taken-passes contract buffer c t b)) }
 
   pub served : compileReplyBytes ≤ length reply → compileTest contract buffer ≡ Passed → (l r : List ℕ) → l ≡ sets buffer 0 (imageFor contract)
       → r ≡ sets reply 0 (replyOf Passed (alone (rowCount (imageFor contract)))) → Compiles contract buffer reply 1 l r

@@ -12,7 +12,8 @@ use Rattle.reader.specs.Reader.{operandsOf, readRecord, readRecords, read, read
 use Rattle.image.specs.Blocks.{outputsOf, clauseRows}
 use Rattle.image.specs.Images.{rowsFor, image, imageFor}
 use Rattle.compiler.specs.Examples.{CompileVectors}
-use Rattle.compiler.specs.Calls.{compileTest, compile}
+use Rattle.compiler.specs.Refusals.{compileTest}
+use Rattle.compiler.specs.Calls.{compile}
 
 pub compile-vectors : CompileVectors
 unfolding

@@ -3,27 +3,19 @@
 use Prim.Native.Nat.{ℕ, _+_, _*_, _≤_}
 use mathlib.Core.List.{List}
 use mathlib.Core.Path.{_≡_}
-use lib.Dec.{leb}
 use lib.ListN.{length, take}
 use lib.Seq.{sets}
-use Rattle.records.specs.declared.Fault.the-variants.{ShortBuffer}
-use Rattle.records.specs.declared.Test.{Test}
 use Rattle.records.specs.declared.Test.the-variants.{Passed}
-use Rattle.records.specs.Refusals.{require, firstOf}
 use Rattle.records.specs.Replies.{alone, headSize, numberIn, ownIn, placeIn, After, Gives, call}
 use Rattle.layout.specs.Limits.{rowBytes}
 use Rattle.layout.specs.Images.{rowCount}
 use Rattle.layout.specs.Refusals.{imageTest}
 use Rattle.contract.specs.Meaning.{Clause}
-use Rattle.reader.specs.Reader.{taken, read, contractRecords, readTest}
+use Rattle.reader.specs.Reader.{taken, read, contractRecords}
 use Rattle.image.specs.Limits.{allowedRows, bufferBytes}
 use Rattle.image.specs.Images.{imageFor}
 use Rattle.image.specs.Monitors.{Monitors}
-
--- 1 to 7 as the contract is read, then 8: "image buffer under 8 × (32 × records + 65) bytes; 0"
-unfoldable pub compileTest : (contract buffer : List ℕ) → Test
-compileTest contract buffer =
-    firstOf (readTest contract) (require (leb (bufferBytes (contractRecords contract)) (length buffer)) ShortBuffer 0)
+use Rattle.compiler.specs.Refusals.{compileTest}
 
 -- the bytes of its reply: number, row count, place
 abbrev pub compileReplyBytes : ℕ

@@ -5,21 +5,19 @@ use mathlib.Core.Path.{_≡_, refl, ap, _∙_}
 use mathlib.Core.Bool.{true}
 use mathlib.Core.Option.{Option, some, Option·getD}
 use mathlib.Core.List.{List, [], _∷_, _++_, append-assoc}
-use lib.Dec.{lit<}
 use lib.ListN.{length, take, drop, getD, length-append}
 use lib.Seq.{length-take-le, drop-at, ext-getD}
 use borrow.Author.Tests.{lt-ltb}
 use Rattle.records.specs.Fields.{bytes, field}
-use Rattle.records.specs.Holding.{AllBytes}
 use Rattle.records.specs.Marks.{endMark, marked}
 use Rattle.records.specs.declared.Test.the-variants.{Passed}
-use Rattle.records.proofs.Fields.{allBytes-nil, allBytes-cons, allBytes-append, allBytes-bytes, value-bytes-lt, field-drop}
+use Rattle.records.proofs.Fields.{value-bytes-lt, field-drop}
 use Rattle.records.proofs.Marks.{marked-drop}
 use Rattle.layout.specs.Limits.{rowBytes, maxRows}
 use Rattle.layout.specs.Rows.{Row, never, Fits, encode, decode, namesRows}
 use Rattle.layout.specs.Images.{Image, rowsBytes, endBytes, imageBytes, rowCount, rowsOf, imageOf, goodRowAt, goodEnd}
 use Rattle.layout.specs.Refusals.{imageTest}
-use Rattle.layout.proofs.Rows.{length-encode, allBytes-encode, decode-encode}
+use Rattle.layout.proofs.Rows.{length-encode, decode-encode}
 use Rattle.layout.proofs.Images.{GoodImage, rowCount-of, good-passed, length-rowsOf, getD-rowsOf}
 
 -- ---- an image's bytes
@@ -28,11 +26,6 @@ pub length-rowsBytes : (rs : List Row) → length (rowsBytes rs) ≡ rowBytes * 
 unfolding rowsBytes
 length-rowsBytes [] = refl
 length-rowsBytes (r ∷ rs) = rw (length-append, length-encode, length-rowsBytes rs) (omega arith)
-
-pub allBytes-rowsBytes : (rs : List Row) → AllBytes (rowsBytes rs)
-unfolding rowsBytes
-allBytes-rowsBytes [] = allBytes-nil
-allBytes-rowsBytes (r ∷ rs) = allBytes-append (encode r) (rowsBytes rs) (allBytes-encode r) (allBytes-rowsBytes rs)
 
 -- the bytes of rows, at one of them
 rows-split : (rs : List Row) (rest : List ℕ) (k : ℕ) → k < length rs
@@ -66,15 +59,6 @@ length-imageBytes m = rw (length-append, length-rowsBytes) (omega arith)
 
 pub rowCount-imageBytes : (m : Image) → rowCount (imageBytes m) ≡ length (m .rows)
 rowCount-imageBytes m = rowCount-of (imageBytes m) (length (m .rows)) (length-imageBytes m)
-
-pub allBytes-imageBytes : (m : Image) → AllBytes (imageBytes m)
-unfolding imageBytes endBytes
-allBytes-imageBytes m =
-    let two : (n : ℕ) → AllBytes (bytes 2 n) = allBytes-bytes 2 in
-    allBytes-append (rowsBytes (m .rows)) (endBytes m) (allBytes-rowsBytes (m .rows))
-    (allBytes-cons (lit< tt)
-    (allBytes-cons (lit< tt)
-    (allBytes-append (bytes 2 (m .S)) (bytes 2 (m .V1) ++ bytes 2 (m .V2)) (two (m .S)) (allBytes-append (bytes 2 (m .V1)) (bytes 2 (m .V2)) (two (m .V1)) (two (m .V2))))))
 
 module _ (m : Image) where
   at-end : drop (rowBytes * length (m .rows)) (imageBytes m) ≡ endBytes m

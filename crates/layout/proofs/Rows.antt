@@ -16,7 +16,7 @@ use Rattle.records.specs.Fields.{bytes, field}
 use Rattle.records.specs.Holding.{AllBytes}
 use Rattle.records.specs.Marks.{rowMark, marked}
 use Rattle.records.proofs.Cases.{lt-or-le}
-use Rattle.records.proofs.Fields.{allBytes-cons, allBytes-append, allBytes-bytes, value-bytes-lt, bytes-field}
+use Rattle.records.proofs.Fields.{value-bytes-lt, bytes-field}
 use Rattle.records.proofs.Marks.{of-marked}
 use Rattle.periods.specs.Limits.{actions}
 use Rattle.periods.specs.Periods.{party1, party2, partyOf}
@@ -179,27 +179,9 @@ fits-y (conjunction x y) f = f .1
 fits-y (disjunction x y) f = f .1
 fits-y (previous x) f = lit< tt
 
-kind-small : (r : Row) → kind r < 256
-kind-small never = lit< tt
-kind-small initial = lit< tt
-kind-small (attempt p a) = lit< tt
-kind-small (negation x) = lit< tt
-kind-small (conjunction x y) = lit< tt
-kind-small (disjunction x y) = lit< tt
-kind-small (previous x) = lit< tt
-
 pub length-encode : (r : Row) → length (encode r) ≡ rowBytes
 unfolding encode bytes
 length-encode r = refl
-
-pub allBytes-encode : (r : Row) → AllBytes (encode r)
-unfolding encode
-allBytes-encode r =
-    allBytes-cons (lit< tt)
-    (allBytes-cons (lit< tt)
-    (allBytes-cons (kind-small r)
-    (allBytes-cons (lit< tt)
-    (allBytes-append (bytes 2 (fieldX r)) (bytes 2 (fieldY r)) (allBytes-bytes 2 (fieldX r)) (allBytes-bytes 2 (fieldY r))))))
 
 -- what is decoded at a place stands in the bytes from there on
 decode-drop : (l : List ℕ) (at : ℕ) → decode l at ≡ decode (drop at l) 0

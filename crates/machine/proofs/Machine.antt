@@ -107,15 +107,14 @@ sound-after m p s h = each (eqb (s .outcome) 0)
 -- ---- a list of periods
 
 module _ (m : Image) where
-  pub after-snoc : (s : State) (w : List Period) (p : Period) → afterPeriods m s (w ++ (p ∷ [])) ≡ afterPeriod m p (afterPeriods m s w)
-  unfolding afterPeriods
-  after-snoc s [] p = refl
-  after-snoc s (q ∷ w) p = after-snoc (afterPeriod m q s) w p
-
   pub after-append : (s : State) (v w : List Period) → afterPeriods m s (v ++ w) ≡ afterPeriods m (afterPeriods m s v) w
   unfolding afterPeriods
   after-append s [] w = refl
   after-append s (q ∷ v) w = after-append (afterPeriod m q s) v w
+
+  pub after-snoc : (s : State) (w : List Period) (p : Period) → afterPeriods m s (w ++ (p ∷ [])) ≡ afterPeriod m p (afterPeriods m s w)
+  unfolding afterPeriods
+  after-snoc s w p = after-append s w (p ∷ [])
 
   pub sound-afterPeriods : (s : State) (w : List Period) → Sound (length (m .rows)) s → Sound (length (m .rows)) (afterPeriods m s w)
   unfolding afterPeriods

@@ -40,7 +40,8 @@ use Rattle.reader.proofs.Places.{place-max}
 use Rattle.image.specs.Limits.{bufferBytes}
 use Rattle.image.specs.Images.{imageFor}
 use Rattle.image.specs.Monitors.{Monitors}
-use Rattle.compiler.specs.Calls.{compileTest, compileReplyBytes, compile, Usable}
+use Rattle.compiler.specs.Refusals.{compileTest}
+use Rattle.compiler.specs.Calls.{compileReplyBytes, compile, Usable}
 use Rattle.report.specs.Limits.{inputBytes, textBytes}
 use Rattle.report.specs.Texts.{refusedLine, Puts}
 use Rattle.report.specs.Split.{contractLength, contractOf, traceOf}

@@ -10,8 +10,8 @@ use Rattle.records.proofs.Refusals.{refused-first}
 use Rattle.reader.specs.Limits.{maxRecords}
 use Rattle.reader.specs.Reader.{readTest}
 use Rattle.image.specs.Limits.{bufferBytes}
-use Rattle.compiler.specs.Calls.{compileTest}
-use Rattle.compiler.proofs.Calls.{few-records}
+use Rattle.compiler.specs.Refusals.{compileTest}
+use Rattle.compiler.proofs.Refusals.{few-records}
 use Rattle.compiler.proofs.compile_test.Statement.{statement}
 use Rattle.compiler.proofs.compile_test.Tie as tie
 use Rattle.compiler.proofs.compile_test.Reads as reads

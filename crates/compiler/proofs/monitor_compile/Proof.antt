@@ -3,8 +3,9 @@ use borrow.Author.Needs.{needs}
 use mathlib.Core.Path.{_≡_, sym, _∙_}
 use Rattle.records.specs.declared.Test.the-variants.{Passed}
 use Rattle.records.proofs.Refusals.{is-refused}
-use Rattle.compiler.specs.Calls.{compileTest}
-use Rattle.compiler.proofs.Calls.{no-room, turned-away, served, may-write}
+use Rattle.compiler.specs.Refusals.{compileTest}
+use Rattle.compiler.proofs.Refusals.{may-write}
+use Rattle.compiler.proofs.Calls.{no-room, turned-away, served}
 use Rattle.compiler.proofs.monitor_compile.Statement.{statement}
 use Rattle.compiler.proofs.monitor_compile.Tie as tie
 use Rattle.compiler.proofs.monitor_compile.Reads as reads
