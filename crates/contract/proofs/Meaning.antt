@@ -123,23 +123,23 @@ within-repeat m bounded (suc f) w =
     (λ k p h. within-after (repeatMeaning m f) (λ v. within-repeat m bounded f v) w k h)
 
 -- the deciding period lies between 1 and the length
-pub within : (c : Clause) → EmptyFree c → (w : List Period) → Within (length w) (meaning c w)
+pub decision-within : (c : Clause) → EmptyFree c → (w : List Period) → Within (length w) (meaning c w)
 unfolding meaning EmptyFree
-within (literal l p a) g [] = tt
-within (literal l p a) g (x ∷ w) = within-literal l p (tries x p a) (tries x (other p) a) (length w)
-within (both l r) g w = within-both (length w) (meaning l w) (meaning r w) (within l (g .0) w) (within r (g .1) w)
-within (then l r) g w =
-    within-then (length w) (meaning l w) (after (meaning r) w) (within l (g .0) w)
-    (λ k p h. within-after (meaning r) (λ v. within r (g .1) v) w k h)
-within (repair l r) g w =
-    within-repair (length w) (meaning l w) (after (meaning r) w) (within l (g .0) w)
-    (λ k h. within-after (meaning r) (λ v. within r (g .1) v) w k h)
-within (repeat c) g w = within-repeat (meaning c) (λ v. within c g v) (length w) w
-within (when e c) g w =
+decision-within (literal l p a) g [] = tt
+decision-within (literal l p a) g (x ∷ w) = within-literal l p (tries x p a) (tries x (other p) a) (length w)
+decision-within (both l r) g w = within-both (length w) (meaning l w) (meaning r w) (decision-within l (g .0) w) (decision-within r (g .1) w)
+decision-within (then l r) g w =
+    within-then (length w) (meaning l w) (after (meaning r) w) (decision-within l (g .0) w)
+    (λ k p h. within-after (meaning r) (λ v. decision-within r (g .1) v) w k h)
+decision-within (repair l r) g w =
+    within-repair (length w) (meaning l w) (after (meaning r) w) (decision-within l (g .0) w)
+    (λ k h. within-after (meaning r) (λ v. decision-within r (g .1) v) w k h)
+decision-within (repeat c) g w = within-repeat (meaning c) (λ v. decision-within c g v) (length w) w
+decision-within (when e c) g w =
     within-when (length w) (reading e w) (after (meaning c) w) (within-reading e w (g .0))
-    (λ k h. within-after (meaning c) (λ v. within c (g .1) v) w k h)
-within (until c e) g w =
-    within-until (length w) (meaning c w) (reading e w) (within c (g .0) w) (within-reading e w (g .1))
+    (λ k h. within-after (meaning c) (λ v. decision-within c (g .1) v) w k h)
+decision-within (until c e) g w =
+    within-until (length w) (meaning c w) (reading e w) (decision-within c (g .0) w) (within-reading e w (g .1))
 
 -- Beginnings: what a clause means on the first n periods is what it has decided by period n.
 
@@ -260,8 +260,8 @@ module _ (m₁ m₂ : List Period → Decision) (n : ℕ) (w : List Period) wher
   abbrev RightStable : ℕ → Type 0
   RightStable k = k ≤ n → m₁ (take (n - k) (drop k w)) ≡ decidedBy (n - k) (m₂ (drop k w))
 
-  handed-over : (k : ℕ) → RightStable k → cond (ltb n k) undecided (after m₁ (take n w) k) ≡ decidedBy n (after m₂ w k)
-  handed-over k right = go (lt-or-le n k)
+  by-after : (k : ℕ) → RightStable k → cond (ltb n k) undecided (after m₁ (take n w) k) ≡ decidedBy n (after m₂ w k)
+  by-after k right = go (lt-or-le n k)
     where
       go : (n < k) ⊎ (k ≤ n) → cond (ltb n k) undecided (after m₁ (take n w) k) ≡ decidedBy n (after m₂ w k)
       go (inl l) = rw (lt-ltb n k l) (sym (by-early n k (m₂ (drop k w)) l))
@@ -271,7 +271,7 @@ module _ (m₁ m₂ : List Period → Decision) (n : ℕ) (w : List Period) wher
       → thenMeaning (decidedBy n d) (after m₁ (take n w)) ≡ decidedBy n (thenMeaning d (after m₂ w))
   by-then undecided right = refl
   by-then (satisfied k) right =
-      through (λ d. thenMeaning d (after m₁ (take n w))) undecided refl (ltb n k) (satisfied k) ∙ handed-over k (right k refl)
+      through (λ d. thenMeaning d (after m₁ (take n w))) undecided refl (ltb n k) (satisfied k) ∙ by-after k (right k refl)
   by-then (violated k b) right = through (λ d. thenMeaning d (after m₁ (take n w))) undecided refl (ltb n k) (violated k b)
 
   by-repair : (d : Decision) → ((k : ℕ) → RightStable k)
@@ -279,13 +279,13 @@ module _ (m₁ m₂ : List Period → Decision) (n : ℕ) (w : List Period) wher
   by-repair undecided right = refl
   by-repair (satisfied k) right = through (λ d. repairMeaning d (after m₁ (take n w))) undecided refl (ltb n k) (satisfied k)
   by-repair (violated k b) right =
-      through (λ d. repairMeaning d (after m₁ (take n w))) undecided refl (ltb n k) (violated k b) ∙ handed-over k (right k)
+      through (λ d. repairMeaning d (after m₁ (take n w))) undecided refl (ltb n k) (violated k b) ∙ by-after k (right k)
 
   by-when : (r : Reading) → ((k : ℕ) → RightStable k)
       → whenMeaning (readingBy n r) (after m₁ (take n w)) ≡ decidedBy n (whenMeaning r (after m₂ w))
   by-when pending right = refl
   by-when (accepted k) right =
-      through (λ r. whenMeaning r (after m₁ (take n w))) pending refl (ltb n k) (accepted k) ∙ handed-over k (right k)
+      through (λ r. whenMeaning r (after m₁ (take n w))) pending refl (ltb n k) (accepted k) ∙ by-after k (right k)
   by-when (rejected k) right = through (λ r. whenMeaning r (after m₁ (take n w))) pending refl (ltb n k) (rejected k)
 
 -- Until: the clause's decision counts up to acceptance.
@@ -358,7 +358,7 @@ stable (then l r) g n w =
 stable (repair l r) g n w =
     rw (stable l (g .0) n w) (by-repair (meaning r) (meaning r) n w (meaning l w) (λ k h. stable r (g .1) (n - k) (drop k w)))
 stable (repeat c) g n w =
-    by-repeat (meaning c) (within c g) (λ i v. stable c g i v) (length w) (length (take n w)) n w (le-refl (length w)) (le-refl (length (take n w)))
+    by-repeat (meaning c) (decision-within c g) (λ i v. stable c g i v) (length w) (length (take n w)) n w (le-refl (length w)) (le-refl (length (take n w)))
 stable (when e c) g n w =
     rw (reading-take e w n) (by-when (meaning c) (meaning c) n w (reading e w) (λ k h. stable c (g .1) (n - k) (drop k w)))
 stable (until c e) g n w = rw (stable c (g .0) n w, reading-take e w n) (by-until n (meaning c w) (reading e w))

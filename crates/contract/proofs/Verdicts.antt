@@ -11,7 +11,7 @@ use Rattle.records.proofs.Cases.{lt-or-le}
 use Rattle.periods.specs.Periods.{party1, party2, Period}
 use Rattle.contract.specs.Meaning.{Clause, Blame, only, bothParties, Decision, undecided, satisfied, violated, meaning, EmptyFree}
 use Rattle.contract.specs.Verdicts.{decisionPeriod, blame, verdict, DecidesOnce}
-use Rattle.contract.proofs.Meaning.{decidedBy, Within, within, within-none, not-yet, by-now, stable}
+use Rattle.contract.proofs.Meaning.{decidedBy, Within, decision-within, within-none, not-yet, by-now, stable}
 
 within-cases : (n : ℕ) (d : Decision) → Within n d → (d ≡ undecided) ⊎ ((1 ≤ decisionPeriod d) × (decisionPeriod d ≤ n))
 within-cases n undecided p = inl refl
@@ -28,8 +28,8 @@ pub decides-once : (c : Clause) → EmptyFree c → (w : List Period) → Decide
 decides-once c g w =
     record {
       decision = meaning c w;
-      nothing-yet = within-none (meaning c []) (within c g []);
-      bounds = within-cases (length w) (meaning c w) (within c g w);
+      nothing-yet = within-none (meaning c []) (decision-within c g []);
+      bounds = within-cases (length w) (meaning c w) (decision-within c g w);
       open-before = λ n h. stable c g n w ∙ not-yet n (meaning c w) h;
       same-from = λ n h. stable c g n w ∙ by-now n (meaning c w) h;
       verdicts = λ n h. ap (λ (d : Decision). verdict d n) (stable c g n w) ∙ verdict-by (meaning c w) n;

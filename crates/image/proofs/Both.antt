@@ -11,7 +11,7 @@ use lib.Dec.{eqb}
 use lib.ListN.{length}
 use Rattle.periods.specs.Periods.{Party, party1, party2, Period}
 use Rattle.contract.specs.Meaning.{Clause, both, Blame, only, bothParties, unite, Decision, undecided, satisfied, violated, bothMeaning, meaning, EmptyFree}
-use Rattle.contract.proofs.Meaning.{Within, within, Order, left-first, right-first, together, order}
+use Rattle.contract.proofs.Meaning.{Within, decision-within, Order, left-first, right-first, together, order}
 use Rattle.image.proofs.Signals.{Signal, at, _≐_, nothing, met, broken, blames, isBroken, reportOf, Says, UntilDone, Remembers}
 use Rattle.image.proofs.Threads.{isSome, Exclusive, exclusive-until-done, extend, thread, Once, happens, length-snoc, none-yet}
 use Rattle.image.proofs.Reports.{decidedAt, satisfiedAt, violatedAt, once-satisfied, unbroken, now, said, saidBy, NotBefore, timely, met-happens, Behaves}
@@ -111,21 +111,21 @@ unfolding said meaning EmptyFree
 both-said l r g none u = exactly nothing
 both-said l r g (some w) u =
     let n = length w in
-    let p = within l (g .0) w in
-    let q = within r (g .1) w in
+    let p = decision-within l (g .0) w in
+    let q = decision-within r (g .1) w in
     let o = both-parts n (meaning l w) (meaning r w) u in
     rw (
       blamed party1 n (meaning l w) p (o .0),
       blamed party2 n (meaning l w) p (o .0),
       blamed party1 n (meaning r w) q (o .1),
       blamed party2 n (meaning r w) q (o .1),
-      timely n (bothMeaning (meaning l w) (meaning r w)) (within (both l r) g w) u,
+      timely n (bothMeaning (meaning l w) (meaning r w)) (decision-within (both l r) g w) u,
     ) (both-report n (meaning l w) (meaning r w) p q (o .0) (o .1))
 
 met-by-now : {c : Clause} {S go sat one two kept : Signal} → EmptyFree c → Exclusive S go → Behaves c S go sat one two → Remembers sat go kept
     → (h : List Period) → at kept h ≡ happened (λ w. satisfiedAt (meaning c w)) (thread S go h)
 met-by-now {c} {S} {go} g x b r =
-    remembered (λ w. satisfiedAt (meaning c w)) (once-satisfied c g) x r (λ h. b .says h .met-is ∙ met-happens c (thread S go h))
+    remembered (λ w. satisfiedAt (meaning c w)) (once-satisfied c g) x r (λ h. b .says h .sat-is ∙ met-happens c (thread S go h))
 
 pub behaves-both : {l r : Clause} {S K go done satL oneL twoL satR oneR twoR metL metR sat one two : Signal}
     → EmptyFree (both l r) → Exclusive S K → UntilDone done K go

@@ -13,7 +13,7 @@ use lib.ListN.{length, drop, length-drop, drop-of-length-le}
 use Rattle.records.proofs.Cases.{lt-or-le}
 use Rattle.periods.specs.Periods.{party1, party2, Period}
 use Rattle.contract.specs.Meaning.{Clause, then, repair, Blame, Decision, undecided, satisfied, violated, after, thenMeaning, repairMeaning, meaning, EmptyFree}
-use Rattle.contract.proofs.Meaning.{within, within-none}
+use Rattle.contract.proofs.Meaning.{decision-within, within-none}
 use Rattle.image.proofs.Signals.{Signal, at, _≐_, at-or, Report, nothing, broken, isMet, Says, HandsOver}
 use Rattle.image.proofs.Threads.{Exclusive, thread, Once, happens, restAfter, handed, handed-over}
 use Rattle.image.proofs.Reports.{unbroken, satisfiedAt, violatedAt, once-satisfied, once-violated, now, said, saidBy, now-later, Behaves, met-happens, broken-happens}
@@ -40,19 +40,19 @@ said-after c g w k = go (lt-or-le k (length w))
     go (inl l) =
         let n : k + (length w - k) ≡ length w = omega arith in
         rw (lt-ltb k (length w) l, length-drop k w) (rw n at (sym (now-later k (length w - k) (meaning c (drop k w)))))
-    go (inr l) = rw (le-ltb k (length w) l, drop-of-length-le w l, within-none (meaning c []) (within c g []))
+    go (inr l) = rw (le-ltb k (length w) l, drop-of-length-le w l, within-none (meaning c []) (decision-within c g []))
 
 -- one of the two parts speaks, or none
 one-speaks : (c : Clause) → EmptyFree c → (w : List Period) {o : Option ℕ} {own whole : Decision} → Hands (after (meaning c) w) o own whole
     → {x y z x′ y′ z′ : Bool} → Says x y z (now (length w) own) → Says x′ y′ z′ (saidBy c (restAfter o w))
     → Says (x || x′) (y || y′) (z || z′) (now (length w) whole)
 one-speaks c g w keeps s t = record {
-  met-is = rw (t .met-is, or-false) (s .met-is);
+  sat-is = rw (t .sat-is, or-false) (s .sat-is);
   one-is = rw (t .one-is, or-false) (s .one-is);
   two-is = rw (t .two-is, or-false) (s .two-is);
 }
 one-speaks c g w (passes {k = k}) s t = rw (← said-after c g w k) record {
-  met-is = rw (s .met-is) (t .met-is);
+  sat-is = rw (s .sat-is) (t .sat-is);
   one-is = rw (s .one-is) (t .one-is);
   two-is = rw (s .two-is) (t .two-is);
 }
@@ -63,7 +63,7 @@ module _ (f : List Period → Option ℕ) (once : Once f) (own : List Period →
   one-says : (t : Option (List Period)) {x y z x′ y′ z′ : Bool} → Says x y z (nowBy own t) → Says x′ y′ z′ (saidBy c (handed f t))
       → Says (x || x′) (y || y′) (z || z′) (saidBy whole t)
   unfolding said
-  one-says none p q = record { met-is = rw (p .met-is, q .met-is); one-is = rw (p .one-is, q .one-is); two-is = rw (p .two-is, q .two-is) }
+  one-says none p q = record { sat-is = rw (p .sat-is, q .sat-is); one-is = rw (p .one-is, q .one-is); two-is = rw (p .two-is, q .two-is) }
   one-says (some w) p q = one-speaks c free w (hands w) p q
 
   pub handing : {fired S K start go sat one two : Signal} → Exclusive S K → HandsOver fired K start go
@@ -97,10 +97,10 @@ hands-then (satisfied k) second = passes
 hands-then (violated k b) second = keeps
 
 says-violation : {x y z : Bool} (n : ℕ) (d : Decision) → Says x y z (now n d) → Says false y z (now n (violation d))
-says-violation n undecided s = record { met-is = refl; one-is = s .one-is; two-is = s .two-is }
+says-violation n undecided s = record { sat-is = refl; one-is = s .one-is; two-is = s .two-is }
 says-violation n (satisfied k) s =
-    record { met-is = refl; one-is = s .one-is ∙ unbroken party1 (eqb k n); two-is = s .two-is ∙ unbroken party2 (eqb k n) }
-says-violation n (violated k b) s = record { met-is = sym (unmet b (eqb k n)); one-is = s .one-is; two-is = s .two-is }
+    record { sat-is = refl; one-is = s .one-is ∙ unbroken party1 (eqb k n); two-is = s .two-is ∙ unbroken party2 (eqb k n) }
+says-violation n (violated k b) s = record { sat-is = sym (unmet b (eqb k n)); one-is = s .one-is; two-is = s .two-is }
 
 pub behaves-then : {l r : Clause} {S K start go satL oneL twoL satR oneR twoR one two : Signal} → EmptyFree (then l r) → Exclusive S K
     → Behaves l S K satL oneL twoL → HandsOver satL K start go → Behaves r start go satR oneR twoR
@@ -110,7 +110,7 @@ behaves-then {l} {r} {S} {K} {oneL = oneL} {twoL} {oneR = oneR} {twoR} {one} {tw
   says = λ h. rw (at-or one oneL oneR one-or h, at-or two twoL twoR two-or h)
       (handing (λ v. satisfiedAt (meaning l v)) (once-satisfied l (g .0)) (λ v. violation (meaning l v)) (then l r) r (g .1)
       (λ v. hands-then (meaning l v) (after (meaning r) v))
-      x w (λ i. left .says i .met-is ∙ met-happens l (thread S K i)) right h
+      x w (λ i. left .says i .sat-is ∙ met-happens l (thread S K i)) right h
       (says-by violation refl says-violation l (thread S K h) (left .says h)));
 }
 
@@ -124,10 +124,10 @@ hands-repair (satisfied k) second = keeps
 hands-repair (violated k b) second = passes
 
 says-satisfaction : {x y z : Bool} (n : ℕ) (d : Decision) → Says x y z (now n d) → Says x false false (now n (satisfaction d))
-says-satisfaction n undecided s = record { met-is = s .met-is; one-is = refl; two-is = refl }
+says-satisfaction n undecided s = record { sat-is = s .sat-is; one-is = refl; two-is = refl }
 says-satisfaction n (satisfied k) s =
-    record { met-is = s .met-is; one-is = sym (unbroken party1 (eqb k n)); two-is = sym (unbroken party2 (eqb k n)) }
-says-satisfaction n (violated k b) s = record { met-is = s .met-is ∙ unmet b (eqb k n); one-is = refl; two-is = refl }
+    record { sat-is = s .sat-is; one-is = sym (unbroken party1 (eqb k n)); two-is = sym (unbroken party2 (eqb k n)) }
+says-satisfaction n (violated k b) s = record { sat-is = s .sat-is ∙ unmet b (eqb k n); one-is = refl; two-is = refl }
 
 pub behaves-repair : {l r : Clause} {S K fired start go satL oneL twoL satR oneR twoR sat : Signal} → EmptyFree (repair l r) → Exclusive S K
     → Behaves l S K satL oneL twoL → (fired ≐ λ p h. oneL p h || twoL p h) → HandsOver fired K start go → Behaves r start go satR oneR twoR

@@ -9,8 +9,8 @@ use mathlib.Core.Path.{_≡_, refl}
 use lib.ListN.{length}
 use Rattle.periods.specs.Periods.{Party, party1, party2, other, Period, tries}
 use Rattle.contract.specs.Meaning.{Literal, literal, Decision, undecided, satisfied, violated, literalDecision, meaning, EmptyFree}
-use Rattle.contract.proofs.Meaning.{Within, within, within-period}
-use Rattle.image.proofs.Signals.{Signal, at, Report, nothing, isMet, isBroken, reportOf, Says}
+use Rattle.contract.proofs.Meaning.{Within, decision-within, within-period}
+use Rattle.image.proofs.Signals.{Signal, at, Report, nothing, reportOf, literalReport, Says}
 use Rattle.image.proofs.Threads.{extend, thread, length-snoc}
 use Rattle.image.proofs.Reports.{decidedAt, said, saidBy, NotBefore, timely, silent-past, Behaves}
 
@@ -39,7 +39,7 @@ thread-at-least-one S K (p ∷ h) = go (S p h) (K p h) (thread S K h)
 module _ (l : Literal) (q : Party) (a : ℕ) where
   one-period : (p : Period) → Within 1 (meaning (literal l q a) (p ∷ []))
   unfolding EmptyFree
-  one-period p = within (literal l q a) tt (p ∷ [])
+  one-period p = decision-within (literal l q a) tt (p ∷ [])
 
   said-by-literal : (S K : Signal) (p : Period) (h : List Period)
       → saidBy (literal l q a) (thread S K (p ∷ h)) ≡ cond (S p h) (reportOf (meaning (literal l q a) (p ∷ []))) nothing
@@ -56,18 +56,13 @@ module _ (l : Literal) (q : Party) (a : ℕ) where
           silent-past (suc (length (w ++ (p ∷ [])))) (meaning (literal l q a) (x ∷ []))
           (omega (arith, length-snoc w p, within-period 1 (meaning (literal l q a) (x ∷ [])) (one-period x)))
 
-says-if : (b : Bool) (s : Report) → Says (b && isMet s) (b && isBroken party1 s) (b && isBroken party2 s) (cond b s nothing)
-says-if true s = record { met-is = refl; one-is = refl; two-is = refl }
-says-if false s = record { met-is = refl; one-is = refl; two-is = refl }
-
 pub behaves-literal : {l : Literal} {q : Party} {a : ℕ} {S K sat one two : Signal}
-    → ((p : Period) (h : List Period) → let s = reportOf (literalDecision l q (tries p q a) (tries p (other q) a)) in
-    (sat p h ≡ (S p h && isMet s)) × (one p h ≡ (S p h && isBroken party1 s)) × (two p h ≡ (S p h && isBroken party2 s)))
+    → ((p : Period) (h : List Period)
+    → Says (sat p h) (one p h) (two p h) (literalReport l q (S p h) (tries p q a) (tries p (other q) a)))
     → Behaves (literal l q a) S K sat one two
 unfolding thread meaning
 behaves-literal {l} {q} {a} {S} {K} {sat} {one} {two} e = record { says = says }
   where
     says : (h : List Period) → Says (at sat h) (at one h) (at two h) (saidBy (literal l q a) (thread S K h))
-    says [] = record { met-is = refl; one-is = refl; two-is = refl }
-    says (p ∷ h) =
-        rw (e p h .0, e p h .1, e p h .2, said-by-literal l q a S K p h) (says-if (S p h) (reportOf (meaning (literal l q a) (p ∷ []))))
+    says [] = record { sat-is = refl; one-is = refl; two-is = refl }
+    says (p ∷ h) = rw (said-by-literal l q a S K p h) (e p h)

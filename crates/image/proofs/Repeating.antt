@@ -14,7 +14,7 @@ use lib.ListN.{length, drop, length-append, length-drop}
 use lib.Seq.{take-length, drop-length, drop-append-seam}
 use Rattle.periods.specs.Periods.{Party, party1, party2, Period}
 use Rattle.contract.specs.Meaning.{Clause, repeat, Blame, Decision, undecided, satisfied, violated, later, after, thenMeaning, repeatMeaning, meaning, EmptyFree}
-use Rattle.contract.proofs.Meaning.{decidedBy, within, stable, by-repeat}
+use Rattle.contract.proofs.Meaning.{decidedBy, decision-within, stable, by-repeat}
 use Rattle.contract.proofs.Verdicts.{stands}
 use Rattle.image.proofs.Signals.{Signal, at, _≐_, Report, nothing, met, broken, isMet, isBroken, Says, HandsOver}
 use Rattle.image.proofs.Threads.{Exclusive, extend, thread, length-snoc, is, first-period}
@@ -77,7 +77,7 @@ module _ (c : Clause) (g : EmptyFree c) where
       at-most : (n : ℕ) → length w ≤ n → repeatMeaning (meaning c) n w ≡ decidedBy (length w) (repeatMeaning (meaning c) (length w) w)
       at-most n h =
           rw (take-length w) at
-          (by-repeat (meaning c) (within c g) (stable c g) (length w) n (length w) w (le-refl (length w)) (rw (take-length w) h))
+          (by-repeat (meaning c) (decision-within c g) (stable c g) (length w) n (length w) w (le-refl (length w)) (rw (take-length w) h))
 
   -- a clause repeated is the clause, then the clause repeated
   repeat-is-then : (w : List Period) → meaning (repeat c) w ≡ thenMeaning (meaning c w) (after (meaning (repeat c)) w)
@@ -158,7 +158,7 @@ behaves-repeat {c} {S} {K} {again} {start} {go} {satC} {one} {two} {sat} g x w e
   where
     says : (h : List Period) (s : Report) → Says (at satC h) (at one h) (at two h) s → Says (at sat h) (at one h) (at two h) (unmet s)
     says h s b =
-        record { met-is = silent h ∙ sym (not-met s); one-is = b .one-is ∙ sym (same-blame party1 s); two-is = b .two-is ∙ sym (same-blame party2 s) }
+        record { sat-is = silent h ∙ sym (not-met s); one-is = b .one-is ∙ sym (same-blame party1 s); two-is = b .two-is ∙ sym (same-blame party2 s) }
       where
         silent : (h : List Period) → at sat h ≡ false
         silent [] = refl
@@ -168,4 +168,4 @@ behaves-repeat {c} {S} {K} {again} {start} {go} {satC} {one} {two} {sat} g x w e
     running [] = idle
     running (p ∷ h) =
         rw (e p h, w .starts p h, w .goes p h)
-        (step c g p (S p h) (K p h) (at satC h) (x .never-both p h) (running h) (sym (b .says h .met-is)))
+        (step c g p (S p h) (K p h) (at satC h) (x .never-both p h) (running h) (sym (b .says h .sat-is)))

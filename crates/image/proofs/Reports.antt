@@ -18,7 +18,7 @@ use Rattle.contract.specs.Readings.{Reading, pending, accepted, rejected, readi
 use Rattle.contract.specs.Meaning.{Clause, Blame, only, bothParties, Decision, undecided, satisfied, violated, later, meaning, EmptyFree}
 use Rattle.contract.specs.Verdicts.{decisionPeriod}
 use Rattle.contract.proofs.Readings.{readingBy, reading-take}
-use Rattle.contract.proofs.Meaning.{decidedBy, Within, within, ReadWithin, within-reading, not-yet, by-now, stable}
+use Rattle.contract.proofs.Meaning.{decidedBy, Within, decision-within, ReadWithin, within-reading, not-yet, by-now, stable}
 use Rattle.image.proofs.Signals.{Signal, at, Report, nothing, met, broken, isMet, blames, isBroken, reportOf, Says}
 use Rattle.image.proofs.Threads.{thread, Once, is, happens, length-snoc, Between}
 
@@ -162,7 +162,7 @@ module _ {test : Report → Bool} {tell : Decision → Option ℕ} (t : Tells te
   tell-once : (c : Clause) → EmptyFree c → Once (λ w. tell (meaning c w))
   tell-once c g =
       once-by (λ w. tell (meaning c w)) (λ n w. rw (stable c g n w) (tell-by n (meaning c w)))
-      (λ w. tell-between (length w) (meaning c w) (within c g w))
+      (λ w. tell-between (length w) (meaning c w) (decision-within c g w))
 
   -- a report in its own period
   in-period : (s : Report) (k n : ℕ) → test (cond (eqb k n) s nothing) ≡ is (cond (test s) (some k) none) n

@@ -17,7 +17,7 @@ use Rattle.machine.specs.Machine.{byteOf, isTrue, value, newValues, valuesAfter
 use Rattle.machine.proofs.Machine.{isTrue-byteOf, after-undecided, after-decided, after-snoc}
 use Rattle.contract.specs.Meaning.{Clause, Blame, only, bothParties, Decision, undecided, satisfied, violated, meaning, EmptyFree}
 use Rattle.contract.specs.Verdicts.{decisionPeriod, blame, blameNumber}
-use Rattle.contract.proofs.Meaning.{within, within-none}
+use Rattle.contract.proofs.Meaning.{decision-within, within-none}
 use Rattle.contract.proofs.Verdicts.{stands}
 use Rattle.reader.specs.Limits.{maxRecords}
 use Rattle.reader.specs.Spelling.{records, InRange}
@@ -134,7 +134,7 @@ module _ (c : Clause) (r : InRange c) (g : EmptyFree c) (n : records c ≤ maxRe
   unfolding valuesAfter values image
   at-start =
       record {
-        shown = rw (within-none (meaning c []) (within c g [])) record { outcome-is = refl; blame-is = refl; decision-is = refl };
+        shown = rw (within-none (meaning c []) (decision-within c g [])) record { outcome-is = refl; blame-is = refl; decision-is = refl };
         counts = refl;
         next = λ e p. values-first p _ [] (rowsFor c) (length (rowsFor c));
       }
@@ -153,9 +153,9 @@ module _ (c : Clause) (r : InRange c) (g : EmptyFree c) (n : records c ≤ maxRe
       decided (length w) d (rw l (once-decided c g .only-now (reverse h) p (ap decidedAt e))) in
       record {
         shown = rw (reverse-cons p h) record {
-          outcome-is = rw (t .met-is, t .one-is, t .two-is) (o .outcome-is);
+          outcome-is = rw (t .sat-is, t .one-is, t .two-is) (o .outcome-is);
           blame-is = rw (t .one-is, t .two-is) (o .blame-is);
-          decision-is = rw (t .met-is, t .one-is, t .two-is, m) (o .decision-is);
+          decision-is = rw (t .sat-is, t .one-is, t .two-is, m) (o .decision-is);
         };
         counts = rw (reverse-cons p h) m;
         next = λ u q. rw (ne-eqb (s .periods + 1) 0 (omega arith), bits-back);

@@ -17,7 +17,7 @@ use Rattle.image.proofs.Threads.{thread, happens, unlessPast, cut, cut-
 use Rattle.image.proofs.Reports.{decidedAt, once-decided, said, saidBy, NotBefore, silent-past, decided-happens, Behaves}
 
 pub exactly : (s : Report) → Says (isMet s) (isBroken party1 s) (isBroken party2 s) s
-exactly s = record { met-is = refl; one-is = refl; two-is = refl }
+exactly s = record { sat-is = refl; one-is = refl; two-is = refl }
 
 decided-at : (d : Decision) (k : ℕ) → decidedAt d ≡ some k → decisionPeriod d ≡ k
 decided-at undecided k e = cc
@@ -66,4 +66,4 @@ stops {c} {S} {K} {go} {done} {sat} {one} {two} g u done-is right =
     done-at [] i = rw (nothing-read S K)
     done-at (p ∷ h) i =
         let s = says-at (p ∷ h) i in
-        rw (done-is p h, s .met-is, s .one-is, s .two-is) (decided-happens c (thread S K (p ∷ h)))
+        rw (done-is p h, s .sat-is, s .one-is, s .two-is) (decided-happens c (thread S K (p ∷ h)))

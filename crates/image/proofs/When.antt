@@ -126,8 +126,8 @@ hands-when (rejected k) second = keeps
 
 says-rejection : (e : Expression) (t : Option (List Period)) {x : Bool} → x ≡ rejectedBy e t
     → Says x false false (nowBy (λ w. rejection (reading e w)) t)
-says-rejection e none h = record { met-is = h; one-is = refl; two-is = refl }
-says-rejection e (some w) h = record { met-is = h; one-is = never party1 (reading e w); two-is = never party2 (reading e w) }
+says-rejection e none h = record { sat-is = h; one-is = refl; two-is = refl }
+says-rejection e (some w) h = record { sat-is = h; one-is = never party1 (reading e w); two-is = never party2 (reading e w) }
   where
     never : (q : Party) (r : Reading) → false ≡ isBroken q (now (length w) (rejection r))
     never q pending = refl
