@@ -12,10 +12,13 @@ use lib.ListN.{length}
 use Rattle.periods.specs.Periods.{Party, party1, party2, Period}
 use Rattle.contract.specs.Meaning.{Clause, both, Blame, only, bothParties, unite, Decision, undecided, satisfied, violated, bothMeaning, meaning, EmptyFree}
 use Rattle.contract.proofs.Meaning.{Within, decision-within, Order, left-first, right-first, together, order}
-use Rattle.image.proofs.Signals.{Signal, at, _≐_, nothing, met, broken, blames, isBroken, reportOf, Says, UntilDone, Remembers}
-use Rattle.image.proofs.Threads.{isSome, Exclusive, exclusive-until-done, extend, thread, Once, happens, length-snoc, none-yet}
-use Rattle.image.proofs.Reports.{decidedAt, satisfiedAt, violatedAt, once-satisfied, unbroken, now, said, saidBy, NotBefore, timely, met-happens, Behaves}
-use Rattle.image.proofs.Stopping.{exactly, Unfinished, stops}
+use Rattle.image.proofs.Signals.{Signal, at, _≐_, nothing, met, broken, blames, isBroken, reportOf, Says, exactly, UntilDone, Remembers}
+use Rattle.image.proofs.Once.{isSome, Once, happens, length-snoc, none-yet}
+use Rattle.image.proofs.Threads.{Exclusive, exclusive-until-done, extend, thread}
+use Rattle.image.proofs.Reports.{decidedAt, satisfiedAt, violatedAt, unbroken, now, said, saidBy, NotBefore, timely}
+use Rattle.image.proofs.Deciding.{once-satisfied, met-happens}
+use Rattle.image.proofs.Behaviour.{Behaves}
+use Rattle.image.proofs.Stopping.{Unfinished, stops}
 
 -- ---- memory
 

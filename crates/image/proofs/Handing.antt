@@ -2,7 +2,7 @@
 -- the two parts has something to say, and the clause says just that.
 use Prim.Native.Nat.{ℕ, _+_, _-_, _≤_, _<_}
 use native.Mathlib.Omega.{arith}
-use mathlib.Core.Bool.{Bool, true, false, _||_, cond, or-false}
+use mathlib.Core.Bool.{Bool, false, _||_, or-false}
 use mathlib.Core.List.{List, []}
 use mathlib.Core.Logic.{_⊎_, inl, inr}
 use mathlib.Core.Option.{Option, none, some}
@@ -12,11 +12,14 @@ use lib.Dec.{eqb}
 use lib.ListN.{length, drop, length-drop, drop-of-length-le}
 use Rattle.records.proofs.Cases.{lt-or-le}
 use Rattle.periods.specs.Periods.{party1, party2, Period}
-use Rattle.contract.specs.Meaning.{Clause, then, repair, Blame, Decision, undecided, satisfied, violated, after, thenMeaning, repairMeaning, meaning, EmptyFree}
+use Rattle.contract.specs.Meaning.{Clause, then, repair, Decision, undecided, satisfied, violated, after, thenMeaning, repairMeaning, meaning, EmptyFree}
 use Rattle.contract.proofs.Meaning.{decision-within, within-none}
-use Rattle.image.proofs.Signals.{Signal, at, _≐_, at-or, Report, nothing, broken, isMet, Says, HandsOver}
-use Rattle.image.proofs.Threads.{Exclusive, thread, Once, happens, restAfter, handed, handed-over}
-use Rattle.image.proofs.Reports.{unbroken, satisfiedAt, violatedAt, once-satisfied, once-violated, now, said, saidBy, now-later, Behaves, met-happens, broken-happens}
+use Rattle.image.proofs.Signals.{Signal, at, _≐_, at-or, Report, nothing, Says, HandsOver}
+use Rattle.image.proofs.Once.{Once, happens}
+use Rattle.image.proofs.Threads.{Exclusive, thread, restAfter, handed, handed-over}
+use Rattle.image.proofs.Reports.{unbroken, unmet, satisfiedAt, violatedAt, now, said, saidBy, now-later}
+use Rattle.image.proofs.Deciding.{once-satisfied, once-violated, met-happens, broken-happens}
+use Rattle.image.proofs.Behaviour.{Behaves}
 
 -- ---- the shared law
 
@@ -74,13 +77,8 @@ module _ (f : List Period → Option ℕ) (once : Once f) (own : List Period →
 
 -- ---- `then` and `repair`
 
--- a violation is no satisfaction
-unmet : (b : Blame) (t : Bool) → isMet (cond t (broken b) nothing) ≡ false
-unmet b true = refl
-unmet b false = refl
-
 -- what is said of a part of each decision is said of that part of a clause's decision
-says-by : (part : Decision → Decision) → part undecided ≡ undecided → {x y z x′ y′ z′ : Bool}
+pub says-by : (part : Decision → Decision) → part undecided ≡ undecided → {x y z x′ y′ z′ : Bool}
     → ((n : ℕ) (d : Decision) → Says x y z (now n d) → Says x′ y′ z′ (now n (part d)))
     → (c : Clause) (t : Option (List Period)) → Says x y z (saidBy c t) → Says x′ y′ z′ (nowBy (λ w. part (meaning c w)) t)
 unfolding said
@@ -88,7 +86,7 @@ says-by part u f c none s = rw u at (f 0 undecided s)
 says-by part u f c (some w) s = f (length w) (meaning c w) s
 
 -- the first part of `then` keeps its violation
-abbrev violation : Decision → Decision
+abbrev pub violation : Decision → Decision
 violation d = thenMeaning d (λ k. undecided)
 
 hands-then : (d : Decision) (second : ℕ → Decision) → Hands second (satisfiedAt d) (violation d) (thenMeaning d second)
@@ -96,7 +94,7 @@ hands-then undecided second = keeps
 hands-then (satisfied k) second = passes
 hands-then (violated k b) second = keeps
 
-says-violation : {x y z : Bool} (n : ℕ) (d : Decision) → Says x y z (now n d) → Says false y z (now n (violation d))
+pub says-violation : {x y z : Bool} (n : ℕ) (d : Decision) → Says x y z (now n d) → Says false y z (now n (violation d))
 says-violation n undecided s = record { sat-is = refl; one-is = s .one-is; two-is = s .two-is }
 says-violation n (satisfied k) s =
     record { sat-is = refl; one-is = s .one-is ∙ unbroken party1 (eqb k n); two-is = s .two-is ∙ unbroken party2 (eqb k n) }

@@ -2,17 +2,19 @@
 use Prim.Native.Nat.{ℕ, suc, _≤_}
 use native.Mathlib.Nat.{le-refl}
 use native.Mathlib.Omega.{arith}
-use mathlib.Core.Bool.{Bool, true, false, _&&_, cond}
+use mathlib.Core.Bool.{Bool, true, false, cond}
 use mathlib.Core.List.{List, [], _∷_, _++_}
 use mathlib.Core.Option.{Option, none, some}
 use mathlib.Core.Path.{_≡_, refl}
 use lib.ListN.{length}
-use Rattle.periods.specs.Periods.{Party, party1, party2, other, Period, tries}
-use Rattle.contract.specs.Meaning.{Literal, literal, Decision, undecided, satisfied, violated, literalDecision, meaning, EmptyFree}
+use Rattle.periods.specs.Periods.{Party, other, Period, tries}
+use Rattle.contract.specs.Meaning.{Literal, literal, Decision, undecided, satisfied, violated, meaning, EmptyFree}
 use Rattle.contract.proofs.Meaning.{Within, decision-within, within-period}
-use Rattle.image.proofs.Signals.{Signal, at, Report, nothing, reportOf, literalReport, Says}
-use Rattle.image.proofs.Threads.{extend, thread, length-snoc}
-use Rattle.image.proofs.Reports.{decidedAt, said, saidBy, NotBefore, timely, silent-past, Behaves}
+use Rattle.image.proofs.Signals.{Signal, at, nothing, reportOf, literalReport, Says, exactly}
+use Rattle.image.proofs.Once.{length-snoc}
+use Rattle.image.proofs.Threads.{extend, thread}
+use Rattle.image.proofs.Reports.{decidedAt, said, saidBy, NotBefore, timely, silent-past}
+use Rattle.image.proofs.Behaviour.{Behaves}
 
 -- a decision in period 1 is not before it
 not-before-first : (d : Decision) → Within 1 d → NotBefore 1 (decidedAt d)
@@ -64,5 +66,5 @@ unfolding thread meaning
 behaves-literal {l} {q} {a} {S} {K} {sat} {one} {two} e = record { says = says }
   where
     says : (h : List Period) → Says (at sat h) (at one h) (at two h) (saidBy (literal l q a) (thread S K h))
-    says [] = record { sat-is = refl; one-is = refl; two-is = refl }
+    says [] = exactly nothing
     says (p ∷ h) = rw (said-by-literal l q a S K p h) (e p h)

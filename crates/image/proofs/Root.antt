@@ -14,7 +14,7 @@ use Rattle.layout.specs.Rows.{Row, never, initial, attempt, negation, conjuncti
 use Rattle.states.specs.States.{State}
 use Rattle.states.proofs.Fresh.{freshState}
 use Rattle.machine.specs.Machine.{byteOf, isTrue, value, newValues, valuesAfter, outcomeOf, blameOf, computed, counted, afterPeriod, afterPeriods}
-use Rattle.machine.proofs.Machine.{isTrue-byteOf, after-undecided, after-decided, after-snoc}
+use Rattle.machine.proofs.Machine.{isTrue-byteOf, after-undecided, after-decided}
 use Rattle.contract.specs.Meaning.{Clause, Blame, only, bothParties, Decision, undecided, satisfied, violated, meaning, EmptyFree}
 use Rattle.contract.specs.Verdicts.{decisionPeriod, blame, blameNumber}
 use Rattle.contract.proofs.Meaning.{decision-within, within-none}
@@ -28,8 +28,11 @@ use Rattle.image.proofs.Signals.{Signal, at, isFirst, _≐_, Obeys, isM
 use Rattle.image.proofs.RowLaws.{values, signal, obeys}
 use Rattle.image.proofs.Goodness.{writable}
 use Rattle.image.proofs.Wiring.{wired-clause}
-use Rattle.image.proofs.Threads.{Exclusive, extend, thread, length-snoc}
-use Rattle.image.proofs.Reports.{decidedAt, someone-blamed, once-decided, now, said, Behaves}
+use Rattle.image.proofs.Once.{length-snoc}
+use Rattle.image.proofs.Threads.{Exclusive, extend, thread}
+use Rattle.image.proofs.Reports.{decidedAt, someone-blamed, now, said}
+use Rattle.image.proofs.Deciding.{once-decided}
+use Rattle.image.proofs.Behaviour.{Behaves}
 use Rattle.image.proofs.Clauses.{behaves}
 
 -- ---- the root's signals: the clause begins to read in period 1 and goes on ever after

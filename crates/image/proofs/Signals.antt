@@ -89,6 +89,9 @@ pub record Says (sat one two : Bool) (s : Report) : Type 0 where
   pub one-is : one ≡ isBroken party1 s
   pub two-is : two ≡ isBroken party2 s
 
+pub exactly : (s : Report) → Says (isMet s) (isBroken party1 s) (isBroken party2 s) s
+exactly s = record { sat-is = refl; one-is = refl; two-is = refl }
+
 -- ---- the equations of each kind's block
 
 -- `go` is K as long as `done` was not true in the period before

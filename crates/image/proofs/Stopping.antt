@@ -9,15 +9,15 @@ use mathlib.Core.Path.{_≡_, refl, sym}
 use borrow.Author.Tests.{lt-ltb, le-ltb}
 use lib.ListN.{length}
 use Rattle.records.proofs.Cases.{lt-or-le}
-use Rattle.periods.specs.Periods.{party1, party2, Period}
+use Rattle.periods.specs.Periods.{Period}
 use Rattle.contract.specs.Meaning.{Clause, Decision, undecided, satisfied, violated, meaning, EmptyFree}
 use Rattle.contract.specs.Verdicts.{decisionPeriod}
-use Rattle.image.proofs.Signals.{Signal, at, _≐_, Report, nothing, isMet, isBroken, Says, UntilDone}
-use Rattle.image.proofs.Threads.{thread, happens, unlessPast, cut, cut-off}
-use Rattle.image.proofs.Reports.{decidedAt, once-decided, said, saidBy, NotBefore, silent-past, decided-happens, Behaves}
-
-pub exactly : (s : Report) → Says (isMet s) (isBroken party1 s) (isBroken party2 s) s
-exactly s = record { sat-is = refl; one-is = refl; two-is = refl }
+use Rattle.image.proofs.Signals.{Signal, at, _≐_, nothing, Says, exactly, UntilDone}
+use Rattle.image.proofs.Once.{happens}
+use Rattle.image.proofs.Threads.{thread, unlessPast, cut, cut-off}
+use Rattle.image.proofs.Reports.{decidedAt, said, saidBy, NotBefore, silent-past}
+use Rattle.image.proofs.Deciding.{once-decided, decided-happens}
+use Rattle.image.proofs.Behaviour.{Behaves}
 
 decided-at : (d : Decision) (k : ℕ) → decidedAt d ≡ some k → decisionPeriod d ≡ k
 decided-at undecided k e = cc

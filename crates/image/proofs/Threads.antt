@@ -1,7 +1,7 @@
 -- Which list of periods a block has read, by the signals that tell it when to read.
 -- A part that hands over to another leaves it the rest of the list (`handed-over`); a block that stops when it has decided has read the list
 -- as long as it is undecided (`cut-off`).
-use Prim.Native.Nat.{ℕ, suc, _≤_, _<_}
+use Prim.Native.Nat.{ℕ, suc}
 use native.Mathlib.Nat.{le-refl}
 use native.Mathlib.Omega.{arith}
 use mathlib.Core.Bool.{Bool, true, false, not, _&&_, cond, false≢true}
@@ -10,12 +10,12 @@ use mathlib.Core.Logic.{_↔_, _⊎_, ⊎-elim}
 use mathlib.Core.Option.{Option, none, some, Option·none-ne-some, Option·some-injective}
 use mathlib.Core.Path.{_≡_, refl, sym, _∙_, subst}
 use borrow.Author.Tests.{lt-ltb, le-ltb, eq-eqb, ne-eqb}
-use lib.Dec.{eqb, ltb}
-use lib.ListN.{length, drop, length-append}
+use lib.Dec.{ltb}
+use lib.ListN.{length, drop}
 use lib.Seq.{drop-append-seam, drop-append-le}
-use Rattle.records.proofs.Cases.{lt-or-le}
 use Rattle.periods.specs.Periods.{Period}
 use Rattle.image.proofs.Signals.{Signal, at, UntilDone, HandsOver}
+use Rattle.image.proofs.Once.{Once, isAt, happens, length-snoc, Grown, waiting, happening, just, past, grown, first-period}
 
 -- ---- threads
 
@@ -84,31 +84,7 @@ thread-is-active S K (p ∷ h) w e = go (S p h) refl (K p h) refl (thread S K h)
 pub thread-active : (S K : Signal) → Exclusive S K → (h w : List Period) → Active S K h w ↔ (thread S K h ≡ some w)
 thread-active S K x h w = (active-thread x, thread-is-active S K h w)
 
--- ---- what happens at one period of a list
-
--- between period 1 and period n, or not at all
-abbrev pub Between : ℕ → Option ℕ → Type 0
-Between n none = Unit {0}
-Between n (some k) = (1 ≤ k) × (k ≤ n)
-
--- f is a period of the list at which something happens: none so far, or one that stays when the list grows
-pub record Once (f : List Period → Option ℕ) : Type 0 where
-  pub between : (w : List Period) → Between (length w) (f w)
-  pub stays : (w : List Period) (p : Period) (k : ℕ) → f w ≡ some k → f (w ++ (p ∷ [])) ≡ some k
-  pub only-now : (w : List Period) (p : Period) → f w ≡ none → (f (w ++ (p ∷ [])) ≡ none) ⊎ (f (w ++ (p ∷ [])) ≡ some (suc (length w)))
-
-abbrev pub is : Option ℕ → ℕ → Bool
-is none n = false
-is (some k) n = eqb k n
-
-abbrev pub isSome : Option ℕ → Bool
-isSome none = false
-isSome (some k) = true
-
--- it happens in the last period of what has been read
-abbrev pub happens : (List Period → Option ℕ) → Option (List Period) → Bool
-happens f none = false
-happens f (some w) = is (f w) (length w)
+-- ---- what is left of the list when something happens
 
 -- what is left of a list after period k, if anything is
 abbrev pub restAfter : Option ℕ → List Period → Option (List Period)
@@ -128,44 +104,12 @@ abbrev pub cut : (List Period → Option ℕ) → Option (List Period) → Optio
 cut f none = none
 cut f (some w) = unlessPast (f w) w
 
-pub length-snoc : (w : List Period) (p : Period) → length (w ++ (p ∷ [])) ≡ suc (length w)
-length-snoc w p = rw (length-append w (p ∷ [])) (omega arith)
-
--- before and after the period that follows n others: it has not happened, happens now, has just happened, or is past
-data Grown (n : ℕ) : (before after : Option ℕ) → Type 0 where
-  never : Grown n none none
-  now : Grown n none (some (suc n))
-  just : Grown n (some n) (some n)
-  past : {k : ℕ} → k < n → Grown n (some k) (some k)
-
-not-at-start : (r : Option ℕ) → Between 0 r → r ≡ none
-not-at-start none b = refl
-not-at-start (some k) b = absurd (omega arith)
-
-module _ (f : List Period → Option ℕ) (o : Once f) where
-  grown : (w : List Period) (p : Period) → Grown (length w) (f w) (f (w ++ (p ∷ [])))
-  grown w p = go (f w) refl (o .between w)
-    where
-      go : (r : Option ℕ) → f w ≡ r → Between (length w) r → Grown (length w) r (f (w ++ (p ∷ [])))
-      go none e b = ⊎-elim (λ i. rw i never) (λ i. rw i now) (o .only-now w p e)
-      go (some k) e b = rw (o .stays w p k e) (⊎-elim (λ l. past l) last (lt-or-le k (length w)))
-        where
-          last : length w ≤ k → Grown (length w) (some k) (some k)
-          last l = let same : length w ≡ k = omega arith in subst (λ (j : ℕ). Grown (length w) (some j) (some j)) same just
-
-  pub none-yet : f [] ≡ none
-  none-yet = not-at-start (f []) (o .between [])
-
-  -- nothing is past in the first period
-  pub first-period : (p : Period) → (f (p ∷ []) ≡ none) ⊎ (f (p ∷ []) ≡ some 1)
-  first-period p = o .only-now [] p none-yet
-
 -- with one period more, what is handed over, and what is not cut off
 grows : (w : List Period) (p : Period) (r r′ : Option ℕ) → Grown (length w) r r′
-    → (cond (is r (length w)) (some (p ∷ [])) (cond (not (is r (length w))) (extend p (restAfter r w)) none) ≡ restAfter r′ (w ++ (p ∷ [])))
-    × (cond (not (is r (length w))) (extend p (unlessPast r w)) none ≡ unlessPast r′ (w ++ (p ∷ [])))
-grows w p none none never = (refl, refl)
-grows w p none (some k) now = rw (length-snoc w p, le-ltb (suc (length w)) (suc (length w)) (le-refl (suc (length w)))) (refl, refl)
+    → (cond (isAt r (length w)) (some (p ∷ [])) (cond (not (isAt r (length w))) (extend p (restAfter r w)) none) ≡ restAfter r′ (w ++ (p ∷ [])))
+    × (cond (not (isAt r (length w))) (extend p (unlessPast r w)) none ≡ unlessPast r′ (w ++ (p ∷ [])))
+grows w p none none waiting = (refl, refl)
+grows w p none (some k) happening = rw (length-snoc w p, le-ltb (suc (length w)) (suc (length w)) (le-refl (suc (length w)))) (refl, refl)
 grows w p (some j) (some k) just =
     rw (
       eq-eqb (length w) (length w) refl,

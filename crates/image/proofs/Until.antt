@@ -15,12 +15,15 @@ use Rattle.contract.specs.Expressions.{Expression, member}
 use Rattle.contract.specs.Readings.{Reading, pending, accepted, rejected, reading}
 use Rattle.contract.specs.Meaning.{Clause, until, Decision, undecided, satisfied, violated, untilMeaning, meaning, EmptyFree}
 use Rattle.contract.proofs.Meaning.{Within, decision-within}
-use Rattle.image.proofs.Signals.{Signal, at, _≐_, nothing, met, broken, isMet, isBroken, reportOf, Says, UntilDone}
-use Rattle.image.proofs.Threads.{isSome, thread, unlessPast}
-use Rattle.image.proofs.Reports.{decidedAt, acceptedAt, said, saidBy, NotBefore, timely, someone-blamed, Behaves}
+use Rattle.image.proofs.Signals.{Signal, at, _≐_, nothing, met, broken, isMet, isBroken, reportOf, Says, exactly, UntilDone}
+use Rattle.image.proofs.Once.{isSome}
+use Rattle.image.proofs.Threads.{thread, unlessPast}
+use Rattle.image.proofs.Reports.{decidedAt, said, saidBy, NotBefore, timely, someone-blamed}
+use Rattle.image.proofs.Deciding.{acceptedAt}
+use Rattle.image.proofs.Behaviour.{Behaves}
 use Rattle.image.proofs.Expressions.{heldBy, ReadsAlone}
 use Rattle.image.proofs.Tested.{Tested, goes-on, accepted-last, accepted-before, rejected-by-now, tested}
-use Rattle.image.proofs.Stopping.{exactly, Unfinished, stops}
+use Rattle.image.proofs.Stopping.{Unfinished, stops}
 
 held-if-accepted : {n : ℕ} {r : Reading} {m b : Bool} → Tested n r m b → NotBefore n (acceptedAt r) → m ≡ isSome (acceptedAt r)
 held-if-accepted goes-on h = refl

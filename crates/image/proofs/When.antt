@@ -19,8 +19,11 @@ use Rattle.contract.specs.Meaning.{Clause, when, Decision, undecided, satisfied
 use Rattle.contract.proofs.Expressions.{member-iff, begins-iff, some-list}
 use Rattle.contract.proofs.Readings.{readingBy, reading-take}
 use Rattle.image.proofs.Signals.{Signal, at, _≐_, isMet, isBroken, Says, HandsOver}
-use Rattle.image.proofs.Threads.{Exclusive, until-fired, extend, thread, happens, length-snoc, cut, cut-off}
-use Rattle.image.proofs.Reports.{unbroken, acceptedAt, once-accepted, now, Behaves}
+use Rattle.image.proofs.Once.{happens, length-snoc}
+use Rattle.image.proofs.Threads.{Exclusive, until-fired, extend, thread, cut, cut-off}
+use Rattle.image.proofs.Reports.{unbroken, now}
+use Rattle.image.proofs.Deciding.{acceptedAt, once-accepted}
+use Rattle.image.proofs.Behaviour.{Behaves}
 use Rattle.image.proofs.Expressions.{heldBy, beginsBy, ReadsAlone}
 use Rattle.image.proofs.Tested.{isPending, Tested, goes-on, accepted-last, accepted-before, rejected-by-now, accepted-now, pending-now, tested}
 use Rattle.image.proofs.Handing.{Hands, keeps, passes, nowBy, handing}
