@@ -16,7 +16,7 @@ use Rattle.image.proofs.Signals.{Signal, at, _≐_, nothing, met, broke
 use Rattle.image.proofs.Once.{isSome, Once, happens, length-snoc, none-yet}
 use Rattle.image.proofs.Threads.{Exclusive, exclusive-until-done, extend, thread}
 use Rattle.image.proofs.Reports.{decidedAt, satisfiedAt, violatedAt, unbroken, now, said, saidBy, NotBefore, timely}
-use Rattle.image.proofs.Deciding.{once-satisfied, met-happens}
+use Rattle.image.proofs.Decisions.{once-satisfied, met-happens}
 use Rattle.image.proofs.Behaviour.{Behaves}
 use Rattle.image.proofs.Stopping.{Unfinished, stops}
 
@@ -28,9 +28,9 @@ happened f none = false
 happened f (some w) = isSome (f w)
 
 module _ (f : List Period → Option ℕ) (o : Once f) where
-  -- before or now
-  happened-by : (w : List Period) (p : Period) → (isSome (f w) || happens f (some (w ++ (p ∷ [])))) ≡ isSome (f (w ++ (p ∷ [])))
-  happened-by w p = go (f w) refl
+  -- it has happened with one period more where it had before or happens now
+  before-or-now : (w : List Period) (p : Period) → (isSome (f w) || happens f (some (w ++ (p ∷ [])))) ≡ isSome (f (w ++ (p ∷ [])))
+  before-or-now w p = go (f w) refl
     where
       go : (k : Option ℕ) → f w ≡ k → (isSome k || happens f (some (w ++ (p ∷ [])))) ≡ isSome (f (w ++ (p ∷ [])))
       go (some k) e = rw (o .stays w p k e)
@@ -51,9 +51,9 @@ module _ (f : List Period → Option ℕ) (o : Once f) where
           → (k && happened f t || happens f (cond s (some (p ∷ [])) (cond k (extend p t) none)))
           ≡ happened f (cond s (some (p ∷ [])) (cond k (extend p t) none))
       step true true t e = absurd (false≢true (sym e))
-      step true false t e = rw (none-yet f o) at (happened-by [] p)
+      step true false t e = rw (none-yet f o) at (before-or-now [] p)
       step false true none e = refl
-      step false true (some w) e = happened-by w p
+      step false true (some w) e = before-or-now w p
       step false false t e = refl
 
 -- ---- both

@@ -1,8 +1,8 @@
 -- What the signals of an expression's block tell: a list of its set ends now, and a list that has begun may go on.
 -- `seq` and `star` share one law: what starts whenever a list has ended reads the rest (`going-on`).
 use mathlib.Core.Bool.{Bool, true, false, _&&_, _||_, and-eq-true-iff, and-false, or-assoc, false≢true}
-use mathlib.Core.List.{List, [], _∷_, _++_, append-eq-nil-iff, cons-ne-nil}
-use mathlib.Core.Logic.{_↔_, _≢_, _⊎_, inl, inr, ⊎-elim, Iff·rfl, Iff·symm, Iff·trans, Iff·and}
+use mathlib.Core.List.{List, [], _∷_, _++_, append-eq-nil-iff}
+use mathlib.Core.Logic.{_↔_, _≢_, _⊎_, inl, inr, ⊎-elim, ⊎-map, Iff·rfl, Iff·symm, Iff·trans, Iff·and}
 use mathlib.Core.Option.{Option, none, some}
 use mathlib.Core.Path.{_≡_, refl, sym, _∙_}
 use Rattle.periods.specs.Periods.{Period}
@@ -11,14 +11,11 @@ use Rattle.contract.specs.Expressions.{Atom, holds, Expression, atom, seq, or, 
 use Rattle.records.proofs.Cases.{or-cases}
 use Rattle.contract.proofs.Expressions.{Concat, member-iff, begins-iff, empty-iff, held-or}
 use Rattle.image.proofs.Signals.{Signal, at, _≐_, at-or, JoinsOn, whereEmpty, WiredExpression, wired-atom, wired-seq, wired-or, wired-star}
-use Rattle.image.proofs.Threads.{Active, started, kept, Exclusive, thread, thread-active}
+use Rattle.image.proofs.Threads.{Active, started, kept, not-empty, Exclusive, thread, thread-active}
 use Rattle.image.proofs.Languages.{Language, NonEmpty, Before, GoesOn, concat-before, concat-empty, begins-or, concat-begin, atom-single, seq-iff, seq-goes, star-iff, star-goes}
 
 or-iff : (a b : Bool) {A B : Type 0} → ((a ≡ true) ↔ A) → ((b ≡ true) ↔ B) → (a || b ≡ true) ↔ (A ⊎ B)
-or-iff a b f g = (
-  λ h. ⊎-elim (λ t. inl (f .0 t)) (λ t. inr (g .0 t)) (or-cases a b .0 h),
-  ⊎-elim (λ t. or-cases a b .1 (inl (f .1 t))) (λ t. or-cases a b .1 (inr (g .1 t))),
-)
+or-iff a b f g = Iff·trans (or-cases a b) (⊎-map (f .0) (g .0), ⊎-map (f .1) (g .1))
 
 and-iff : (a b : Bool) {A B : Type 0} → ((a ≡ true) ↔ A) → ((b ≡ true) ↔ B) → (a && b ≡ true) ↔ (A × B)
 and-iff a b f g = Iff·trans (and-eq-true-iff a b) (Iff·and f g)
@@ -34,10 +31,6 @@ same false false h = refl
 -- a list of the set has been read up to now
 abbrev HasRead : (S K : Signal) → List Period → Language → Type 0
 HasRead S K h L = (w : List Period) × (Active S K h w × L w)
-
-not-empty : {S K : Signal} {h w : List Period} → Active S K h w → (h ≢ []) × (w ≢ [])
-not-empty (started {p = p} {h = h} s) = (cons-ne-nil p h, cons-ne-nil p [])
-not-empty (kept {p = p} {h = h} {w = w} k a) = (cons-ne-nil p h, λ z. cons-ne-nil p [] (append-eq-nil-iff {p = w} .0 z .1))
 
 read-iff : {S K : Signal} {L M : Language} (h : List Period) → ((w : List Period) → w ≢ [] → L w ↔ M w) → HasRead S K h L ↔ HasRead S K h M
 read-iff h f = (λ (w, (a, l)). (w, (a, f w (not-empty a .1) .0 l)), λ (w, (a, m)). (w, (a, f w (not-empty a .1) .1 m)))

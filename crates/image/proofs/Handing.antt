@@ -18,7 +18,7 @@ use Rattle.image.proofs.Signals.{Signal, at, _≐_, at-or, Report, noth
 use Rattle.image.proofs.Once.{Once, happens}
 use Rattle.image.proofs.Threads.{Exclusive, thread, restAfter, handed, handed-over}
 use Rattle.image.proofs.Reports.{unbroken, unmet, satisfiedAt, violatedAt, now, said, saidBy, now-later}
-use Rattle.image.proofs.Deciding.{once-satisfied, once-violated, met-happens, broken-happens}
+use Rattle.image.proofs.Decisions.{once-satisfied, once-violated, met-happens, broken-happens}
 use Rattle.image.proofs.Behaviour.{Behaves}
 
 -- ---- the shared law

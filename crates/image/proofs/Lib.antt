@@ -9,7 +9,7 @@ pub mod Threads
 pub mod Languages
 pub mod Expressions
 pub mod Reports
-pub mod Deciding
+pub mod Decisions
 pub mod Behaviour
 pub mod Tested
 pub mod Handing

@@ -19,7 +19,7 @@ use Rattle.image.proofs.Signals.{Signal, at, _≐_, isMet, HandsOver}
 use Rattle.image.proofs.Once.{length-snoc, isAt, first-period}
 use Rattle.image.proofs.Threads.{Exclusive, extend, thread}
 use Rattle.image.proofs.Reports.{satisfiedAt, now, said, saidBy, now-later}
-use Rattle.image.proofs.Deciding.{once-satisfied, met-happens}
+use Rattle.image.proofs.Decisions.{once-satisfied, met-happens}
 use Rattle.image.proofs.Behaviour.{Behaves}
 use Rattle.image.proofs.Handing.{nowBy, says-by, violation, says-violation}
 

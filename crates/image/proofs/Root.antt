@@ -31,7 +31,7 @@ use Rattle.image.proofs.Wiring.{wired-clause}
 use Rattle.image.proofs.Once.{length-snoc}
 use Rattle.image.proofs.Threads.{Exclusive, extend, thread}
 use Rattle.image.proofs.Reports.{decidedAt, someone-blamed, now, said}
-use Rattle.image.proofs.Deciding.{once-decided}
+use Rattle.image.proofs.Decisions.{once-decided}
 use Rattle.image.proofs.Behaviour.{Behaves}
 use Rattle.image.proofs.Clauses.{behaves}
 
@@ -97,10 +97,10 @@ decided n (violated k b) (inr e) =
     let i : k ≡ n = cc in
     rw (eq-eqb k n i) record { outcome-is = rw (someone-blamed b); blame-is = blame-number b; decision-is = rw (someone-blamed b) (sym i) }
 
-open-or-decided : (d : Decision) → (d ≡ undecided) ⊎ (¬ (d ≡ undecided) × ¬ (outcome d ≡ 0))
+open-or-decided : (d : Decision) → (d ≡ undecided) ⊎ ¬ (outcome d ≡ 0)
 open-or-decided undecided = inl refl
-open-or-decided (satisfied k) = inr (λ e. let z : _≡_ {A = ℕ} 0 1 = cc in omega arith, λ e. omega arith)
-open-or-decided (violated k b) = inr (λ e. let z : _≡_ {A = ℕ} 0 1 = cc in omega arith, λ e. omega arith)
+open-or-decided (satisfied k) = inr (λ e. omega arith)
+open-or-decided (violated k b) = inr (λ e. omega arith)
 
 -- ---- the machine
 
@@ -179,7 +179,7 @@ module _ (c : Clause) (r : InRange c) (g : EmptyFree c) (n : records c ≤ maxRe
   after-next : (p : Period) (h : List Period) (s : State) → Agrees h s → Agrees (p ∷ h) (afterPeriod (image c) p s)
   after-next p h s a =
       ⊎-elim (λ e. rw (after-undecided (image c) p s (a .shown .outcome-is ∙ ap outcome e), a .next e p) (computed-next p h s a e))
-      (λ e. rw (after-decided (image c) p s (λ z. e .1 (sym (a .shown .outcome-is) ∙ z))) (counted-next p h s a (e .0)))
+      (λ e. rw (after-decided (image c) p s (λ z. e (sym (a .shown .outcome-is) ∙ z))) (counted-next p h s a (λ u. e (ap outcome u))))
       (open-or-decided (meaning c (reverse h)))
 
   -- and so on, period by period: `reverseAux h w` is the history's periods in their order and then w

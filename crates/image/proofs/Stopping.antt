@@ -16,7 +16,7 @@ use Rattle.image.proofs.Signals.{Signal, at, _≐_, nothing, Says, exac
 use Rattle.image.proofs.Once.{happens}
 use Rattle.image.proofs.Threads.{thread, unlessPast, cut, cut-off}
 use Rattle.image.proofs.Reports.{decidedAt, said, saidBy, NotBefore, silent-past}
-use Rattle.image.proofs.Deciding.{once-decided, decided-happens}
+use Rattle.image.proofs.Decisions.{once-decided, decided-happens}
 use Rattle.image.proofs.Behaviour.{Behaves}
 
 decided-at : (d : Decision) (k : ℕ) → decidedAt d ≡ some k → decisionPeriod d ≡ k

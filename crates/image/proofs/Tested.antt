@@ -17,7 +17,7 @@ use Rattle.contract.proofs.Expressions.{member-iff, begins-iff}
 use Rattle.contract.proofs.Readings.{accepted-iff, rejected-iff}
 use Rattle.image.proofs.Once.{isAt}
 use Rattle.image.proofs.Threads.{unlessPast}
-use Rattle.image.proofs.Deciding.{acceptedAt}
+use Rattle.image.proofs.Decisions.{acceptedAt}
 use Rattle.image.proofs.Expressions.{heldBy, beginsBy}
 
 abbrev pub isPending : Reading → Bool

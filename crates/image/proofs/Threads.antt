@@ -5,8 +5,8 @@ use Prim.Native.Nat.{ℕ, suc}
 use native.Mathlib.Nat.{le-refl}
 use native.Mathlib.Omega.{arith}
 use mathlib.Core.Bool.{Bool, true, false, not, _&&_, cond, false≢true}
-use mathlib.Core.List.{List, [], _∷_, _++_}
-use mathlib.Core.Logic.{_↔_, _⊎_, ⊎-elim}
+use mathlib.Core.List.{List, [], _∷_, _++_, append-eq-nil-iff, cons-ne-nil}
+use mathlib.Core.Logic.{_↔_, _≢_, _⊎_, ⊎-elim}
 use mathlib.Core.Option.{Option, none, some, Option·none-ne-some, Option·some-injective}
 use mathlib.Core.Path.{_≡_, refl, sym, _∙_, subst}
 use borrow.Author.Tests.{lt-ltb, le-ltb, eq-eqb, ne-eqb}
@@ -23,6 +23,10 @@ use Rattle.image.proofs.Once.{Once, isAt, happens, length-snoc, Grown, 
 pub data Active (S K : Signal) : (h w : List Period) → Type 0 where
   started : {p : Period} {h : List Period} → S p h ≡ true → Active S K (p ∷ h) (p ∷ [])
   kept : {p : Period} {h w : List Period} → K p h ≡ true → Active S K h w → Active S K (p ∷ h) (w ++ (p ∷ []))
+
+pub not-empty : {S K : Signal} {h w : List Period} → Active S K h w → (h ≢ []) × (w ≢ [])
+not-empty (started {p = p} {h = h} s) = (cons-ne-nil p h, cons-ne-nil p [])
+not-empty (kept {p = p} {h = h} {w = w} k a) = (cons-ne-nil p h, λ z. cons-ne-nil p [] (append-eq-nil-iff {p = w} .0 z .1))
 
 -- never both
 pub record Exclusive (S K : Signal) : Type 0 where
@@ -68,7 +72,7 @@ unfolding thread
 active-thread x (started s) = rw s
 active-thread {S} {K} x (kept {p = p} {h = h} k a) = rw (only-kept (S p h) (K p h) (x .never-both p h) k, k, active-thread x a)
 
-thread-is-active : (S K : Signal) (h w : List Period) → thread S K h ≡ some w → Active S K h w
+pub thread-is-active : (S K : Signal) (h w : List Period) → thread S K h ≡ some w → Active S K h w
 unfolding thread
 thread-is-active S K [] w e = absurd (Option·none-ne-some w e)
 thread-is-active S K (p ∷ h) w e = go (S p h) refl (K p h) refl (thread S K h) (thread-is-active S K h) e

@@ -19,7 +19,7 @@ use Rattle.image.proofs.Signals.{Signal, at, _≐_, nothing, met, broke
 use Rattle.image.proofs.Once.{isSome}
 use Rattle.image.proofs.Threads.{thread, unlessPast}
 use Rattle.image.proofs.Reports.{decidedAt, said, saidBy, NotBefore, timely, someone-blamed}
-use Rattle.image.proofs.Deciding.{acceptedAt}
+use Rattle.image.proofs.Decisions.{acceptedAt}
 use Rattle.image.proofs.Behaviour.{Behaves}
 use Rattle.image.proofs.Expressions.{heldBy, ReadsAlone}
 use Rattle.image.proofs.Tested.{Tested, goes-on, accepted-last, accepted-before, rejected-by-now, tested}

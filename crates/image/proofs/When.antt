@@ -22,7 +22,7 @@ use Rattle.image.proofs.Signals.{Signal, at, _≐_, isMet, isBroken, Sa
 use Rattle.image.proofs.Once.{happens, length-snoc}
 use Rattle.image.proofs.Threads.{Exclusive, until-fired, extend, thread, cut, cut-off}
 use Rattle.image.proofs.Reports.{unbroken, now}
-use Rattle.image.proofs.Deciding.{acceptedAt, once-accepted}
+use Rattle.image.proofs.Decisions.{acceptedAt, once-accepted}
 use Rattle.image.proofs.Behaviour.{Behaves}
 use Rattle.image.proofs.Expressions.{heldBy, beginsBy, ReadsAlone}
 use Rattle.image.proofs.Tested.{isPending, Tested, goes-on, accepted-last, accepted-before, rejected-by-now, accepted-now, pending-now, tested}

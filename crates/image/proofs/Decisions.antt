@@ -102,10 +102,10 @@ acceptedAt pending = none
 acceptedAt (accepted k) = some k
 acceptedAt (rejected k) = none
 
-accepted-by : (n : ℕ) (r : Reading) → acceptedAt (readingBy n r) ≡ happenedBy n (acceptedAt r)
-accepted-by n pending = refl
-accepted-by n (accepted k) = elim (ltb n k) as (λ t. acceptedAt (cond t pending (accepted k)) ≡ cond t none (some k)) [ true ↦ refl | false ↦ refl ]
-accepted-by n (rejected k) = elim (ltb n k) as (λ t. acceptedAt (cond t pending (rejected k)) ≡ none) [ true ↦ refl | false ↦ refl ]
+accepted-by-then : (n : ℕ) (r : Reading) → acceptedAt (readingBy n r) ≡ happenedBy n (acceptedAt r)
+accepted-by-then n pending = refl
+accepted-by-then n (accepted k) = elim (ltb n k) as (λ t. acceptedAt (cond t pending (accepted k)) ≡ cond t none (some k)) [ true ↦ refl | false ↦ refl ]
+accepted-by-then n (rejected k) = elim (ltb n k) as (λ t. acceptedAt (cond t pending (rejected k)) ≡ none) [ true ↦ refl | false ↦ refl ]
 
 accepted-between : (n : ℕ) (r : Reading) → ReadWithin n r → Between n (acceptedAt r)
 accepted-between n pending b = tt
@@ -114,5 +114,5 @@ accepted-between n (rejected k) b = tt
 
 pub once-accepted : (e : Expression) → ¬ Holds e [] → Once (λ w. acceptedAt (reading e w))
 once-accepted e g =
-    once-by (λ w. acceptedAt (reading e w)) (λ n w. rw (reading-take e w n) (accepted-by n (reading e w)))
+    once-by (λ w. acceptedAt (reading e w)) (λ n w. rw (reading-take e w n) (accepted-by-then n (reading e w)))
     (λ w. accepted-between (length w) (reading e w) (within-reading e w g))
