@@ -15,7 +15,7 @@ use Rattle.contract.proofs.Meaning.{Within, decision-within, Order, left-first,
 use Rattle.image.proofs.Signals.{Signal, at, _≐_, nothing, met, broken, blames, isBroken, reportOf, Says, exactly, UntilDone, Remembers}
 use Rattle.image.proofs.Once.{isSome, Once, happens, length-snoc, none-yet}
 use Rattle.image.proofs.Threads.{Exclusive, exclusive-until-done, extend, thread}
-use Rattle.image.proofs.Reports.{decidedAt, satisfiedAt, violatedAt, unbroken, now, said, saidBy, NotBefore, timely}
+use Rattle.image.proofs.Reports.{decidedAt, satisfiedAt, violatedAt, unbroken, now, saidBy, NotBefore, timely}
 use Rattle.image.proofs.Decisions.{once-satisfied, met-happens}
 use Rattle.image.proofs.Behaviour.{Behaves}
 use Rattle.image.proofs.Stopping.{Unfinished, stops}
@@ -110,7 +110,7 @@ both-said : (l r : Clause) → EmptyFree (both l r) → (v : Option (List Period
     → Says (happened (λ w. satisfiedAt (meaning l w)) v && happened (λ w. satisfiedAt (meaning r w)) v)
     (isBroken party1 (saidBy l v) || isBroken party1 (saidBy r v)) (isBroken party2 (saidBy l v) || isBroken party2 (saidBy r v))
     (saidBy (both l r) v)
-unfolding said meaning EmptyFree
+unfolding meaning EmptyFree
 both-said l r g none u = exactly nothing
 both-said l r g (some w) u =
     let n = length w in

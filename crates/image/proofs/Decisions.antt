@@ -18,7 +18,7 @@ use Rattle.contract.proofs.Readings.{readingBy, reading-take}
 use Rattle.contract.proofs.Meaning.{decidedBy, Within, decision-within, ReadWithin, within-reading, not-yet, by-now, stable}
 use Rattle.image.proofs.Signals.{Report, nothing, met, broken, isMet, isBroken, reportOf}
 use Rattle.image.proofs.Once.{Between, Once, isAt, happens, happenedBy, once-by}
-use Rattle.image.proofs.Reports.{now, said, saidBy, someone-blamed, periodIf, isViolation, satisfiedAt, violatedAt, decidedAt}
+use Rattle.image.proofs.Reports.{now, saidBy, someone-blamed, periodIf, isViolation, satisfiedAt, violatedAt, decidedAt}
 
 -- ---- decisions
 
@@ -64,7 +64,6 @@ module _ (test : Report → Bool) (silent : test nothing ≡ false) where
   if-now n (violated k x) = in-period (broken x) k n
 
   if-happens : (c : Clause) (t : Option (List Period)) → test (saidBy c t) ≡ happens (λ w. periodIf test (meaning c w)) t
-  unfolding said
   if-happens c none = silent
   if-happens c (some w) = if-now (length w) (meaning c w)
 

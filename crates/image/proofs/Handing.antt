@@ -14,10 +14,10 @@ use Rattle.records.proofs.Cases.{lt-or-le}
 use Rattle.periods.specs.Periods.{party1, party2, Period}
 use Rattle.contract.specs.Meaning.{Clause, then, repair, Decision, undecided, satisfied, violated, after, thenMeaning, repairMeaning, meaning, EmptyFree}
 use Rattle.contract.proofs.Meaning.{decision-within, within-none}
-use Rattle.image.proofs.Signals.{Signal, at, _≐_, at-or, Report, nothing, Says, HandsOver}
+use Rattle.image.proofs.Signals.{Signal, at, _≐_, at-or, Says, HandsOver}
 use Rattle.image.proofs.Once.{Once, happens}
 use Rattle.image.proofs.Threads.{Exclusive, thread, restAfter, handed, handed-over}
-use Rattle.image.proofs.Reports.{unbroken, unmet, satisfiedAt, violatedAt, now, said, saidBy, now-later}
+use Rattle.image.proofs.Reports.{unbroken, unmet, satisfiedAt, violatedAt, now, nowBy, saidBy, now-later}
 use Rattle.image.proofs.Decisions.{once-satisfied, once-violated, met-happens, broken-happens}
 use Rattle.image.proofs.Behaviour.{Behaves}
 
@@ -29,14 +29,8 @@ pub data Hands (second : ℕ → Decision) : Option ℕ → (own whole : Decisio
   keeps : {d : Decision} → Hands second none d d
   passes : {k : ℕ} → Hands second (some k) undecided (second k)
 
--- a decision in the last period of what has been read
-abbrev pub nowBy : (List Period → Decision) → Option (List Period) → Report
-nowBy m none = nothing
-nowBy m (some w) = now (length w) (m w)
-
 -- the second part says on the rest of the list what its decision says in periods of the whole
 said-after : (c : Clause) → EmptyFree c → (w : List Period) (k : ℕ) → saidBy c (restAfter (some k) w) ≡ now (length w) (after (meaning c) w k)
-unfolding said
 said-after c g w k = go (lt-or-le k (length w))
   where
     go : (k < length w) ⊎ (length w ≤ k) → saidBy c (restAfter (some k) w) ≡ now (length w) (after (meaning c) w k)
@@ -65,7 +59,6 @@ module _ (f : List Period → Option ℕ) (once : Once f) (own : List Period →
     (hands : (w : List Period) → Hands (after (meaning c) w) (f w) (own w) (meaning whole w)) where
   one-says : (t : Option (List Period)) {x y z x′ y′ z′ : Bool} → Says x y z (nowBy own t) → Says x′ y′ z′ (saidBy c (handed f t))
       → Says (x || x′) (y || y′) (z || z′) (saidBy whole t)
-  unfolding said
   one-says none p q = record { sat-is = rw (p .sat-is, q .sat-is); one-is = rw (p .one-is, q .one-is); two-is = rw (p .two-is, q .two-is) }
   one-says (some w) p q = one-speaks c free w (hands w) p q
 
@@ -81,7 +74,6 @@ module _ (f : List Period → Option ℕ) (once : Once f) (own : List Period →
 pub says-by : (part : Decision → Decision) → part undecided ≡ undecided → {x y z x′ y′ z′ : Bool}
     → ((n : ℕ) (d : Decision) → Says x y z (now n d) → Says x′ y′ z′ (now n (part d)))
     → (c : Clause) (t : Option (List Period)) → Says x y z (saidBy c t) → Says x′ y′ z′ (nowBy (λ w. part (meaning c w)) t)
-unfolding said
 says-by part u f c none s = rw u at (f 0 undecided s)
 says-by part u f c (some w) s = f (length w) (meaning c w) s
 

@@ -9,10 +9,10 @@ use lib.ListN.{length}
 use Rattle.periods.specs.Periods.{Party, other, Period, tries}
 use Rattle.contract.specs.Meaning.{Literal, literal, Decision, undecided, satisfied, violated, meaning, EmptyFree}
 use Rattle.contract.proofs.Meaning.{Within, decision-within, within-period}
-use Rattle.image.proofs.Signals.{Signal, at, nothing, reportOf, literalReport, Says, exactly}
+use Rattle.image.proofs.Signals.{Signal, at, nothing, literalReport, Says, exactly}
 use Rattle.image.proofs.Once.{length-snoc}
 use Rattle.image.proofs.Threads.{not-empty, extend, thread, thread-is-active}
-use Rattle.image.proofs.Reports.{decidedAt, said, saidBy, NotBefore, timely, silent-past}
+use Rattle.image.proofs.Reports.{decidedAt, saidBy, NotBefore, timely, silent-past}
 use Rattle.image.proofs.Behaviour.{Behaves}
 
 -- a decision in period 1 is not before it
@@ -27,12 +27,12 @@ module _ (l : Literal) (q : Party) (a : ℕ) where
   within-first p = decision-within (literal l q a) tt (p ∷ [])
 
   said-by-literal : (S K : Signal) (p : Period) (h : List Period)
-      → saidBy (literal l q a) (thread S K (p ∷ h)) ≡ cond (S p h) (reportOf (meaning (literal l q a) (p ∷ []))) nothing
-  unfolding thread said meaning
+      → saidBy (literal l q a) (thread S K (p ∷ h)) ≡ literalReport l q (S p h) (tries p q a) (tries p (other q) a)
+  unfolding thread meaning
   said-by-literal S K p h = go (S p h) (K p h) (thread S K h) refl
     where
       go : (s k : Bool) (t : Option (List Period)) → thread S K h ≡ t
-          → saidBy (literal l q a) (cond s (some (p ∷ [])) (cond k (extend p t) none)) ≡ cond s (reportOf (meaning (literal l q a) (p ∷ []))) nothing
+          → saidBy (literal l q a) (cond s (some (p ∷ [])) (cond k (extend p t) none)) ≡ literalReport l q s (tries p q a) (tries p (other q) a)
       go true k t b = timely 1 (meaning (literal l q a) (p ∷ [])) (within-first p) (not-before-first (meaning (literal l q a) (p ∷ [])) (within-first p))
       go false false t b = refl
       go false true none b = refl
@@ -45,7 +45,7 @@ pub behaves-literal : {l : Literal} {q : Party} {a : ℕ} {S K sat one two : Sig
     → ((p : Period) (h : List Period)
     → Says (sat p h) (one p h) (two p h) (literalReport l q (S p h) (tries p q a) (tries p (other q) a)))
     → Behaves (literal l q a) S K sat one two
-unfolding thread meaning
+unfolding thread
 behaves-literal {l} {q} {a} {S} {K} {sat} {one} {two} e = record { says = says }
   where
     says : (h : List Period) → Says (at sat h) (at one h) (at two h) (saidBy (literal l q a) (thread S K h))

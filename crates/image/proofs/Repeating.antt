@@ -18,10 +18,10 @@ use Rattle.contract.proofs.Verdicts.{stands}
 use Rattle.image.proofs.Signals.{Signal, at, _≐_, isMet, HandsOver}
 use Rattle.image.proofs.Once.{length-snoc, isAt, first-period}
 use Rattle.image.proofs.Threads.{Exclusive, extend, thread}
-use Rattle.image.proofs.Reports.{satisfiedAt, now, said, saidBy, now-later}
+use Rattle.image.proofs.Reports.{satisfiedAt, now, nowBy, saidBy, now-later}
 use Rattle.image.proofs.Decisions.{once-satisfied, met-happens}
 use Rattle.image.proofs.Behaviour.{Behaves}
-use Rattle.image.proofs.Handing.{nowBy, says-by, violation, says-violation}
+use Rattle.image.proofs.Handing.{says-by, violation, says-violation}
 
 -- the clause is not satisfied before the last period
 abbrev Open : Clause → List Period → Type 0
@@ -77,8 +77,7 @@ module _ (c : Clause) (g : EmptyFree c) where
   repeat-nothing = refl
 
   -- the repeated clause says of a list what the clause says of its last run, but not that it is satisfied
-  said-of-run : {w u : List Period} → Runs c w u → said (repeat c) w ≡ now (length u) (violation (meaning c u))
-  unfolding said
+  said-of-run : {w u : List Period} → Runs c w u → saidBy (repeat c) (some w) ≡ now (length u) (violation (meaning c u))
   said-of-run (last {u = u} o) = rw (repeat-is-then u) (go (meaning c u) o)
     where
       go : (d : Decision) → (satisfiedAt d ≡ none) ⊎ (satisfiedAt d ≡ some (length u))
@@ -99,7 +98,7 @@ module _ (c : Clause) (g : EmptyFree c) where
     first-open : Open c (p ∷ [])
     first-open = first-period (λ w. satisfiedAt (meaning c w)) (once-satisfied c g) p
 
-    still-open : (u : List Period) → Open c u → isMet (said c u) ≡ false → Open c (u ++ (p ∷ []))
+    still-open : (u : List Period) → Open c u → isMet (saidBy c (some u)) ≡ false → Open c (u ++ (p ∷ []))
     still-open u (inl i) e = rw (length-snoc u p) (once-satisfied c g .only-now u p i)
     still-open u (inr i) e =
         let ended : isAt (satisfiedAt (meaning c u)) (length u) ≡ true = rw (i, eq-eqb (length u) (length u) refl) in

@@ -20,14 +20,14 @@ now n undecided = nothing
 now n (satisfied k) = cond (eqb k n) met nothing
 now n (violated k b) = cond (eqb k n) (broken b) nothing
 
--- what a clause says in the last period of a list
-unfoldable pub said : Clause → List Period → Report
-said c w = now (length w) (meaning c w)
+-- the decision of a meaning in the last period of what has been read, if anything has
+abbrev pub nowBy : (List Period → Decision) → Option (List Period) → Report
+nowBy m none = nothing
+nowBy m (some w) = now (length w) (m w)
 
--- and of what has been read, if anything has
+-- what a clause says in that period
 abbrev pub saidBy : Clause → Option (List Period) → Report
-saidBy c none = nothing
-saidBy c (some w) = said c w
+saidBy c = nowBy (meaning c)
 
 -- a satisfaction is no violation, and a violation no satisfaction
 pub unbroken : (q : Party) (t : Bool) → isBroken q (cond t met nothing) ≡ false

@@ -30,7 +30,7 @@ use Rattle.image.proofs.Goodness.{writable}
 use Rattle.image.proofs.Wiring.{wired-clause}
 use Rattle.image.proofs.Once.{length-snoc}
 use Rattle.image.proofs.Threads.{Exclusive, extend, thread}
-use Rattle.image.proofs.Reports.{decidedAt, someone-blamed, now, said}
+use Rattle.image.proofs.Reports.{decidedAt, someone-blamed, now, saidBy}
 use Rattle.image.proofs.Decisions.{once-decided}
 use Rattle.image.proofs.Behaviour.{Behaves}
 use Rattle.image.proofs.Clauses.{behaves}
@@ -123,7 +123,7 @@ module _ (c : Clause) (r : InRange c) (g : EmptyFree c) (n : records c ≤ maxRe
 
   -- in each period the rows S, V1 and V2 say what the clause says on all the periods so far
   says-all : (p : Period) (h : List Period)
-      → Says (v (image c .S) p h) (v (image c .V1) p h) (v (image c .V2) p h) (said c (reverse h ++ (p ∷ [])))
+      → Says (v (image c .S) p h) (v (image c .V1) p h) (v (image c .V2) p h) (saidBy c (some (reverse h ++ (p ∷ []))))
   unfolding rowsFor
   says-all p h = rw (reads-all (v firstRow) (v laterRow) (obeyed .1 .0) (obeyed .1 .1 .0) (p ∷ h)) at (root-behaves .says (p ∷ h))
 
@@ -145,7 +145,7 @@ module _ (c : Clause) (r : InRange c) (g : EmptyFree c) (n : records c ≤ maxRe
   -- a period that finds the clause undecided
   computed-next : (p : Period) (h : List Period) (s : State) → Agrees h s → meaning c (reverse h) ≡ undecided
       → Agrees (p ∷ h) (computed (image c) (values (rowsFor c) (p ∷ h)) s)
-  unfolding computed valuesAfter values said image
+  unfolding computed valuesAfter values image
   computed-next p h s a e =
       let w = reverse h ++ (p ∷ []) in
       let d = meaning c w in

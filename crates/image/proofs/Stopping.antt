@@ -15,7 +15,7 @@ use Rattle.contract.specs.Verdicts.{decisionPeriod}
 use Rattle.image.proofs.Signals.{Signal, at, _≐_, nothing, Says, exactly, UntilDone}
 use Rattle.image.proofs.Once.{happens}
 use Rattle.image.proofs.Threads.{thread, unlessPast, cut, cut-off}
-use Rattle.image.proofs.Reports.{decidedAt, said, saidBy, NotBefore, silent-past}
+use Rattle.image.proofs.Reports.{decidedAt, saidBy, NotBefore, silent-past}
 use Rattle.image.proofs.Decisions.{once-decided, decided-happens}
 use Rattle.image.proofs.Behaviour.{Behaves}
 
@@ -32,11 +32,10 @@ Unfinished c (some w) = NotBefore (length w) (decidedAt (meaning c w))
 -- on what is left of a list the clause is unfinished, and says what it says on the list
 cut-unfinished : (c : Clause) (t : Option (List Period))
     → (saidBy c (cut (λ w. decidedAt (meaning c w)) t) ≡ saidBy c t) × Unfinished c (cut (λ w. decidedAt (meaning c w)) t)
-unfolding said
 cut-unfinished c none = (refl, tt)
 cut-unfinished c (some w) = go (decidedAt (meaning c w)) refl
   where
-    go : (o : Option ℕ) → decidedAt (meaning c w) ≡ o → (saidBy c (unlessPast o w) ≡ said c w) × Unfinished c (unlessPast o w)
+    go : (o : Option ℕ) → decidedAt (meaning c w) ≡ o → (saidBy c (unlessPast o w) ≡ saidBy c (some w)) × Unfinished c (unlessPast o w)
     go none e = (refl, rw e tt)
     go (some k) e =
         ⊎-elim (λ l. rw (lt-ltb k (length w) l) (sym (silent-past (length w) (meaning c w) (omega (arith, decided-at (meaning c w) k e))), tt))

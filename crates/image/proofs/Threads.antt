@@ -28,7 +28,7 @@ pub not-empty : {S K : Signal} {h w : List Period} → Active S K h w → (h ≢
 not-empty (started {p = p} {h = h} s) = (cons-ne-nil p h, cons-ne-nil p [])
 not-empty (kept {p = p} {h = h} {w = w} k a) = (cons-ne-nil p h, λ z. cons-ne-nil p [] (append-eq-nil-iff {p = w} .0 z .1))
 
--- never both
+-- never both true
 pub record Exclusive (S K : Signal) : Type 0 where
   pub never-both : (p : Period) (h : List Period) → (S p h && K p h) ≡ false
 

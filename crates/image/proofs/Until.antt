@@ -18,7 +18,7 @@ use Rattle.contract.proofs.Meaning.{Within, decision-within}
 use Rattle.image.proofs.Signals.{Signal, at, _≐_, nothing, met, broken, isMet, isBroken, reportOf, Says, exactly, UntilDone}
 use Rattle.image.proofs.Once.{isSome}
 use Rattle.image.proofs.Threads.{thread, unlessPast}
-use Rattle.image.proofs.Reports.{decidedAt, said, saidBy, NotBefore, timely, someone-blamed}
+use Rattle.image.proofs.Reports.{decidedAt, saidBy, NotBefore, timely, someone-blamed}
 use Rattle.image.proofs.Decisions.{acceptedAt}
 use Rattle.image.proofs.Behaviour.{Behaves}
 use Rattle.image.proofs.Expressions.{heldBy, ReadsAlone}
@@ -69,7 +69,7 @@ until-report n (violated j b) (accepted k) p h = rw (le-leb j k (omega arith), s
 until-said : (c : Clause) (e : Expression) → EmptyFree (until c e) → (v : Option (List Period)) → Unfinished (until c e) v
     → Says (isMet (saidBy c v) || (heldBy e v && not (isBroken party1 (saidBy c v) || isBroken party2 (saidBy c v))))
     (isBroken party1 (saidBy c v)) (isBroken party2 (saidBy c v)) (saidBy (until c e) v)
-unfolding said meaning EmptyFree
+unfolding meaning EmptyFree
 until-said c e g none u = exactly nothing
 until-said c e g (some w) u =
     let n = length w in

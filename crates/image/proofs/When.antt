@@ -21,12 +21,12 @@ use Rattle.contract.proofs.Readings.{readingBy, reading-take}
 use Rattle.image.proofs.Signals.{Signal, at, _≐_, isMet, isBroken, Says, HandsOver}
 use Rattle.image.proofs.Once.{happens, length-snoc}
 use Rattle.image.proofs.Threads.{Exclusive, until-fired, extend, thread, cut, cut-off}
-use Rattle.image.proofs.Reports.{unbroken, now}
+use Rattle.image.proofs.Reports.{unbroken, now, nowBy}
 use Rattle.image.proofs.Decisions.{acceptedAt, once-accepted}
 use Rattle.image.proofs.Behaviour.{Behaves}
 use Rattle.image.proofs.Expressions.{heldBy, beginsBy, ReadsAlone}
 use Rattle.image.proofs.Tested.{isPending, Tested, goes-on, accepted-last, accepted-before, rejected-by-now, accepted-now, pending-now, tested}
-use Rattle.image.proofs.Handing.{Hands, keeps, passes, nowBy, handing}
+use Rattle.image.proofs.Handing.{Hands, keeps, passes, handing}
 
 -- what the expression of `when` decides for itself: it keeps its rejection, which satisfies the clause
 abbrev rejection : Reading → Decision
