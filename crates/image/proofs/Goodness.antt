@@ -20,7 +20,7 @@ use Rattle.reader.proofs.Fields.{allowed-action}
 use Rattle.image.specs.Widths.{width, _⊹_, inside, fixedRows, afterExpression, afterClause}
 use Rattle.image.specs.Blocks.{joinRow, endRow, expressionRows, outputsOf, clauseRows}
 use Rattle.image.specs.Images.{rowsFor, image}
-use Rattle.image.proofs.Sizes.{after-clause, rows-are, rows-max, inside-expression, inside-ifEmpty, inside-clause, inside-two}
+use Rattle.image.proofs.Sizes.{after-clause, length-rowsFor, rows-max, inside-expression, inside-ifEmpty, inside-clause, inside-two}
 
 -- ---- good rows
 
@@ -165,7 +165,7 @@ module _ (c : Clause) (i : InRange c) where
   good-rows : GoodFrom (length (rowsFor c)) 0 (rowsFor c)
   unfolding rowsFor
   good-rows =
-      let l = rows-are c in
+      let l = length-rowsFor c in
       let a = after-clause c fixedRows in
       first fixedRows (omega arith) (good-clause _ c i (omega arith) end)
 
@@ -175,7 +175,7 @@ module _ (c : Clause) (i : InRange c) where
   pub writable : records c ≤ maxRecords → Writable (image c)
   unfolding image
   writable h =
-      let l = rows-are c in
+      let l = length-rowsFor c in
       let m = rows-max c in
       let a = after-clause c fixedRows in
       let o = inside-clause c fixedRows (omega arith) in

@@ -127,13 +127,14 @@ module _ (c : Clause) (r : InRange c) (g : EmptyFree c) (n : records c ≤ maxRe
   unfolding rowsFor
   says-all p h = rw (reads-all (v firstRow) (v laterRow) (obeyed .1 .0) (obeyed .1 .1 .0) (p ∷ h)) at (root-behaves .says (p ∷ h))
 
-  -- a state after a history: it shows the clause's meaning, counts the periods and, undecided, has the rows' values for the next period
-  record Agrees (h : List Period) (s : State) : Type 0 where
+  -- a state after the periods of a history, the latest first: it shows the clause's meaning, counts the periods and, undecided, has the rows' values
+  -- for the next period
+  record Tracks (h : List Period) (s : State) : Type 0 where
     shown : Shows (meaning c (reverse h)) s
     counts : s .periods ≡ length (reverse h)
     next : meaning c (reverse h) ≡ undecided → (p : Period) → valuesAfter (image c) p s ≡ values (rowsFor c) (p ∷ h)
 
-  at-start : Agrees [] fresh
+  at-start : Tracks [] fresh
   unfolding valuesAfter values image
   at-start =
       record {
@@ -143,8 +144,8 @@ module _ (c : Clause) (r : InRange c) (g : EmptyFree c) (n : records c ≤ maxRe
       }
 
   -- a period that finds the clause undecided
-  computed-next : (p : Period) (h : List Period) (s : State) → Agrees h s → meaning c (reverse h) ≡ undecided
-      → Agrees (p ∷ h) (computed (image c) (values (rowsFor c) (p ∷ h)) s)
+  computed-next : (p : Period) (h : List Period) (s : State) → Tracks h s → meaning c (reverse h) ≡ undecided
+      → Tracks (p ∷ h) (computed (image c) (values (rowsFor c) (p ∷ h)) s)
   unfolding computed valuesAfter values image
   computed-next p h s a e =
       let w = reverse h ++ (p ∷ []) in
@@ -165,7 +166,7 @@ module _ (c : Clause) (r : InRange c) (g : EmptyFree c) (n : records c ≤ maxRe
       }
 
   -- and one that finds it decided
-  counted-next : (p : Period) (h : List Period) (s : State) → Agrees h s → ¬ (meaning c (reverse h) ≡ undecided) → Agrees (p ∷ h) (counted s)
+  counted-next : (p : Period) (h : List Period) (s : State) → Tracks h s → ¬ (meaning c (reverse h) ≡ undecided) → Tracks (p ∷ h) (counted s)
   unfolding counted
   counted-next p h s a e =
       let same : meaning c (reverse (p ∷ h)) ≡ meaning c (reverse h) = rw (reverse-cons p h) (stands c g (reverse h) (p ∷ []) e) in
@@ -176,14 +177,14 @@ module _ (c : Clause) (r : InRange c) (g : EmptyFree c) (n : records c ≤ maxRe
       }
 
   -- the machine computes just where the clause is undecided
-  after-next : (p : Period) (h : List Period) (s : State) → Agrees h s → Agrees (p ∷ h) (afterPeriod (image c) p s)
+  after-next : (p : Period) (h : List Period) (s : State) → Tracks h s → Tracks (p ∷ h) (afterPeriod (image c) p s)
   after-next p h s a =
       ⊎-elim (λ e. rw (after-undecided (image c) p s (a .shown .outcome-is ∙ ap outcome e), a .next e p) (computed-next p h s a e))
       (λ e. rw (after-decided (image c) p s (λ z. e (sym (a .shown .outcome-is) ∙ z))) (counted-next p h s a (λ u. e (ap outcome u))))
       (open-or-decided (meaning c (reverse h)))
 
   -- and so on, period by period: `reverseAux h w` is the history's periods in their order and then w
-  shows-on : (h : List Period) (s : State) → Agrees h s → (w : List Period) → Shows (meaning c (reverseAux h w)) (afterPeriods (image c) s w)
+  shows-on : (h : List Period) (s : State) → Tracks h s → (w : List Period) → Shows (meaning c (reverseAux h w)) (afterPeriods (image c) s w)
   unfolding afterPeriods
   shows-on h s a [] = a .shown
   shows-on h s a (p ∷ w) = shows-on (p ∷ h) (afterPeriod (image c) p s) (after-next p h s a) w
