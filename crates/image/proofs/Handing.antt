@@ -55,7 +55,7 @@ one-speaks c g w (passes {k = k}) s t = rw (← said-after c g w k) record {
 }
 
 -- Of a clause whose first part hands over at period f, and decides `own` for itself: it says what either of its two parts says.
-module _ (f : List Period → Option ℕ) (once : Once f) (own : List Period → Decision) (whole c : Clause) (free : EmptyFree c)
+module _ {f : List Period → Option ℕ} (once : Once f) (own : List Period → Decision) (whole c : Clause) (free : EmptyFree c)
     (hands : (w : List Period) → Hands (after (meaning c) w) (f w) (own w) (meaning whole w)) where
   one-says : (t : Option (List Period)) {x y z x′ y′ z′ : Bool} → Says x y z (nowBy own t) → Says x′ y′ z′ (saidBy c (handed f t))
       → Says (x || x′) (y || y′) (z || z′) (saidBy whole t)
@@ -66,7 +66,7 @@ module _ (f : List Period → Option ℕ) (once : Once f) (own : List Period →
       → ((h : List Period) → at fired h ≡ happens f (thread S K h)) → Behaves c start go sat one two
       → (h : List Period) {x y z : Bool} → Says x y z (nowBy own (thread S K h))
       → Says (x || at sat h) (y || at one h) (z || at two h) (saidBy whole (thread S K h))
-  handing {S = S} {K = K} x w fires b h p = one-says (thread S K h) p (rw (handed-over f once x w fires h) at (b .says h))
+  handing {S = S} {K = K} x w fires b h p = one-says (thread S K h) p (rw (handed-over once x w fires h) at (b .says h))
 
 -- ---- `then` and `repair`
 
@@ -98,7 +98,7 @@ pub behaves-then : {l r : Clause} {S K start go satL oneL twoL satR oneR twoR on
 unfolding EmptyFree meaning
 behaves-then {l} {r} {S} {K} {oneL = oneL} {twoL} {oneR = oneR} {twoR} {one} {two} g x left w right one-or two-or = record {
   says = λ h. rw (at-or one oneL oneR one-or h, at-or two twoL twoR two-or h)
-      (handing (λ v. satisfiedAt (meaning l v)) (once-satisfied l (g .0)) (λ v. violation (meaning l v)) (then l r) r (g .1)
+      (handing (once-satisfied l (g .0)) (λ v. violation (meaning l v)) (then l r) r (g .1)
       (λ v. hands-then (meaning l v) (after (meaning r) v))
       x w (λ i. left .says i .sat-is ∙ met-happens l (thread S K i)) right h
       (says-by violation refl says-violation l (thread S K h) (left .says h)));
@@ -125,7 +125,7 @@ pub behaves-repair : {l r : Clause} {S K fired start go satL oneL twoL satR oneR
 unfolding EmptyFree meaning
 behaves-repair {l} {r} {S} {K} {fired} {satL = satL} {oneL} {twoL} {satR} {sat = sat} g x left fired-or w right sat-or = record {
   says = λ h. rw (at-or sat satL satR sat-or h)
-      (handing (λ v. violatedAt (meaning l v)) (once-violated l (g .0)) (λ v. satisfaction (meaning l v)) (repair l r) r (g .1)
+      (handing (once-violated l (g .0)) (λ v. satisfaction (meaning l v)) (repair l r) r (g .1)
       (λ v. hands-repair (meaning l v) (after (meaning r) v))
       x w fires right h
       (says-by satisfaction refl says-satisfaction l (thread S K h) (left .says h)));

@@ -1,7 +1,7 @@
 -- The block of a literal behaves: it decides on the first period that it reads, and says nothing after.
 use Prim.Native.Nat.{ℕ, suc}
 use native.Mathlib.Omega.{arith}
-use mathlib.Core.Bool.{Bool, true, false, cond}
+use mathlib.Core.Bool.{Bool, true, false}
 use mathlib.Core.List.{List, [], _∷_, _++_}
 use mathlib.Core.Option.{Option, none, some}
 use mathlib.Core.Path.{_≡_, refl}
@@ -11,7 +11,7 @@ use Rattle.contract.specs.Meaning.{Literal, literal, Decision, undecided, satis
 use Rattle.contract.proofs.Meaning.{Within, decision-within, within-period}
 use Rattle.image.proofs.Signals.{Signal, at, nothing, literalReport, Says, exactly}
 use Rattle.image.proofs.Once.{length-snoc}
-use Rattle.image.proofs.Threads.{not-empty, extend, thread, thread-is-active}
+use Rattle.image.proofs.Threads.{not-empty, readNext, thread, thread-is-active}
 use Rattle.image.proofs.Reports.{decidedAt, saidBy, NotBefore, timely, silent-past}
 use Rattle.image.proofs.Behaviour.{Behaves}
 
@@ -32,7 +32,7 @@ module _ (l : Literal) (q : Party) (a : ℕ) where
   said-by-literal S K p h = go (S p h) (K p h) (thread S K h) refl
     where
       go : (s k : Bool) (t : Option (List Period)) → thread S K h ≡ t
-          → saidBy (literal l q a) (cond s (some (p ∷ [])) (cond k (extend p t) none)) ≡ literalReport l q s (tries p q a) (tries p (other q) a)
+          → saidBy (literal l q a) (readNext s k p t) ≡ literalReport l q s (tries p q a) (tries p (other q) a)
       go true k t b = timely 1 (meaning (literal l q a) (p ∷ [])) (within-first p) (not-before-first (meaning (literal l q a) (p ∷ [])) (within-first p))
       go false false t b = refl
       go false true none b = refl

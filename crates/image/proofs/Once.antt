@@ -53,7 +53,7 @@ between-none : (r : Option ℕ) → Between 0 r → r ≡ none
 between-none none b = refl
 between-none (some k) b = absurd (omega arith)
 
-module _ (f : List Period → Option ℕ) (o : Once f) where
+module _ {f : List Period → Option ℕ} (o : Once f) where
   pub grown : (w : List Period) (p : Period) → Grown (length w) (f w) (f (w ++ (p ∷ [])))
   grown w p = go (f w) refl (o .between w)
     where

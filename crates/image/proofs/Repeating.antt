@@ -3,7 +3,7 @@
 use Prim.Native.Nat.{ℕ, suc, _≤_}
 use native.Mathlib.Nat.{le-refl}
 use native.Mathlib.Omega.{arith}
-use mathlib.Core.Bool.{Bool, true, false, not, _&&_, _||_, cond, false≢true}
+use mathlib.Core.Bool.{Bool, true, false, not, _&&_, _||_, false≢true}
 use mathlib.Core.List.{List, [], _∷_, _++_, append-assoc}
 use mathlib.Core.Logic.{_⊎_, inl, inr}
 use mathlib.Core.Option.{Option, none, some, Option·some-ne-none, Option·some-injective}
@@ -17,7 +17,7 @@ use Rattle.contract.proofs.Meaning.{decidedBy, decision-within, stable, by-repe
 use Rattle.contract.proofs.Verdicts.{stands}
 use Rattle.image.proofs.Signals.{Signal, at, _≐_, isMet, HandsOver}
 use Rattle.image.proofs.Once.{length-snoc, isAt, first-period}
-use Rattle.image.proofs.Threads.{Exclusive, extend, thread}
+use Rattle.image.proofs.Threads.{Exclusive, readNext, thread}
 use Rattle.image.proofs.Reports.{satisfiedAt, now, nowBy, saidBy, now-later}
 use Rattle.image.proofs.Decisions.{once-satisfied, met-happens}
 use Rattle.image.proofs.Behaviour.{Behaves}
@@ -96,7 +96,7 @@ module _ (c : Clause) (g : EmptyFree c) where
 
   module _ (p : Period) where
     first-open : Open c (p ∷ [])
-    first-open = first-period (λ w. satisfiedAt (meaning c w)) (once-satisfied c g) p
+    first-open = first-period (once-satisfied c g) p
 
     still-open : (u : List Period) → Open c u → isMet (saidBy c (some u)) ≡ false → Open c (u ++ (p ∷ []))
     still-open u (inl i) e = rw (length-snoc u p) (once-satisfied c g .only-now u p i)
@@ -105,7 +105,7 @@ module _ (c : Clause) (g : EmptyFree c) where
         absurd (false≢true (sym e ∙ met-happens c (some u) ∙ ended))
 
     step : (s k a : Bool) → (s && k) ≡ false → {t run : Option (List Period)} → Running c t run → isMet (saidBy c run) ≡ a
-        → Running c (cond s (some (p ∷ [])) (cond k (extend p t) none)) (cond (s || (k && a)) (some (p ∷ [])) (cond (k && not a) (extend p run) none))
+        → Running c (readNext s k p t) (readNext (s || (k && a)) (k && not a) p run)
     step true true a x r e = absurd (false≢true (sym x))
     step true false a x r e = runs (last first-open)
     step false false a x r e = idle

@@ -53,7 +53,7 @@ pub stops : {c : Clause} {S K go done sat one two : Signal} → EmptyFree c → 
     → Says (sat p h) (one p h) (two p h) (saidBy c (thread S go (p ∷ h))))
     → Behaves c S K sat one two
 stops {c} {S} {K} {go} {done} {sat} {one} {two} g u done-is right =
-    record { says = λ h. says-at h (cut-off (λ w. decidedAt (meaning c w)) (once-decided c g) S u done-at h) }
+    record { says = λ h. says-at h (cut-off (once-decided c g) S u done-at h) }
   where
     says-at : (h : List Period) → thread S go h ≡ cut (λ w. decidedAt (meaning c w)) (thread S K h)
         → Says (at sat h) (at one h) (at two h) (saidBy c (thread S K h))

@@ -58,10 +58,14 @@ abbrev pub extend : Period → Option (List Period) → Option (List Period)
 extend p none = none
 extend p (some w) = some (w ++ (p ∷ []))
 
+-- what has been read with a period more, by whether reading begins with it and whether it goes on
+abbrev pub readNext : (starts goes : Bool) → Period → Option (List Period) → Option (List Period)
+readNext s k p t = cond s (some (p ∷ [])) (cond k (extend p t) none)
+
 -- what has been read up to now, where S and K are never both true
 unfoldable pub thread : (S K : Signal) → List Period → Option (List Period)
 thread S K [] = none
-thread S K (p ∷ h) = cond (S p h) (some (p ∷ [])) (cond (K p h) (extend p (thread S K h)) none)
+thread S K (p ∷ h) = readNext (S p h) (K p h) p (thread S K h)
 
 only-kept : (s k : Bool) → (s && k) ≡ false → k ≡ true → s ≡ false
 only-kept true k e f = absurd (false≢true (sym e ∙ f))
@@ -79,7 +83,7 @@ thread-is-active S K (p ∷ h) w e = go (S p h) refl (K p h) refl (thread S K h)
   where
     go : (s : Bool) → S p h ≡ s → (k : Bool) → K p h ≡ k
         → (t : Option (List Period)) → ((v : List Period) → t ≡ some v → Active S K h v)
-        → cond s (some (p ∷ [])) (cond k (extend p t) none) ≡ some w → Active S K (p ∷ h) w
+        → readNext s k p t ≡ some w → Active S K (p ∷ h) w
     go true s k i t a e = subst (Active S K (p ∷ h)) (Option·some-injective (p ∷ []) w e) (started s)
     go false s false i t a e = absurd (Option·none-ne-some w e)
     go false s true i none a e = absurd (Option·none-ne-some w e)
@@ -110,7 +114,7 @@ cut f (some w) = unlessPast (f w) w
 
 -- with one period more, what is handed over, and what is not cut off
 grows : (w : List Period) (p : Period) (r r′ : Option ℕ) → Grown (length w) r r′
-    → (cond (isAt r (length w)) (some (p ∷ [])) (cond (not (isAt r (length w))) (extend p (restAfter r w)) none) ≡ restAfter r′ (w ++ (p ∷ [])))
+    → (readNext (isAt r (length w)) (not (isAt r (length w))) p (restAfter r w) ≡ restAfter r′ (w ++ (p ∷ [])))
     × (cond (not (isAt r (length w))) (extend p (unlessPast r w)) none ≡ unlessPast r′ (w ++ (p ∷ [])))
 grows w p none none waiting = (refl, refl)
 grows w p none (some k) happening = rw (length-snoc w p, le-ltb (suc (length w)) (suc (length w)) (le-refl (suc (length w)))) (refl, refl)
@@ -131,37 +135,35 @@ grows w p (some j) (some k) (past l) =
     ) (refl, refl)
 
 -- a part that starts in the period after `fired` reads the rest of the list from there on
-pub handed-over : (f : List Period → Option ℕ) → Once f → {fired S K start go : Signal} → Exclusive S K → HandsOver fired K start go
+pub handed-over : {f : List Period → Option ℕ} → Once f → {fired S K start go : Signal} → Exclusive S K → HandsOver fired K start go
     → ((h : List Period) → at fired h ≡ happens f (thread S K h))
     → (h : List Period) → thread start go h ≡ handed f (thread S K h)
 unfolding thread
-handed-over f o x w fires [] = refl
-handed-over f o {S = S} {K} x w fires (p ∷ h) =
-    rw (w .starts p h, w .goes p h, fires h, handed-over f o x w fires h) (step (S p h) (K p h) (x .never-both p h) (thread S K h))
+handed-over o x w fires [] = refl
+handed-over {f} o {S = S} {K} x w fires (p ∷ h) =
+    rw (w .starts p h, w .goes p h, fires h, handed-over o x w fires h) (step (S p h) (K p h) (x .never-both p h) (thread S K h))
   where
     step : (s k : Bool) → (s && k) ≡ false → (t : Option (List Period))
-        → cond (k && happens f t) (some (p ∷ [])) (cond (k && not (happens f t)) (extend p (handed f t)) none)
-        ≡ handed f (cond s (some (p ∷ [])) (cond k (extend p t) none))
+        → readNext (k && happens f t) (k && not (happens f t)) p (handed f t) ≡ handed f (readNext s k p t)
     step true true e t = absurd (false≢true (sym e))
-    step true false e t = ⊎-elim (λ i. rw i) (λ i. rw i) (first-period f o p)
+    step true false e t = ⊎-elim (λ i. rw i) (λ i. rw i) (first-period o p)
     step false false e t = refl
     step false true e none = refl
-    step false true e (some v) = grows v p (f v) (f (v ++ (p ∷ []))) (grown f o v p) .0
+    step false true e (some v) = grows v p (f v) (f (v ++ (p ∷ []))) (grown o v p) .0
 
 -- what stops in the period after `done` has read the list as long as nothing has happened before its last period
-pub cut-off : (f : List Period → Option ℕ) → Once f → {done K go : Signal} (S : Signal) → UntilDone done K go
+pub cut-off : {f : List Period → Option ℕ} → Once f → {done K go : Signal} (S : Signal) → UntilDone done K go
     → ((h : List Period) → thread S go h ≡ cut f (thread S K h) → at done h ≡ happens f (thread S K h))
     → (h : List Period) → thread S go h ≡ cut f (thread S K h)
 unfolding thread
-cut-off f o S w right [] = refl
-cut-off f o {K = K} S w right (p ∷ h) =
-    let earlier = cut-off f o S w right h in
+cut-off o S w right [] = refl
+cut-off {f} o {K = K} S w right (p ∷ h) =
+    let earlier = cut-off o S w right h in
     rw (w .goes p h, right h earlier, earlier) (step (S p h) (K p h) (thread S K h))
   where
     step : (s k : Bool) (t : Option (List Period))
-        → cond s (some (p ∷ [])) (cond (k && not (happens f t)) (extend p (cut f t)) none)
-        ≡ cut f (cond s (some (p ∷ [])) (cond k (extend p t) none))
-    step true k t = ⊎-elim (λ i. rw i) (λ i. rw i) (first-period f o p)
+        → readNext s (k && not (happens f t)) p (cut f t) ≡ cut f (readNext s k p t)
+    step true k t = ⊎-elim (λ i. rw i) (λ i. rw i) (first-period o p)
     step false false t = refl
     step false true none = refl
-    step false true (some v) = grows v p (f v) (f (v ++ (p ∷ []))) (grown f o v p) .1
+    step false true (some v) = grows v p (f v) (f (v ++ (p ∷ []))) (grown o v p) .1
