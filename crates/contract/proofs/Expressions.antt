@@ -13,26 +13,28 @@ use Rattle.periods.specs.Periods.{Party, party1, party2, Period}
 use Rattle.periods.proofs.Periods.{bit-own, bit-zero}
 use Rattle.contract.specs.Expressions.{Atom, any, tries, idle, succeeds, fails, holds, Expression, atom, seq, or, star, Holds, one, join, left, right, none, more, splits, joins, member, begins, holdsEmpty}
 
--- a split that passes two tests
-pub record Split (f g : List Period → Bool) (w : List Period) : Type 0 where
+-- a list of the one set, and then a list of the other
+pub record Concat (L M : List Period → Type 0) (w : List Period) : Type 0 where
   pub front : List Period
   pub rest : List Period
-  pub whole : front ++ rest ≡ w
-  pub passes : f front ≡ true
-  pub passes-rest : g rest ≡ true
+  pub whole : w ≡ front ++ rest
+  pub held : L front
+  pub held-rest : M rest
 
-pub split : (f g : List Period → Bool) (w : List Period) → splits f g w ≡ true → Split f g w
+-- the lists that pass a test
+abbrev pub Passes : (List Period → Bool) → List Period → Type 0
+Passes f w = f w ≡ true
+
+pub split : (f g : List Period → Bool) (w : List Period) → splits f g w ≡ true → Concat (Passes f) (Passes g) w
 unfolding splits
-split f g [] h =
-    let b = and-eq-true-iff (f []) (g []) .0 h in
-    record { front = []; rest = []; whole = refl; passes = b .0; passes-rest = b .1 }
+split f g [] h = let b = and-eq-true-iff (f []) (g []) .0 h in record { front = []; rest = []; whole = refl; held = b .0; held-rest = b .1 }
 split f g (x ∷ w) h = ⊎-elim here (λ t. further (split (λ u. f (x ∷ u)) g w t)) (or-cases (f [] && g (x ∷ w)) _ .0 h)
   where
-    here : (f [] && g (x ∷ w)) ≡ true → Split f g (x ∷ w)
-    here t = let b = and-eq-true-iff (f []) (g (x ∷ w)) .0 t in record { front = []; rest = x ∷ w; whole = refl; passes = b .0; passes-rest = b .1 }
+    here : (f [] && g (x ∷ w)) ≡ true → Concat (Passes f) (Passes g) (x ∷ w)
+    here t = let b = and-eq-true-iff (f []) (g (x ∷ w)) .0 t in record { front = []; rest = x ∷ w; whole = refl; held = b .0; held-rest = b .1 }
 
-    further : Split (λ u. f (x ∷ u)) g w → Split f g (x ∷ w)
-    further s = record { front = x ∷ s .front; rest = s .rest; whole = ap (λ (r : List Period). x ∷ r) (s .whole); passes = s .passes; passes-rest = s .passes-rest }
+    further : Concat (λ u. f (x ∷ u) ≡ true) (Passes g) w → Concat (Passes f) (Passes g) (x ∷ w)
+    further s = record { front = x ∷ s .front; rest = s .rest; whole = ap (λ (r : List Period). x ∷ r) (s .whole); held = s .held; held-rest = s .held-rest }
 
 splits-at : (f g : List Period → Bool) (u v : List Period) → f u ≡ true → g v ≡ true → splits f g (u ++ v) ≡ true
 unfolding splits
@@ -50,9 +52,8 @@ joins-mono f (suc n) zero w le h = absurd (not-suc-le-zero le)
 joins-mono f (suc n) (suc m) [] le h = refl
 joins-mono f (suc n) (suc m) (x ∷ w) le h =
     let s = split (λ u. f (x ∷ u)) (joins f n) w h in
-    subst (λ (t : List Period). splits (λ u. f (x ∷ u)) (joins f m) t ≡ true) (s .whole)
-    (splits-at (λ u. f (x ∷ u)) (joins f m) (s .front) (s .rest) (s .passes)
-    (joins-mono f n m (s .rest) (le-of-suc-le-suc le) (s .passes-rest)))
+    rw (s .whole)
+    (splits-at (λ u. f (x ∷ u)) (joins f m) (s .front) (s .rest) (s .held) (joins-mono f n m (s .rest) (le-of-suc-le-suc le) (s .held-rest)))
 
 joins-nil : (f : List Period → Bool) (n : ℕ) → joins f n [] ≡ true
 unfolding joins
@@ -75,8 +76,7 @@ joined e f sound zero (x ∷ w) h = absurd (false≢true h)
 joined e f sound (suc n) [] h = none
 joined e f sound (suc n) (x ∷ w) h =
     let s = split (λ u. f (x ∷ u)) (joins f n) w h in
-    subst (λ (t : List Period). Holds (star e) (x ∷ t)) (s .whole)
-    (more (sound (x ∷ s .front) (s .passes)) (joined e f sound n (s .rest) (s .passes-rest)))
+    rw (s .whole) (more (sound (x ∷ s .front) (s .held)) (joined e f sound n (s .rest) (s .held-rest)))
 
 member-sound : (e : Expression) (w : List Period) → member e w ≡ true → Holds e w
 unfolding member
@@ -85,8 +85,7 @@ member-sound (atom a) (x ∷ []) h = one h
 member-sound (atom a) (x ∷ y ∷ w) h = absurd (false≢true h)
 member-sound (seq l r) w h =
     let s = split (member l) (member r) w h in
-    subst (Holds (seq l r)) (s .whole)
-    (join (member-sound l (s .front) (s .passes)) (member-sound r (s .rest) (s .passes-rest)))
+    rw (s .whole) (join (member-sound l (s .front) (s .held)) (member-sound r (s .rest) (s .held-rest)))
 member-sound (or l r) w h = ⊎-elim (λ t. left (member-sound l w t)) (λ t. right (member-sound r w t)) (or-cases _ _ .0 h)
 member-sound (star e) w h = joined e (member e) (member-sound e) (length w) w h
 
@@ -162,30 +161,22 @@ begins-sound (atom a) (x ∷ []) h = ([], one h)
 begins-sound (atom a) (x ∷ y ∷ w) h = absurd (false≢true h)
 begins-sound (seq l r) w h =
     ⊎-elim (λ t. first (begins-sound l w t))
-    (λ t. let s = split (member l) (begins r) w t in second s (begins-sound r (s .rest) (s .passes-rest)))
+    (λ t. let s = split (member l) (begins r) w t in second s (begins-sound r (s .rest) (s .held-rest)))
     (or-cases (begins l w) _ .0 h)
   where
     first : ((v : List Period) × Holds l (w ++ v)) → (v : List Period) × Holds (seq l r) (w ++ v)
     first p = (p .0 ++ some-list r .0, rw (append-assoc w) at (join (p .1) (some-list r .1)))
 
-    second : (s : Split (member l) (begins r) w) → ((v : List Period) × Holds r (s .rest ++ v)) → (v : List Period) × Holds (seq l r) (w ++ v)
-    second s p = (p .0, rw (← append-assoc (s .front), s .whole) at (join (member-sound l (s .front) (s .passes)) (p .1)))
+    second : (s : Concat (Passes (member l)) (Passes (begins r)) w) → ((v : List Period) × Holds r (s .rest ++ v)) → (v : List Period) × Holds (seq l r) (w ++ v)
+    second s p = (p .0, rw (← append-assoc (s .front), ← s .whole) at (join (member-sound l (s .front) (s .held)) (p .1)))
 begins-sound (or l r) w h =
     ⊎-elim (λ t. let p = begins-sound l w t in (p .0, left (p .1)))
     (λ t. let p = begins-sound r w t in (p .0, right (p .1)))
     (or-cases (begins l w) _ .0 h)
 begins-sound (star e) w h =
     let s = split (member (star e)) (begins e) w h in
-    let p = begins-sound e (s .rest) (s .passes-rest) in
-    (p .0, rw (← append-assoc (s .front), s .whole) at (star-join (member-sound (star e) (s .front) (s .passes)) (star-one (p .1))))
-
--- a list of the one set, and then a list of the other
-pub record Concat (L M : List Period → Type 0) (w : List Period) : Type 0 where
-  pub front : List Period
-  pub rest : List Period
-  pub whole : w ≡ front ++ rest
-  pub held : L front
-  pub held-rest : M rest
+    let p = begins-sound e (s .rest) (s .held-rest) in
+    (p .0, rw (← append-assoc (s .front), ← s .whole) at (star-join (member-sound (star e) (s .front) (s .held)) (star-one (p .1))))
 
 pub held-seq : {l r : Expression} {w : List Period} → Holds (seq l r) w → Concat (Holds l) (Holds r) w
 held-seq (join {u = u} {v = v} p q) = record { front = u; rest = v; whole = refl; held = p; held-rest = q }
@@ -223,8 +214,8 @@ begins-star e complete (more {u = s} {v = t} p q) w v h = go (cuts s t w v h) (�
     go (in-front m k) further = splits-at (member (star e)) (begins e) [] w (member-complete none) (complete w m (rw k at p))
     go (in-rest m j k) further =
         let c = split (member (star e)) (begins e) m (further m v k) in
-        let held : Holds (star e) (s ++ c .front) = more p (member-sound (star e) (c .front) (c .passes)) in
-        rw (j, ← c .whole, ← append-assoc s) (splits-at (member (star e)) (begins e) (s ++ c .front) (c .rest) (member-complete held) (c .passes-rest))
+        let held : Holds (star e) (s ++ c .front) = more p (member-sound (star e) (c .front) (c .held)) in
+        rw (j, c .whole, ← append-assoc s) (splits-at (member (star e)) (begins e) (s ++ c .front) (c .rest) (member-complete held) (c .held-rest))
 
 begins-complete : (e : Expression) (w v : List Period) → Holds e (w ++ v) → begins e w ≡ true
 unfolding begins

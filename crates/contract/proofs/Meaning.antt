@@ -15,7 +15,7 @@ use Rattle.records.proofs.Written.{drop-take}
 use Rattle.periods.specs.Periods.{Party, other, Period, tries}
 use Rattle.contract.specs.Expressions.{Expression, Holds}
 use Rattle.contract.specs.Readings.{Reading, pending, accepted, rejected, reading}
-use Rattle.contract.specs.Meaning.{Literal, duty, ban, power, Clause, literal, both, then, repair, repeat, when, until, Blame, unite, Decision, undecided, satisfied, violated, literalDecision, literalMeaning, earlier, bothMeaning, later, after, thenMeaning, repairMeaning, repeatMeaning, whenMeaning, noLater, untilMeaning, meaning, EmptyFree}
+use Rattle.contract.specs.Meaning.{Literal, duty, ban, power, Clause, literal, both, then, repair, repeat, when, until, Blame, bothParties, unite, Decision, undecided, satisfied, violated, literalDecision, literalMeaning, earlier, bothMeaning, later, after, thenMeaning, repairMeaning, repeatMeaning, whenMeaning, noLater, untilMeaning, meaning, EmptyFree}
 use Rattle.contract.specs.Verdicts.{decisionPeriod}
 use Rattle.contract.proofs.Expressions.{some-list}
 use Rattle.contract.proofs.Readings.{accepted-iff, rejected-iff, readingBy, reading-take}
@@ -70,9 +70,9 @@ within-after : (m : List Period → Decision) → ((w : List Period) → Within 
 within-after m bounded w k h =
     within-later (length w) k (m (drop k w)) h (subst (λ (n : ℕ). Within n (m (drop k w))) (length-drop k w) (bounded (drop k w)))
 
-within-then : (n : ℕ) (d : Decision) (f : ℕ → Decision) → Within n d → ((k : ℕ) → 1 ≤ k → k ≤ n → Within n (f k)) → Within n (thenMeaning d f)
+within-then : (n : ℕ) (d : Decision) (f : ℕ → Decision) → Within n d → ((k : ℕ) → k ≤ n → Within n (f k)) → Within n (thenMeaning d f)
 within-then n undecided f p q = tt
-within-then n (satisfied k) f p q = q k (p .0) (p .1)
+within-then n (satisfied k) f p q = q k (p .1)
 within-then n (violated k b) f p q = p
 
 within-repair : (n : ℕ) (d : Decision) (f : ℕ → Decision) → Within n d → ((k : ℕ) → k ≤ n → Within n (f k)) → Within n (repairMeaning d f)
@@ -119,27 +119,23 @@ within-repeat : (m : List Period → Decision) → ((w : List Period) → Within
 unfolding repeatMeaning
 within-repeat m bounded zero w = tt
 within-repeat m bounded (suc f) w =
-    within-then (length w) (m w) (after (repeatMeaning m f) w) (bounded w)
-    (λ k p h. within-after (repeatMeaning m f) (λ v. within-repeat m bounded f v) w k h)
+    within-then (length w) (m w) (after (repeatMeaning m f) w) (bounded w) (within-after (repeatMeaning m f) (within-repeat m bounded f) w)
 
 -- the deciding period lies between 1 and the length
-pub within : (c : Clause) → EmptyFree c → (w : List Period) → Within (length w) (meaning c w)
+pub decision-within : (c : Clause) → EmptyFree c → (w : List Period) → Within (length w) (meaning c w)
 unfolding meaning EmptyFree
-within (literal l p a) g [] = tt
-within (literal l p a) g (x ∷ w) = within-literal l p (tries x p a) (tries x (other p) a) (length w)
-within (both l r) g w = within-both (length w) (meaning l w) (meaning r w) (within l (g .0) w) (within r (g .1) w)
-within (then l r) g w =
-    within-then (length w) (meaning l w) (after (meaning r) w) (within l (g .0) w)
-    (λ k p h. within-after (meaning r) (λ v. within r (g .1) v) w k h)
-within (repair l r) g w =
-    within-repair (length w) (meaning l w) (after (meaning r) w) (within l (g .0) w)
-    (λ k h. within-after (meaning r) (λ v. within r (g .1) v) w k h)
-within (repeat c) g w = within-repeat (meaning c) (λ v. within c g v) (length w) w
-within (when e c) g w =
-    within-when (length w) (reading e w) (after (meaning c) w) (within-reading e w (g .0))
-    (λ k h. within-after (meaning c) (λ v. within c (g .1) v) w k h)
-within (until c e) g w =
-    within-until (length w) (meaning c w) (reading e w) (within c (g .0) w) (within-reading e w (g .1))
+decision-within (literal l p a) g [] = tt
+decision-within (literal l p a) g (x ∷ w) = within-literal l p (tries x p a) (tries x (other p) a) (length w)
+decision-within (both l r) g w = within-both (length w) (meaning l w) (meaning r w) (decision-within l (g .0) w) (decision-within r (g .1) w)
+decision-within (then l r) g w =
+    within-then (length w) (meaning l w) (after (meaning r) w) (decision-within l (g .0) w) (within-after (meaning r) (decision-within r (g .1)) w)
+decision-within (repair l r) g w =
+    within-repair (length w) (meaning l w) (after (meaning r) w) (decision-within l (g .0) w) (within-after (meaning r) (decision-within r (g .1)) w)
+decision-within (repeat c) g w = within-repeat (meaning c) (decision-within c g) (length w) w
+decision-within (when e c) g w =
+    within-when (length w) (reading e w) (after (meaning c) w) (within-reading e w (g .0)) (within-after (meaning c) (decision-within c (g .1)) w)
+decision-within (until c e) g w =
+    within-until (length w) (meaning c w) (reading e w) (decision-within c (g .0) w) (within-reading e w (g .1))
 
 -- Beginnings: what a clause means on the first n periods is what it has decided by period n.
 
@@ -197,7 +193,7 @@ by-satisfactions n j k (inl p) (inr q) = rw (lt-ltb n j p, le-ltb n k q) (sym (n
 by-satisfactions n j k (inr p) (inl q) = rw (le-ltb n j p, lt-ltb n k q) (sym (not-yet n (bothMeaning (satisfied j) (satisfied k)) (omega arith)))
 by-satisfactions n j k (inr p) (inr q) = rw (le-ltb n j p, le-ltb n k q) (sym (by-now n (bothMeaning (satisfied j) (satisfied k)) (omega arith)))
 
--- beside a violation a satisfied half says nothing, whether its test has passed or not
+-- beside a violation a satisfied half says nothing, whether either has been decided or not
 by-left : (t u : Bool) (j k : ℕ) (b : Blame)
     → bothMeaning (cond t undecided (violated j b)) (cond u undecided (satisfied k)) ≡ cond t undecided (violated j b)
 by-left true true j k b = refl
@@ -212,16 +208,11 @@ by-right true false j k c = refl
 by-right false true j k c = refl
 by-right false false j k c = refl
 
-by-half : (t : Bool) (k : ℕ)
-    → (bothMeaning undecided (cond t undecided (satisfied k)) ≡ undecided) × (bothMeaning (cond t undecided (satisfied k)) undecided ≡ undecided)
-by-half true k = (refl, refl)
-by-half false k = (refl, refl)
-
 by-both : (n : ℕ) (a b : Decision) → bothMeaning (decidedBy n a) (decidedBy n b) ≡ decidedBy n (bothMeaning a b)
 by-both n undecided undecided = refl
-by-both n undecided (satisfied k) = by-half (ltb n k) k .0
+by-both n undecided (satisfied k) = by-left true (ltb n k) 0 k bothParties
 by-both n undecided (violated k c) = by-right true (ltb n k) 0 k c
-by-both n (satisfied j) undecided = by-half (ltb n j) j .1
+by-both n (satisfied j) undecided = by-right (ltb n j) true j 0 bothParties
 by-both n (satisfied j) (satisfied k) = by-satisfactions n j k (lt-or-le n j) (lt-or-le n k)
 by-both n (satisfied j) (violated k c) = by-right (ltb n j) (ltb n k) j k c
 by-both n (violated j b) undecided = by-left (ltb n j) true j 0 b
@@ -260,8 +251,8 @@ module _ (m₁ m₂ : List Period → Decision) (n : ℕ) (w : List Period) wher
   abbrev RightStable : ℕ → Type 0
   RightStable k = k ≤ n → m₁ (take (n - k) (drop k w)) ≡ decidedBy (n - k) (m₂ (drop k w))
 
-  handed-over : (k : ℕ) → RightStable k → cond (ltb n k) undecided (after m₁ (take n w) k) ≡ decidedBy n (after m₂ w k)
-  handed-over k right = go (lt-or-le n k)
+  by-after : (k : ℕ) → RightStable k → cond (ltb n k) undecided (after m₁ (take n w) k) ≡ decidedBy n (after m₂ w k)
+  by-after k right = go (lt-or-le n k)
     where
       go : (n < k) ⊎ (k ≤ n) → cond (ltb n k) undecided (after m₁ (take n w) k) ≡ decidedBy n (after m₂ w k)
       go (inl l) = rw (lt-ltb n k l) (sym (by-early n k (m₂ (drop k w)) l))
@@ -271,7 +262,7 @@ module _ (m₁ m₂ : List Period → Decision) (n : ℕ) (w : List Period) wher
       → thenMeaning (decidedBy n d) (after m₁ (take n w)) ≡ decidedBy n (thenMeaning d (after m₂ w))
   by-then undecided right = refl
   by-then (satisfied k) right =
-      through (λ d. thenMeaning d (after m₁ (take n w))) undecided refl (ltb n k) (satisfied k) ∙ handed-over k (right k refl)
+      through (λ d. thenMeaning d (after m₁ (take n w))) undecided refl (ltb n k) (satisfied k) ∙ by-after k (right k refl)
   by-then (violated k b) right = through (λ d. thenMeaning d (after m₁ (take n w))) undecided refl (ltb n k) (violated k b)
 
   by-repair : (d : Decision) → ((k : ℕ) → RightStable k)
@@ -279,13 +270,13 @@ module _ (m₁ m₂ : List Period → Decision) (n : ℕ) (w : List Period) wher
   by-repair undecided right = refl
   by-repair (satisfied k) right = through (λ d. repairMeaning d (after m₁ (take n w))) undecided refl (ltb n k) (satisfied k)
   by-repair (violated k b) right =
-      through (λ d. repairMeaning d (after m₁ (take n w))) undecided refl (ltb n k) (violated k b) ∙ handed-over k (right k)
+      through (λ d. repairMeaning d (after m₁ (take n w))) undecided refl (ltb n k) (violated k b) ∙ by-after k (right k)
 
   by-when : (r : Reading) → ((k : ℕ) → RightStable k)
       → whenMeaning (readingBy n r) (after m₁ (take n w)) ≡ decidedBy n (whenMeaning r (after m₂ w))
   by-when pending right = refl
   by-when (accepted k) right =
-      through (λ r. whenMeaning r (after m₁ (take n w))) pending refl (ltb n k) (accepted k) ∙ handed-over k (right k)
+      through (λ r. whenMeaning r (after m₁ (take n w))) pending refl (ltb n k) (accepted k) ∙ by-after k (right k)
   by-when (rejected k) right = through (λ r. whenMeaning r (after m₁ (take n w))) pending refl (ltb n k) (rejected k)
 
 -- Until: the clause's decision counts up to acceptance.
@@ -358,7 +349,7 @@ stable (then l r) g n w =
 stable (repair l r) g n w =
     rw (stable l (g .0) n w) (by-repair (meaning r) (meaning r) n w (meaning l w) (λ k h. stable r (g .1) (n - k) (drop k w)))
 stable (repeat c) g n w =
-    by-repeat (meaning c) (within c g) (λ i v. stable c g i v) (length w) (length (take n w)) n w (le-refl (length w)) (le-refl (length (take n w)))
+    by-repeat (meaning c) (decision-within c g) (stable c g) (length w) (length (take n w)) n w (le-refl (length w)) (le-refl (length (take n w)))
 stable (when e c) g n w =
     rw (reading-take e w n) (by-when (meaning c) (meaning c) n w (reading e w) (λ k h. stable c (g .1) (n - k) (drop k w)))
 stable (until c e) g n w = rw (stable c (g .0) n w, reading-take e w n) (by-until n (meaning c w) (reading e w))

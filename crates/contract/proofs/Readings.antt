@@ -127,32 +127,32 @@ readingBy n (accepted k) = cond (ltb n k) pending (accepted k)
 readingBy n (rejected k) = cond (ltb n k) pending (rejected k)
 
 -- what the first k + 1 periods show by themselves has not been shown by period k
-by-later : (n k : ℕ) → n ≤ k → (r : Reading) (m b : Bool) → readingBy n r ≡ readingBy n (first r (judged m b (suc k)))
-by-later n k h pending true b = rw (lt-ltb n (suc k) (suc-le-suc h))
-by-later n k h pending false true = refl
-by-later n k h pending false false = rw (lt-ltb n (suc k) (suc-le-suc h))
-by-later n k h (accepted j) m b = refl
-by-later n k h (rejected j) m b = refl
+by-next : (n k : ℕ) → n ≤ k → (r : Reading) (m b : Bool) → readingBy n r ≡ readingBy n (first r (judged m b (suc k)))
+by-next n k h pending true b = rw (lt-ltb n (suc k) (suc-le-suc h))
+by-next n k h pending false true = refl
+by-next n k h pending false false = rw (lt-ltb n (suc k) (suc-le-suc h))
+by-next n k h (accepted j) m b = refl
+by-next n k h (rejected j) m b = refl
 
 module _ (e : Expression) (w : List Period) where
   -- what m periods show has been shown by any later period
-  by-now : {m n : ℕ} → m ≤ n → {r : Reading} → Shown e w m r → r ≡ readingBy n r
-  by-now h (nothing s) = refl
-  by-now {n} h (acceptance {k = k} l p s) = rw (le-ltb n k (le-trans l h))
-  by-now {n} h (rejection {k = k} l p s) = rw (le-ltb n k (le-trans l h))
+  shown-by : {m n : ℕ} → m ≤ n → {r : Reading} → Shown e w m r → r ≡ readingBy n r
+  shown-by h (nothing s) = refl
+  shown-by {n} h (acceptance {k = k} l p s) = rw (le-ltb n k (le-trans l h))
+  shown-by {n} h (rejection {k = k} l p s) = rw (le-ltb n k (le-trans l h))
 
-  by-then : (n m : ℕ) → n ≤ m → readingTo e w n ≡ readingBy n (readingTo e w m)
+  reading-by : (n m : ℕ) → n ≤ m → readingTo e w n ≡ readingBy n (readingTo e w m)
   unfolding readingTo
-  by-then zero zero h = by-now h (shown e w zero)
-  by-then (suc n) zero h = absurd (not-suc-le-zero h)
-  by-then n (suc m) h = go (lt-or-le m n) (λ l. by-then n m l)
+  reading-by zero zero h = shown-by h (shown e w zero)
+  reading-by (suc n) zero h = absurd (not-suc-le-zero h)
+  reading-by n (suc m) h = go (lt-or-le m n) (λ l. reading-by n m l)
     where
       go : (m < n) ⊎ (n ≤ m) → (n ≤ m → readingTo e w n ≡ readingBy n (readingTo e w m))
           → readingTo e w n ≡ readingBy n (readingTo e w (suc m))
       go (inl l) earlier =
           let i : suc m ≡ n = omega arith in
-          subst (λ (t : ℕ). readingTo e w t ≡ readingBy t (readingTo e w (suc m))) i (by-now (le-refl (suc m)) (shown e w (suc m)))
-      go (inr l) earlier = earlier l ∙ by-later n m l (readingTo e w m) (member e (take (suc m) w)) (begins e (take (suc m) w))
+          subst (λ (t : ℕ). readingTo e w t ≡ readingBy t (readingTo e w (suc m))) i (shown-by (le-refl (suc m)) (shown e w (suc m)))
+      go (inr l) earlier = earlier l ∙ by-next n m l (readingTo e w m) (member e (take (suc m) w)) (begins e (take (suc m) w))
 
   -- the reading of a beginning looks at the beginning alone
   reading-within : (n k : ℕ) → k ≤ n → readingTo e (take n w) k ≡ readingTo e w k
@@ -166,5 +166,5 @@ module _ (e : Expression) (w : List Period) where
   reading-take n = go (lt-or-le n (length w))
     where
       go : (n < length w) ⊎ (length w ≤ n) → readingTo e (take n w) (length (take n w)) ≡ readingBy n (readingTo e w (length w))
-      go (inl l) = rw (length-take-le n w (le-of-lt l), reading-within n n (le-refl n)) (by-then n (length w) (le-of-lt l))
-      go (inr l) = rw (take-all n w l) (by-now l (shown e w (length w)))
+      go (inl l) = rw (length-take-le n w (le-of-lt l), reading-within n n (le-refl n)) (reading-by n (length w) (le-of-lt l))
+      go (inr l) = rw (take-all n w l) (shown-by l (shown e w (length w)))

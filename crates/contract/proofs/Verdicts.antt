@@ -1,6 +1,5 @@
--- A clause decides a list of periods at one period or at none, and a decision stands on every longer list. The numbers of blame.
+-- A clause decides a list of periods at one period or at none, and a decision stands on every longer list.
 use Prim.Native.Nat.{ℕ, _≤_}
-use native.Mathlib.Omega.{arith}
 use mathlib.Core.List.{List, [], _++_}
 use mathlib.Core.Logic.{_⊎_, inl, inr, ⊎-elim}
 use mathlib.Core.Path.{_≡_, refl, sym, ap, _∙_}
@@ -8,10 +7,10 @@ use borrow.Author.Tests.{lt-ltb, le-ltb}
 use lib.ListN.{length}
 use lib.Seq.{take-append-seam}
 use Rattle.records.proofs.Cases.{lt-or-le}
-use Rattle.periods.specs.Periods.{party1, party2, Period}
-use Rattle.contract.specs.Meaning.{Clause, Blame, only, bothParties, Decision, undecided, satisfied, violated, meaning, EmptyFree}
+use Rattle.periods.specs.Periods.{Period}
+use Rattle.contract.specs.Meaning.{Clause, Decision, undecided, satisfied, violated, meaning, EmptyFree}
 use Rattle.contract.specs.Verdicts.{decisionPeriod, blame, verdict, DecidesOnce}
-use Rattle.contract.proofs.Meaning.{decidedBy, Within, within, within-none, not-yet, by-now, stable}
+use Rattle.contract.proofs.Meaning.{decidedBy, Within, decision-within, within-none, not-yet, by-now, stable}
 
 within-cases : (n : ℕ) (d : Decision) → Within n d → (d ≡ undecided) ⊎ ((1 ≤ decisionPeriod d) × (decisionPeriod d ≤ n))
 within-cases n undecided p = inl refl
@@ -28,8 +27,8 @@ pub decides-once : (c : Clause) → EmptyFree c → (w : List Period) → Decide
 decides-once c g w =
     record {
       decision = meaning c w;
-      nothing-yet = within-none (meaning c []) (within c g []);
-      bounds = within-cases (length w) (meaning c w) (within c g w);
+      nothing-yet = within-none (meaning c []) (decision-within c g []);
+      bounds = within-cases (length w) (meaning c w) (decision-within c g w);
       open-before = λ n h. stable c g n w ∙ not-yet n (meaning c w) h;
       same-from = λ n h. stable c g n w ∙ by-now n (meaning c w) h;
       verdicts = λ n h. ap (λ (d : Decision). verdict d n) (stable c g n w) ∙ verdict-by (meaning c w) n;
@@ -44,14 +43,3 @@ stands c g u v decided =
   where
     here : meaning c u ≡ decidedBy (length u) (meaning c (u ++ v))
     here = rw (take-append-seam u v) at (stable c g (length u) (u ++ v))
-
--- blame is 1, 2 or 3 for a violation, and 0 otherwise
-pub blame-violated : (k : ℕ) (b : Blame) → (1 ≤ blame (violated k b)) × (blame (violated k b) ≤ 3)
-blame-violated k (only party1) = (omega arith, omega arith)
-blame-violated k (only party2) = (omega arith, omega arith)
-blame-violated k bothParties = (omega arith, omega arith)
-
-pub blame-else : (d : Decision) → ((k : ℕ) (b : Blame) → ¬ (d ≡ violated k b)) → blame d ≡ 0
-blame-else undecided h = refl
-blame-else (satisfied k) h = refl
-blame-else (violated k b) h = absurd (h k b refl)

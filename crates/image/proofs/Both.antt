@@ -1,7 +1,7 @@
 -- `both` behaves. Its halves read until the whole has decided, and a half that is satisfied before the other is remembered.
 use Prim.Native.Nat.{ℕ, suc, _≤_}
 use native.Mathlib.Omega.{arith}
-use mathlib.Core.Bool.{Bool, true, false, _&&_, _||_, cond, or-false, false≢true}
+use mathlib.Core.Bool.{Bool, true, false, _&&_, _||_, or-false, false≢true}
 use mathlib.Core.List.{List, [], _∷_, _++_}
 use mathlib.Core.Logic.{⊎-elim}
 use mathlib.Core.Option.{Option, none, some}
@@ -11,11 +11,14 @@ use lib.Dec.{eqb}
 use lib.ListN.{length}
 use Rattle.periods.specs.Periods.{Party, party1, party2, Period}
 use Rattle.contract.specs.Meaning.{Clause, both, Blame, only, bothParties, unite, Decision, undecided, satisfied, violated, bothMeaning, meaning, EmptyFree}
-use Rattle.contract.proofs.Meaning.{Within, within, Order, left-first, right-first, together, order}
-use Rattle.image.proofs.Signals.{Signal, at, _≐_, nothing, met, broken, blames, isBroken, reportOf, Says, UntilDone, Remembers}
-use Rattle.image.proofs.Threads.{isSome, Exclusive, exclusive-until-done, extend, thread, Once, happens, length-snoc, none-yet}
-use Rattle.image.proofs.Reports.{decidedAt, satisfiedAt, violatedAt, once-satisfied, unbroken, now, said, saidBy, NotBefore, timely, met-happens, Behaves}
-use Rattle.image.proofs.Stopping.{exactly, Unfinished, stops}
+use Rattle.contract.proofs.Meaning.{Within, decision-within, Order, left-first, right-first, together, order}
+use Rattle.image.proofs.Signals.{Signal, at, _≐_, nothing, met, broken, blames, isBroken, reportOf, Says, exactly, UntilDone, Remembers}
+use Rattle.image.proofs.Once.{isSome, Once, happens, length-snoc, none-yet}
+use Rattle.image.proofs.Threads.{Exclusive, exclusive-until-done, readNext, thread}
+use Rattle.image.proofs.Reports.{decidedAt, satisfiedAt, violatedAt, unbroken, now, saidBy, NotBefore, timely}
+use Rattle.image.proofs.Decisions.{once-satisfied, met-happens}
+use Rattle.image.proofs.Behaviour.{Behaves}
+use Rattle.image.proofs.Stopping.{Unfinished, stops}
 
 -- ---- memory
 
@@ -24,10 +27,10 @@ abbrev happened : (List Period → Option ℕ) → Option (List Period) → Bool
 happened f none = false
 happened f (some w) = isSome (f w)
 
-module _ (f : List Period → Option ℕ) (o : Once f) where
-  -- before or now
-  happened-by : (w : List Period) (p : Period) → (isSome (f w) || happens f (some (w ++ (p ∷ [])))) ≡ isSome (f (w ++ (p ∷ [])))
-  happened-by w p = go (f w) refl
+module _ {f : List Period → Option ℕ} (o : Once f) where
+  -- it has happened with one period more where it had before or happens now
+  before-or-now : (w : List Period) (p : Period) → (isSome (f w) || happens f (some (w ++ (p ∷ [])))) ≡ isSome (f (w ++ (p ∷ [])))
+  before-or-now w p = go (f w) refl
     where
       go : (k : Option ℕ) → f w ≡ k → (isSome k || happens f (some (w ++ (p ∷ [])))) ≡ isSome (f (w ++ (p ∷ [])))
       go (some k) e = rw (o .stays w p k e)
@@ -45,12 +48,11 @@ module _ (f : List Period → Option ℕ) (o : Once f) where
       rw (r .stays p h, remembered x r fires h, fires (p ∷ h)) (step (S p h) (go p h) (thread S go h) (x .never-both p h))
     where
       step : (s k : Bool) (t : Option (List Period)) → (s && k) ≡ false
-          → (k && happened f t || happens f (cond s (some (p ∷ [])) (cond k (extend p t) none)))
-          ≡ happened f (cond s (some (p ∷ [])) (cond k (extend p t) none))
+          → (k && happened f t || happens f (readNext s k p t)) ≡ happened f (readNext s k p t)
       step true true t e = absurd (false≢true (sym e))
-      step true false t e = rw (none-yet f o) at (happened-by [] p)
+      step true false t e = rw (none-yet o) at (before-or-now [] p)
       step false true none e = refl
-      step false true (some w) e = happened-by w p
+      step false true (some w) e = before-or-now w p
       step false false t e = refl
 
 -- ---- both
@@ -107,25 +109,25 @@ both-said : (l r : Clause) → EmptyFree (both l r) → (v : Option (List Period
     → Says (happened (λ w. satisfiedAt (meaning l w)) v && happened (λ w. satisfiedAt (meaning r w)) v)
     (isBroken party1 (saidBy l v) || isBroken party1 (saidBy r v)) (isBroken party2 (saidBy l v) || isBroken party2 (saidBy r v))
     (saidBy (both l r) v)
-unfolding said meaning EmptyFree
+unfolding meaning EmptyFree
 both-said l r g none u = exactly nothing
 both-said l r g (some w) u =
     let n = length w in
-    let p = within l (g .0) w in
-    let q = within r (g .1) w in
+    let p = decision-within l (g .0) w in
+    let q = decision-within r (g .1) w in
     let o = both-parts n (meaning l w) (meaning r w) u in
     rw (
       blamed party1 n (meaning l w) p (o .0),
       blamed party2 n (meaning l w) p (o .0),
       blamed party1 n (meaning r w) q (o .1),
       blamed party2 n (meaning r w) q (o .1),
-      timely n (bothMeaning (meaning l w) (meaning r w)) (within (both l r) g w) u,
+      timely n (bothMeaning (meaning l w) (meaning r w)) (decision-within (both l r) g w) u,
     ) (both-report n (meaning l w) (meaning r w) p q (o .0) (o .1))
 
 met-by-now : {c : Clause} {S go sat one two kept : Signal} → EmptyFree c → Exclusive S go → Behaves c S go sat one two → Remembers sat go kept
     → (h : List Period) → at kept h ≡ happened (λ w. satisfiedAt (meaning c w)) (thread S go h)
 met-by-now {c} {S} {go} g x b r =
-    remembered (λ w. satisfiedAt (meaning c w)) (once-satisfied c g) x r (λ h. b .says h .met-is ∙ met-happens c (thread S go h))
+    remembered (once-satisfied c g) x r (λ h. b .says h .sat-is ∙ met-happens c (thread S go h))
 
 pub behaves-both : {l r : Clause} {S K go done satL oneL twoL satR oneR twoR metL metR sat one two : Signal}
     → EmptyFree (both l r) → Exclusive S K → UntilDone done K go

@@ -2,7 +2,7 @@
 use Rattle.contract.specs.Meaning.{Clause, EmptyFree}
 use Rattle.image.proofs.Signals.{Signal, WiredClause, wired-literal, wired-both, wired-then, wired-repair, wired-repeat, wired-when, wired-until}
 use Rattle.image.proofs.Threads.{Exclusive, exclusive-hands-over, until-fired, exclusive-until-done}
-use Rattle.image.proofs.Reports.{Behaves}
+use Rattle.image.proofs.Behaviour.{Behaves}
 use Rattle.image.proofs.Expressions.{reads-alone}
 use Rattle.image.proofs.Literals.{behaves-literal}
 use Rattle.image.proofs.Handing.{behaves-then, behaves-repair}

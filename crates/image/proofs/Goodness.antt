@@ -20,7 +20,7 @@ use Rattle.reader.proofs.Fields.{allowed-action}
 use Rattle.image.specs.Widths.{width, _⊹_, inside, fixedRows, afterExpression, afterClause}
 use Rattle.image.specs.Blocks.{joinRow, endRow, expressionRows, outputsOf, clauseRows}
 use Rattle.image.specs.Images.{rowsFor, image}
-use Rattle.image.proofs.Sizes.{after-clause, length-rows, rows-max, inside-expression, inside-ifEmpty, inside-clause, inside-two}
+use Rattle.image.proofs.Sizes.{after-clause, length-rowsFor, rows-max, inside-expression, inside-ifEmpty, inside-clause, inside-two}
 
 -- ---- good rows
 
@@ -165,25 +165,25 @@ module _ (c : Clause) (i : InRange c) where
   good-rows : GoodFrom (length (rowsFor c)) 0 (rowsFor c)
   unfolding rowsFor
   good-rows =
-      let l = length-rows c in
+      let l = length-rowsFor c in
       let a = after-clause c fixedRows in
       first fixedRows (omega arith) (good-clause _ c i (omega arith) end)
 
-  good-row : (k : ℕ) → k < length (rowsFor c) → GoodAt (length (rowsFor c)) k (getD (rowsFor c) k never)
-  good-row k h = rw zero-add at (good-at good-rows k h)
+  each-good : (k : ℕ) → k < length (rowsFor c) → GoodAt (length (rowsFor c)) k (getD (rowsFor c) k never)
+  each-good k h = rw zero-add at (good-at good-rows k h)
 
   pub writable : records c ≤ maxRecords → Writable (image c)
   unfolding image
   writable h =
-      let l = length-rows c in
+      let l = length-rowsFor c in
       let m = rows-max c in
       let a = after-clause c fixedRows in
       let o = inside-clause c fixedRows (omega arith) in
       record {
         some-rows = omega arith;
         few-rows = omega arith;
-        fits = λ k j. good-fits (length (rowsFor c)) k j (omega arith) (getD (rowsFor c) k never) (good-row k j);
-        names = λ k j. good-names (length (rowsFor c)) k (getD (rowsFor c) k never) (good-row k j);
+        fits = λ k j. good-fits (length (rowsFor c)) k j (omega arith) (getD (rowsFor c) k never) (each-good k j);
+        names = λ k j. good-names (length (rowsFor c)) k (getD (rowsFor c) k never) (each-good k j);
         small-S = omega arith;
         small-V1 = omega arith;
         small-V2 = omega arith;

@@ -9,7 +9,7 @@ use Rattle.reader.specs.Reader.{taken, read}
 use Rattle.reader.proofs.Reader.{taken-spells, taken-count}
 use Rattle.image.specs.Images.{image, imageFor}
 use Rattle.image.specs.Rightness.{RightFor, SizedFor}
-use Rattle.image.proofs.Sizes.{length-rows, rows-max, rows-allowed}
+use Rattle.image.proofs.Sizes.{length-rowsFor, rows-max, rows-allowed}
 use Rattle.image.proofs.Goodness.{writable}
 use Rattle.image.proofs.Root.{shows}
 
@@ -28,7 +28,7 @@ pub sized-for : (contract : List ℕ) (c : Clause) → read contract ≡ taken c
 unfolding imageFor image
 sized-for contract c e =
     rw e record {
-      rows-are = rw rowCount-imageBytes (length-rows c);
+      rows-are = rw rowCount-imageBytes (length-rowsFor c);
       rows-max = rw (rowCount-imageBytes, taken-count contract c e) (rows-max c);
       rows-allowed = rw (rowCount-imageBytes, taken-count contract c e) (rows-allowed c);
     }

@@ -6,7 +6,7 @@ use mathlib.Core.Path.{_≡_, refl, sym, _∙_, subst}
 use Rattle.periods.specs.Periods.{Period}
 use Rattle.contract.specs.Expressions
 use Rattle.contract.specs.Expressions.{Atom, Expression, atom, seq, or, star, Holds, one, join, left, more, member, begins}
-use Rattle.contract.proofs.Expressions.{Concat, held-seq, Split, split, member-iff, begins-iff, some-list, star-join, star-one, Cuts, in-front, in-rest, cuts}
+use Rattle.contract.proofs.Expressions.{Concat, held-seq, Passes, split, member-iff, begins-iff, some-list, star-join, star-one, Cuts, in-front, in-rest, cuts}
 
 abbrev pub Language : Type 1
 Language = List Period → Type 0
@@ -140,14 +140,14 @@ pub star-goes : (e : Expression) (w : List Period) → GoesOn (Holds (star e)) w
 unfolding begins
 star-goes e w = (λ (p, (u, h)). apart (split (member (star e)) (begins e) w (begins-iff (star e) w .1 (p ∷ u, h))), concat-goes (λ v. star-more))
   where
-    apart : Split (member (star e)) (begins e) w → Concat (Holds (star e)) (GoesOn (Holds e)) w
-    apart s = ⊎-elim ended goes (begins-or (Holds e) (s .rest) .0 (begins-iff e (s .rest) .0 (s .passes-rest)))
+    apart : Concat (Passes (member (star e))) (Passes (begins e)) w → Concat (Holds (star e)) (GoesOn (Holds e)) w
+    apart s = ⊎-elim ended goes (begins-or (Holds e) (s .rest) .0 (begins-iff e (s .rest) .0 (s .held-rest)))
       where
         held : Holds (star e) (s .front)
-        held = member-iff (star e) (s .front) .0 (s .passes)
+        held = member-iff (star e) (s .front) .0 (s .held)
 
         ended : Holds e (s .rest) → Concat (Holds (star e)) (GoesOn (Holds e)) w
-        ended h = concat-begin (Holds (star e)) e w .1 (inr (rw (s .whole) at (star-join held (star-one h))))
+        ended h = concat-begin (Holds (star e)) e w .1 (inr (rw (← s .whole) at (star-join held (star-one h))))
 
         goes : GoesOn (Holds e) (s .rest) → Concat (Holds (star e)) (GoesOn (Holds e)) w
-        goes g = record { front = s .front; rest = s .rest; whole = sym (s .whole); held = held; held-rest = g }
+        goes g = record { front = s .front; rest = s .rest; whole = s .whole; held = held; held-rest = g }

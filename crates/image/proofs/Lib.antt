@@ -4,10 +4,13 @@ pub mod RowLaws
 pub mod Sizes
 pub mod Goodness
 pub mod Wiring
+pub mod Once
 pub mod Threads
 pub mod Languages
 pub mod Expressions
 pub mod Reports
+pub mod Decisions
+pub mod Behaviour
 pub mod Tested
 pub mod Handing
 pub mod When

@@ -1,18 +1,19 @@
 -- The block of a literal behaves: it decides on the first period that it reads, and says nothing after.
-use Prim.Native.Nat.{ℕ, suc, _≤_}
-use native.Mathlib.Nat.{le-refl}
+use Prim.Native.Nat.{ℕ, suc}
 use native.Mathlib.Omega.{arith}
-use mathlib.Core.Bool.{Bool, true, false, _&&_, cond}
+use mathlib.Core.Bool.{Bool, true, false}
 use mathlib.Core.List.{List, [], _∷_, _++_}
 use mathlib.Core.Option.{Option, none, some}
 use mathlib.Core.Path.{_≡_, refl}
 use lib.ListN.{length}
-use Rattle.periods.specs.Periods.{Party, party1, party2, other, Period, tries}
-use Rattle.contract.specs.Meaning.{Literal, literal, Decision, undecided, satisfied, violated, literalDecision, meaning, EmptyFree}
-use Rattle.contract.proofs.Meaning.{Within, within, within-period}
-use Rattle.image.proofs.Signals.{Signal, at, Report, nothing, isMet, isBroken, reportOf, Says}
-use Rattle.image.proofs.Threads.{extend, thread, length-snoc}
-use Rattle.image.proofs.Reports.{decidedAt, said, saidBy, NotBefore, timely, silent-past, Behaves}
+use Rattle.periods.specs.Periods.{Party, other, Period, tries}
+use Rattle.contract.specs.Meaning.{Literal, literal, Decision, undecided, satisfied, violated, meaning, EmptyFree}
+use Rattle.contract.proofs.Meaning.{Within, decision-within, within-period}
+use Rattle.image.proofs.Signals.{Signal, at, nothing, literalReport, Says, exactly}
+use Rattle.image.proofs.Once.{length-snoc}
+use Rattle.image.proofs.Threads.{not-empty, readNext, thread, thread-is-active}
+use Rattle.image.proofs.Reports.{decidedAt, saidBy, NotBefore, timely, silent-past}
+use Rattle.image.proofs.Behaviour.{Behaves}
 
 -- a decision in period 1 is not before it
 not-before-first : (d : Decision) → Within 1 d → NotBefore 1 (decidedAt d)
@@ -20,54 +21,33 @@ not-before-first undecided b = tt
 not-before-first (satisfied k) b = b .0
 not-before-first (violated k x) b = b .0
 
--- what has been read is not empty
-abbrev AtLeastOne : Option (List Period) → Type 0
-AtLeastOne none = Unit {0}
-AtLeastOne (some w) = 1 ≤ length w
-
-thread-at-least-one : (S K : Signal) (h : List Period) → AtLeastOne (thread S K h)
-unfolding thread
-thread-at-least-one S K [] = tt
-thread-at-least-one S K (p ∷ h) = go (S p h) (K p h) (thread S K h)
-  where
-    go : (s k : Bool) (t : Option (List Period)) → AtLeastOne (cond s (some (p ∷ [])) (cond k (extend p t) none))
-    go true k t = le-refl 1
-    go false false t = tt
-    go false true none = tt
-    go false true (some w) = rw (length-snoc w p) (omega arith)
-
 module _ (l : Literal) (q : Party) (a : ℕ) where
-  one-period : (p : Period) → Within 1 (meaning (literal l q a) (p ∷ []))
+  within-first : (p : Period) → Within 1 (meaning (literal l q a) (p ∷ []))
   unfolding EmptyFree
-  one-period p = within (literal l q a) tt (p ∷ [])
+  within-first p = decision-within (literal l q a) tt (p ∷ [])
 
   said-by-literal : (S K : Signal) (p : Period) (h : List Period)
-      → saidBy (literal l q a) (thread S K (p ∷ h)) ≡ cond (S p h) (reportOf (meaning (literal l q a) (p ∷ []))) nothing
-  unfolding thread said meaning
-  said-by-literal S K p h = go (S p h) (K p h) (thread S K h) (thread-at-least-one S K h)
+      → saidBy (literal l q a) (thread S K (p ∷ h)) ≡ literalReport l q (S p h) (tries p q a) (tries p (other q) a)
+  unfolding thread meaning
+  said-by-literal S K p h = go (S p h) (K p h) (thread S K h) refl
     where
-      go : (s k : Bool) (t : Option (List Period)) → AtLeastOne t
-          → saidBy (literal l q a) (cond s (some (p ∷ [])) (cond k (extend p t) none)) ≡ cond s (reportOf (meaning (literal l q a) (p ∷ []))) nothing
-      go true k t b = timely 1 (meaning (literal l q a) (p ∷ [])) (one-period p) (not-before-first (meaning (literal l q a) (p ∷ [])) (one-period p))
+      go : (s k : Bool) (t : Option (List Period)) → thread S K h ≡ t
+          → saidBy (literal l q a) (readNext s k p t) ≡ literalReport l q s (tries p q a) (tries p (other q) a)
+      go true k t b = timely 1 (meaning (literal l q a) (p ∷ [])) (within-first p) (not-before-first (meaning (literal l q a) (p ∷ [])) (within-first p))
       go false false t b = refl
       go false true none b = refl
-      go false true (some []) b = absurd (omega arith)
+      go false true (some []) b = absurd (not-empty (thread-is-active S K h [] b) .1 refl)
       go false true (some (x ∷ w)) b =
           silent-past (suc (length (w ++ (p ∷ [])))) (meaning (literal l q a) (x ∷ []))
-          (omega (arith, length-snoc w p, within-period 1 (meaning (literal l q a) (x ∷ [])) (one-period x)))
-
-says-if : (b : Bool) (s : Report) → Says (b && isMet s) (b && isBroken party1 s) (b && isBroken party2 s) (cond b s nothing)
-says-if true s = record { met-is = refl; one-is = refl; two-is = refl }
-says-if false s = record { met-is = refl; one-is = refl; two-is = refl }
+          (omega (arith, length-snoc w p, within-period 1 (meaning (literal l q a) (x ∷ [])) (within-first x)))
 
 pub behaves-literal : {l : Literal} {q : Party} {a : ℕ} {S K sat one two : Signal}
-    → ((p : Period) (h : List Period) → let s = reportOf (literalDecision l q (tries p q a) (tries p (other q) a)) in
-    (sat p h ≡ (S p h && isMet s)) × (one p h ≡ (S p h && isBroken party1 s)) × (two p h ≡ (S p h && isBroken party2 s)))
+    → ((p : Period) (h : List Period)
+    → Says (sat p h) (one p h) (two p h) (literalReport l q (S p h) (tries p q a) (tries p (other q) a)))
     → Behaves (literal l q a) S K sat one two
-unfolding thread meaning
+unfolding thread
 behaves-literal {l} {q} {a} {S} {K} {sat} {one} {two} e = record { says = says }
   where
     says : (h : List Period) → Says (at sat h) (at one h) (at two h) (saidBy (literal l q a) (thread S K h))
-    says [] = record { met-is = refl; one-is = refl; two-is = refl }
-    says (p ∷ h) =
-        rw (e p h .0, e p h .1, e p h .2, said-by-literal l q a S K p h) (says-if (S p h) (reportOf (meaning (literal l q a) (p ∷ []))))
+    says [] = exactly nothing
+    says (p ∷ h) = rw (said-by-literal l q a S K p h) (e p h)

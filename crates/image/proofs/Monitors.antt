@@ -64,9 +64,12 @@ count-test s n e h =
 -- ---- step calls on the states that the machine reaches
 
 module _ (c : Clause) (image : List ℕ) (right : RightFor c image) where
-  -- the machine's state after the periods w
+  -- the machine's states: the first, and the one after the periods w
+  abbrev fresh : State
+  fresh = stateOf (replicate (headBytes + rowCount image) 0)
+
   abbrev reached : List Period → State
-  reached w = afterPeriods (imageOf image) (stateOf (replicate (headBytes + rowCount image) 0)) w
+  reached w = afterPeriods (imageOf image) fresh w
 
   -- the bytes of a state are ready for a call, and hold that state, with few enough periods to be counted
   record At (w : List Period) (state : List ℕ) : Type 0 where
@@ -76,8 +79,7 @@ module _ (c : Clause) (image : List ℕ) (right : RightFor c image) where
 
   periods-at : (w : List Period) → reached w .periods ≡ length w
   periods-at w =
-      periods-afterPeriods (imageOf image) (stateOf (replicate (headBytes + rowCount image) 0)) w
-      ∙ rw (fresh-read (rowCount image)) (zero-add (length w))
+      periods-afterPeriods (imageOf image) fresh w ∙ rw (fresh-read (rowCount image)) (zero-add (length w))
 
   module _ (w : List Period) (state : List ℕ) (h : At w state) (k : StepCall) where
     counted : stateOf state .periods ≡ length w
@@ -97,7 +99,7 @@ module _ (c : Clause) (image : List ℕ) (right : RightFor c image) where
     next = w ++ (periodAt (k .period) 0 ∷ [])
 
     later-at : afterPeriod (imageOf image) (periodAt (k .period) 0) (stateOf state) ≡ reached next
-    later-at = rw (h .is) (sym (after-snoc (imageOf image) (stateOf (replicate (headBytes + rowCount image) 0)) w (periodAt (k .period) 0)))
+    later-at = rw (h .is) (sym (after-snoc (imageOf image) fresh w (periodAt (k .period) 0)))
 
     room-to-count : accepts (length w) k ≡ true → length w < maxPeriods
     unfolding callTest

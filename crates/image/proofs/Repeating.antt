@@ -3,42 +3,25 @@
 use Prim.Native.Nat.{ℕ, suc, _≤_}
 use native.Mathlib.Nat.{le-refl}
 use native.Mathlib.Omega.{arith}
-use mathlib.Core.Bool.{Bool, true, false, not, _&&_, _||_, cond, false≢true}
+use mathlib.Core.Bool.{Bool, true, false, not, _&&_, _||_, false≢true}
 use mathlib.Core.List.{List, [], _∷_, _++_, append-assoc}
 use mathlib.Core.Logic.{_⊎_, inl, inr}
 use mathlib.Core.Option.{Option, none, some, Option·some-ne-none, Option·some-injective}
 use mathlib.Core.Path.{_≡_, refl, sym, ap, _∙_}
 use borrow.Author.Tests.{eqb-true, eq-eqb}
-use lib.Dec.{eqb}
 use lib.ListN.{length, drop, length-append, length-drop}
 use lib.Seq.{take-length, drop-length, drop-append-seam}
-use Rattle.periods.specs.Periods.{Party, party1, party2, Period}
-use Rattle.contract.specs.Meaning.{Clause, repeat, Blame, Decision, undecided, satisfied, violated, later, after, thenMeaning, repeatMeaning, meaning, EmptyFree}
-use Rattle.contract.proofs.Meaning.{decidedBy, within, stable, by-repeat}
+use Rattle.periods.specs.Periods.{Period}
+use Rattle.contract.specs.Meaning.{Clause, repeat, Decision, undecided, satisfied, violated, later, after, thenMeaning, repeatMeaning, meaning, EmptyFree}
+use Rattle.contract.proofs.Meaning.{decidedBy, decision-within, stable, by-repeat}
 use Rattle.contract.proofs.Verdicts.{stands}
-use Rattle.image.proofs.Signals.{Signal, at, _≐_, Report, nothing, met, broken, isMet, isBroken, Says, HandsOver}
-use Rattle.image.proofs.Threads.{Exclusive, extend, thread, length-snoc, is, first-period}
-use Rattle.image.proofs.Reports.{satisfiedAt, once-satisfied, met-happens, now, said, saidBy, now-later, Behaves}
-
--- what a repeated clause says of a run: never that it is satisfied
-abbrev unmet : Report → Report
-unmet nothing = nothing
-unmet met = nothing
-unmet (broken b) = broken b
-
-not-met : (s : Report) → isMet (unmet s) ≡ false
-not-met nothing = refl
-not-met met = refl
-not-met (broken b) = refl
-
-same-blame : (q : Party) (s : Report) → isBroken q (unmet s) ≡ isBroken q s
-same-blame q nothing = refl
-same-blame q met = refl
-same-blame q (broken b) = refl
-
-unmet-now : (t : Bool) (b : Blame) → cond t (broken b) nothing ≡ unmet (cond t (broken b) nothing)
-unmet-now true b = refl
-unmet-now false b = refl
+use Rattle.image.proofs.Signals.{Signal, at, _≐_, isMet, HandsOver}
+use Rattle.image.proofs.Once.{length-snoc, isAt, first-period}
+use Rattle.image.proofs.Threads.{Exclusive, readNext, thread}
+use Rattle.image.proofs.Reports.{satisfiedAt, now, nowBy, saidBy, now-later}
+use Rattle.image.proofs.Decisions.{once-satisfied, met-happens}
+use Rattle.image.proofs.Behaviour.{Behaves}
+use Rattle.image.proofs.Handing.{says-by, violation, says-violation}
 
 -- the clause is not satisfied before the last period
 abbrev Open : Clause → List Period → Type 0
@@ -58,7 +41,7 @@ run-on : {c : Clause} {w u y : List Period} → Runs c w u → (x : List Period)
 run-on (last o) x on = on
 run-on (next v {w = w} s r) x on = rw (append-assoc v w x) (next v s (run-on r x on))
 
-ends-satisfied : (n : ℕ) (d : Decision) → is (satisfiedAt d) n ≡ true → d ≡ satisfied n
+ends-satisfied : (n : ℕ) (d : Decision) → isAt (satisfiedAt d) n ≡ true → d ≡ satisfied n
 ends-satisfied n undecided e = absurd (false≢true e)
 ends-satisfied n (satisfied k) e = ap satisfied (eqb-true k n e)
 ends-satisfied n (violated k b) e = absurd (false≢true e)
@@ -77,7 +60,7 @@ module _ (c : Clause) (g : EmptyFree c) where
       at-most : (n : ℕ) → length w ≤ n → repeatMeaning (meaning c) n w ≡ decidedBy (length w) (repeatMeaning (meaning c) (length w) w)
       at-most n h =
           rw (take-length w) at
-          (by-repeat (meaning c) (within c g) (stable c g) (length w) n (length w) w (le-refl (length w)) (rw (take-length w) h))
+          (by-repeat (meaning c) (decision-within c g) (stable c g) (length w) n (length w) w (le-refl (length w)) (rw (take-length w) h))
 
   -- a clause repeated is the clause, then the clause repeated
   repeat-is-then : (w : List Period) → meaning (repeat c) w ≡ thenMeaning (meaning c w) (after (meaning (repeat c)) w)
@@ -93,20 +76,19 @@ module _ (c : Clause) (g : EmptyFree c) where
   unfolding meaning repeatMeaning
   repeat-nothing = refl
 
-  -- the meaning of the repeated clause on a list is decided by its last run
-  said-of-run : {w u : List Period} → Runs c w u → said (repeat c) w ≡ unmet (said c u)
-  unfolding said
+  -- the repeated clause says of a list what the clause says of its last run, but not that it is satisfied
+  said-of-run : {w u : List Period} → Runs c w u → saidBy (repeat c) (some w) ≡ now (length u) (violation (meaning c u))
   said-of-run (last {u = u} o) = rw (repeat-is-then u) (go (meaning c u) o)
     where
       go : (d : Decision) → (satisfiedAt d ≡ none) ⊎ (satisfiedAt d ≡ some (length u))
-          → now (length u) (thenMeaning d (after (meaning (repeat c)) u)) ≡ unmet (now (length u) d)
+          → now (length u) (thenMeaning d (after (meaning (repeat c)) u)) ≡ now (length u) (violation d)
       go undecided o = refl
       go (satisfied k) (inl e) = absurd (Option·some-ne-none k e)
       go (satisfied k) (inr e) =
           let k-is : k ≡ length u = Option·some-injective k (length u) e in
           let rest : drop k u ≡ [] = rw k-is (drop-length u) in
-          rw (rest, repeat-nothing, eq-eqb k (length u) k-is)
-      go (violated k b) o = unmet-now (eqb k (length u)) b
+          rw (rest, repeat-nothing)
+      go (violated k b) o = refl
   said-of-run (next v {w = w} {u = u} s r) =
       let stays : meaning c (v ++ w) ≡ satisfied (length v) = stands c g v w (λ e. let z : _≡_ {A = ℕ} 0 1 = cc in omega arith) ∙ s in
       rw (repeat-is-then (v ++ w), stays, drop-append-seam v w, length-append v w, now-later (length v) (length w) (meaning (repeat c) w))
@@ -114,16 +96,16 @@ module _ (c : Clause) (g : EmptyFree c) where
 
   module _ (p : Period) where
     first-open : Open c (p ∷ [])
-    first-open = first-period (λ w. satisfiedAt (meaning c w)) (once-satisfied c g) p
+    first-open = first-period (once-satisfied c g) p
 
-    still-open : (u : List Period) → Open c u → isMet (said c u) ≡ false → Open c (u ++ (p ∷ []))
+    still-open : (u : List Period) → Open c u → isMet (saidBy c (some u)) ≡ false → Open c (u ++ (p ∷ []))
     still-open u (inl i) e = rw (length-snoc u p) (once-satisfied c g .only-now u p i)
     still-open u (inr i) e =
-        let ended : is (satisfiedAt (meaning c u)) (length u) ≡ true = rw (i, eq-eqb (length u) (length u) refl) in
+        let ended : isAt (satisfiedAt (meaning c u)) (length u) ≡ true = rw (i, eq-eqb (length u) (length u) refl) in
         absurd (false≢true (sym e ∙ met-happens c (some u) ∙ ended))
 
     step : (s k a : Bool) → (s && k) ≡ false → {t run : Option (List Period)} → Running c t run → isMet (saidBy c run) ≡ a
-        → Running c (cond s (some (p ∷ [])) (cond k (extend p t) none)) (cond (s || (k && a)) (some (p ∷ [])) (cond (k && not a) (extend p run) none))
+        → Running c (readNext s k p t) (readNext (s || (k && a)) (k && not a) p run)
     step true true a x r e = absurd (false≢true (sym x))
     step true false a x r e = runs (last first-open)
     step false false a x r e = idle
@@ -134,7 +116,7 @@ module _ (c : Clause) (g : EmptyFree c) where
     step false true false x idle e = idle
     step false true false x (runs {u = u} r) e = runs (run-on r (p ∷ []) (last (still-open u (last-open r) e)))
 
-  said-running : {t run : Option (List Period)} → Running c t run → saidBy (repeat c) t ≡ unmet (saidBy c run)
+  said-running : {t run : Option (List Period)} → Running c t run → saidBy (repeat c) t ≡ nowBy (λ w. violation (meaning c w)) run
   said-running idle = refl
   said-running (runs r) = said-of-run r
 
@@ -154,18 +136,16 @@ pub behaves-repeat : {c : Clause} {S K again start go satC one two sat : Signal}
     → (start ≐ λ p h. S p h || again p h) → Behaves c start go satC one two → (sat ≐ λ p h. false) → Behaves (repeat c) S K sat one two
 unfolding thread
 behaves-repeat {c} {S} {K} {again} {start} {go} {satC} {one} {two} {sat} g x w e b never =
-    record { says = λ h. rw (said-running c g (running h)) (says h (saidBy c (thread start go h)) (b .says h)) }
+    record {
+      says = λ h. rw (silent h, said-running c g (running h)) (says-by violation refl says-violation c (thread start go h) (b .says h));
+    }
   where
-    says : (h : List Period) (s : Report) → Says (at satC h) (at one h) (at two h) s → Says (at sat h) (at one h) (at two h) (unmet s)
-    says h s b =
-        record { met-is = silent h ∙ sym (not-met s); one-is = b .one-is ∙ sym (same-blame party1 s); two-is = b .two-is ∙ sym (same-blame party2 s) }
-      where
-        silent : (h : List Period) → at sat h ≡ false
-        silent [] = refl
-        silent (p ∷ h) = never p h
+    silent : (h : List Period) → at sat h ≡ false
+    silent [] = refl
+    silent (p ∷ h) = never p h
 
     running : (h : List Period) → Running c (thread S K h) (thread start go h)
     running [] = idle
     running (p ∷ h) =
         rw (e p h, w .starts p h, w .goes p h)
-        (step c g p (S p h) (K p h) (at satC h) (x .never-both p h) (running h) (sym (b .says h .met-is)))
+        (step c g p (S p h) (K p h) (at satC h) (x .never-both p h) (running h) (sym (b .says h .sat-is)))

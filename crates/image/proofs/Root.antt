@@ -3,7 +3,7 @@ use Prim.Native.Nat.{ℕ, zero, suc, _+_, _≤_}
 use native.Mathlib.Numerals.{add-one}
 use native.Mathlib.Omega.{arith}
 use mathlib.Core.Bool.{Bool, true, not, _||_, cond, and-not-self}
-use mathlib.Core.List.{List, [], _∷_, _++_, map}
+use mathlib.Core.List.{List, [], _∷_, _++_, map, reverseAux, reverse, reverse-cons}
 use mathlib.Core.Logic.{_⊎_, inl, inr, ⊎-elim}
 use mathlib.Core.Option.{Option, none, some}
 use mathlib.Core.Path.{_≡_, refl, sym, ap, _∙_}
@@ -14,10 +14,10 @@ use Rattle.layout.specs.Rows.{Row, never, initial, attempt, negation, conjuncti
 use Rattle.states.specs.States.{State}
 use Rattle.states.proofs.Fresh.{freshState}
 use Rattle.machine.specs.Machine.{byteOf, isTrue, value, newValues, valuesAfter, outcomeOf, blameOf, computed, counted, afterPeriod, afterPeriods}
-use Rattle.machine.proofs.Machine.{isTrue-byteOf, after-undecided, after-decided, after-snoc}
+use Rattle.machine.proofs.Machine.{isTrue-byteOf, after-undecided, after-decided}
 use Rattle.contract.specs.Meaning.{Clause, Blame, only, bothParties, Decision, undecided, satisfied, violated, meaning, EmptyFree}
 use Rattle.contract.specs.Verdicts.{decisionPeriod, blame, blameNumber}
-use Rattle.contract.proofs.Meaning.{within, within-none}
+use Rattle.contract.proofs.Meaning.{decision-within, within-none}
 use Rattle.contract.proofs.Verdicts.{stands}
 use Rattle.reader.specs.Limits.{maxRecords}
 use Rattle.reader.specs.Spelling.{records, InRange}
@@ -28,38 +28,18 @@ use Rattle.image.proofs.Signals.{Signal, at, isFirst, _≐_, Obeys, isM
 use Rattle.image.proofs.RowLaws.{values, signal, obeys}
 use Rattle.image.proofs.Goodness.{writable}
 use Rattle.image.proofs.Wiring.{wired-clause}
-use Rattle.image.proofs.Threads.{Exclusive, extend, thread, length-snoc}
-use Rattle.image.proofs.Reports.{decidedAt, someone-blamed, once-decided, now, said, Behaves}
+use Rattle.image.proofs.Once.{length-snoc}
+use Rattle.image.proofs.Threads.{Exclusive, extend, thread}
+use Rattle.image.proofs.Reports.{decidedAt, someone-blamed, now, saidBy}
+use Rattle.image.proofs.Decisions.{once-decided}
+use Rattle.image.proofs.Behaviour.{Behaves}
 use Rattle.image.proofs.Clauses.{behaves}
-
--- ---- histories and lists
-
--- a history's periods in their order
-abbrev inOrder : List Period → List Period
-inOrder [] = []
-inOrder (p ∷ h) = inOrder h ++ (p ∷ [])
-
--- every list is the periods of some history
-record History (w : List Period) : Type 0 where
-  latest-first : List Period
-  is : inOrder latest-first ≡ w
-
-earlier : (p : Period) (h : List Period) → (latest-first : List Period) × (inOrder latest-first ≡ p ∷ inOrder h)
-earlier p [] = (p ∷ [], refl)
-earlier p (q ∷ h) = let e = earlier p h in (q ∷ e .0, ap (λ (w : List Period). w ++ (q ∷ [])) (e .1))
-
-history : (w : List Period) → History w
-history [] = record { latest-first = []; is = refl }
-history (p ∷ w) =
-    let r = history w in
-    let e = earlier p (r .latest-first) in
-    record { latest-first = e .0; is = e .1 ∙ ap (λ (v : List Period). p ∷ v) (r .is) }
 
 -- ---- the root's signals: the clause begins to read in period 1 and goes on ever after
 
 abbrev whole : List Period → Option (List Period)
 whole [] = none
-whole (p ∷ h) = some (inOrder (p ∷ h))
+whole (p ∷ h) = some (reverse h ++ (p ∷ []))
 
 module _ (S K : Signal) (first : S ≐ λ p h. isFirst h) (others : K ≐ λ p h. not (S p h)) where
   exclusive : Exclusive S K
@@ -69,7 +49,7 @@ module _ (S K : Signal) (first : S ≐ λ p h. isFirst h) (others : K ≐ λ p h
   unfolding thread
   reads-all [] = refl
   reads-all (p ∷ []) = rw (first p [])
-  reads-all (p ∷ q ∷ h) = rw (first p (q ∷ h), others p (q ∷ h), first p (q ∷ h)) (ap (extend p) (reads-all (q ∷ h)))
+  reads-all (p ∷ q ∷ h) = rw (first p (q ∷ h), others p (q ∷ h), first p (q ∷ h)) (rw (reverse-cons q h) (ap (extend p) (reads-all (q ∷ h))))
 
 -- ---- in period 1 the values before do not count
 
@@ -117,10 +97,10 @@ decided n (violated k b) (inr e) =
     let i : k ≡ n = cc in
     rw (eq-eqb k n i) record { outcome-is = rw (someone-blamed b); blame-is = blame-number b; decision-is = rw (someone-blamed b) (sym i) }
 
-open-or-decided : (d : Decision) → (d ≡ undecided) ⊎ (¬ (d ≡ undecided) × ¬ (outcome d ≡ 0))
+open-or-decided : (d : Decision) → (d ≡ undecided) ⊎ ¬ (outcome d ≡ 0)
 open-or-decided undecided = inl refl
-open-or-decided (satisfied k) = inr (λ e. let z : _≡_ {A = ℕ} 0 1 = cc in omega arith, λ e. omega arith)
-open-or-decided (violated k b) = inr (λ e. let z : _≡_ {A = ℕ} 0 1 = cc in omega arith, λ e. omega arith)
+open-or-decided (satisfied k) = inr (λ e. omega arith)
+open-or-decided (violated k b) = inr (λ e. omega arith)
 
 -- ---- the machine
 
@@ -130,10 +110,6 @@ module _ (c : Clause) (r : InRange c) (g : EmptyFree c) (n : records c ≤ maxRe
 
   abbrev fresh : State
   fresh = freshState (length (image c .rows))
-
-  -- the state after the periods of a history
-  abbrev reached : List Period → State
-  reached h = afterPeriods (image c) fresh (inOrder h)
 
   obeyed : Obeys v 0 (rowsFor c)
   unfolding image
@@ -147,70 +123,72 @@ module _ (c : Clause) (r : InRange c) (g : EmptyFree c) (n : records c ≤ maxRe
 
   -- in each period the rows S, V1 and V2 say what the clause says on all the periods so far
   says-all : (p : Period) (h : List Period)
-      → Says (v (image c .S) p h) (v (image c .V1) p h) (v (image c .V2) p h) (said c (inOrder (p ∷ h)))
+      → Says (v (image c .S) p h) (v (image c .V1) p h) (v (image c .V2) p h) (saidBy c (some (reverse h ++ (p ∷ []))))
   unfolding rowsFor
   says-all p h = rw (reads-all (v firstRow) (v laterRow) (obeyed .1 .0) (obeyed .1 .1 .0) (p ∷ h)) at (root-behaves .says (p ∷ h))
 
-  -- the state after a history: it shows the clause's meaning, counts the periods and, undecided, has the rows' values for the next period
-  record After (h : List Period) (s : State) : Type 0 where
-    shown : Shows (meaning c (inOrder h)) s
-    counts : s .periods ≡ length (inOrder h)
-    next : meaning c (inOrder h) ≡ undecided → (p : Period) → valuesAfter (image c) p s ≡ values (rowsFor c) (p ∷ h)
+  -- a state after the periods of a history, the latest first: it shows the clause's meaning, counts the periods and, undecided, has the rows' values
+  -- for the next period
+  record Tracks (h : List Period) (s : State) : Type 0 where
+    shown : Shows (meaning c (reverse h)) s
+    counts : s .periods ≡ length (reverse h)
+    next : meaning c (reverse h) ≡ undecided → (p : Period) → valuesAfter (image c) p s ≡ values (rowsFor c) (p ∷ h)
 
-  at-start : After [] fresh
+  at-start : Tracks [] fresh
   unfolding valuesAfter values image
   at-start =
       record {
-        shown = rw (within-none (meaning c []) (within c g [])) record { outcome-is = refl; blame-is = refl; decision-is = refl };
+        shown = rw (within-none (meaning c []) (decision-within c g [])) record { outcome-is = refl; blame-is = refl; decision-is = refl };
         counts = refl;
         next = λ e p. values-first p _ [] (rowsFor c) (length (rowsFor c));
       }
 
   -- a period that finds the clause undecided
-  computed-next : (p : Period) (h : List Period) (s : State) → After h s → meaning c (inOrder h) ≡ undecided
-      → After (p ∷ h) (computed (image c) (values (rowsFor c) (p ∷ h)) s)
-  unfolding computed valuesAfter values said image
+  computed-next : (p : Period) (h : List Period) (s : State) → Tracks h s → meaning c (reverse h) ≡ undecided
+      → Tracks (p ∷ h) (computed (image c) (values (rowsFor c) (p ∷ h)) s)
+  unfolding computed valuesAfter values image
   computed-next p h s a e =
-      let w = inOrder (p ∷ h) in
+      let w = reverse h ++ (p ∷ []) in
       let d = meaning c w in
-      let l : length w ≡ suc (length (inOrder h)) = length-snoc (inOrder h) p in
+      let l : length w ≡ suc (length (reverse h)) = length-snoc (reverse h) p in
       let m : s .periods + 1 ≡ length w = omega (arith, a .counts) in
       let t = says-all p h in
       let o : Decided (length w) d (isMet (now (length w) d)) (isBroken party1 (now (length w) d)) (isBroken party2 (now (length w) d)) =
-      decided (length w) d (rw l (once-decided c g .only-now (inOrder h) p (ap decidedAt e))) in
+      decided (length w) d (rw l (once-decided c g .only-now (reverse h) p (ap decidedAt e))) in
       record {
-        shown = record {
-          outcome-is = rw (t .met-is, t .one-is, t .two-is) (o .outcome-is);
+        shown = rw (reverse-cons p h) record {
+          outcome-is = rw (t .sat-is, t .one-is, t .two-is) (o .outcome-is);
           blame-is = rw (t .one-is, t .two-is) (o .blame-is);
-          decision-is = rw (t .met-is, t .one-is, t .two-is, m) (o .decision-is);
+          decision-is = rw (t .sat-is, t .one-is, t .two-is, m) (o .decision-is);
         };
-        counts = m;
+        counts = rw (reverse-cons p h) m;
         next = λ u q. rw (ne-eqb (s .periods + 1) 0 (omega arith), bits-back);
       }
 
   -- and one that finds it decided
-  counted-next : (p : Period) (h : List Period) (s : State) → After h s → ¬ (meaning c (inOrder h) ≡ undecided) → After (p ∷ h) (counted s)
+  counted-next : (p : Period) (h : List Period) (s : State) → Tracks h s → ¬ (meaning c (reverse h) ≡ undecided) → Tracks (p ∷ h) (counted s)
   unfolding counted
   counted-next p h s a e =
-      let same : meaning c (inOrder (p ∷ h)) ≡ meaning c (inOrder h) = stands c g (inOrder h) (p ∷ []) e in
+      let same : meaning c (reverse (p ∷ h)) ≡ meaning c (reverse h) = rw (reverse-cons p h) (stands c g (reverse h) (p ∷ []) e) in
       record {
         shown = rw same record { outcome-is = a .shown .outcome-is; blame-is = a .shown .blame-is; decision-is = a .shown .decision-is };
-        counts = rw (length-snoc (inOrder h) p, a .counts) (add-one (length (inOrder h)));
+        counts = rw (reverse-cons p h, length-snoc (reverse h) p, a .counts) (add-one (length (reverse h)));
         next = λ u. absurd (e (sym same ∙ u));
       }
 
   -- the machine computes just where the clause is undecided
-  after-next : (p : Period) (h : List Period) (s : State) → After h s → After (p ∷ h) (afterPeriod (image c) p s)
+  after-next : (p : Period) (h : List Period) (s : State) → Tracks h s → Tracks (p ∷ h) (afterPeriod (image c) p s)
   after-next p h s a =
       ⊎-elim (λ e. rw (after-undecided (image c) p s (a .shown .outcome-is ∙ ap outcome e), a .next e p) (computed-next p h s a e))
-      (λ e. rw (after-decided (image c) p s (λ z. e .1 (sym (a .shown .outcome-is) ∙ z))) (counted-next p h s a (e .0)))
-      (open-or-decided (meaning c (inOrder h)))
+      (λ e. rw (after-decided (image c) p s (λ z. e (sym (a .shown .outcome-is) ∙ z))) (counted-next p h s a (λ u. e (ap outcome u))))
+      (open-or-decided (meaning c (reverse h)))
 
-  after : (h : List Period) → After h (reached h)
+  -- and so on, period by period: `reverseAux h w` is the history's periods in their order and then w
+  shows-on : (h : List Period) (s : State) → Tracks h s → (w : List Period) → Shows (meaning c (reverseAux h w)) (afterPeriods (image c) s w)
   unfolding afterPeriods
-  after [] = at-start
-  after (p ∷ h) = rw (after-snoc (image c) fresh (inOrder h) p) (after-next p h (reached h) (after h))
+  shows-on h s a [] = a .shown
+  shows-on h s a (p ∷ w) = shows-on (p ∷ h) (afterPeriod (image c) p s) (after-next p h s a) w
 
   -- the machine, started fresh, shows after every list of periods what the clause means on it
   pub shows : (w : List Period) → Shows (meaning c w) (afterPeriods (image c) fresh w)
-  shows w = let h = history w in rw (h .is) at (after (h .latest-first) .shown)
+  shows = shows-on [] fresh at-start

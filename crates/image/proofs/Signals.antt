@@ -1,7 +1,7 @@
 -- The vocabulary of the layers above: signals, what it means that they obey rows, what a decision reports, and the equations between the signals
 -- of each kind's block.
 use Prim.Native.Nat.{ℕ, suc}
-use mathlib.Core.Bool.{Bool, true, false, not, _&&_, _||_}
+use mathlib.Core.Bool.{Bool, true, false, not, _&&_, _||_, cond}
 use mathlib.Core.List.{List, [], _∷_}
 use mathlib.Core.Path.{_≡_, refl}
 use Rattle.periods.specs.Periods.{Party, party1, party2, other, Period, tries}
@@ -79,11 +79,18 @@ reportOf undecided = nothing
 reportOf (satisfied k) = met
 reportOf (violated k b) = broken b
 
--- three values say that
+-- what a literal says by whether it begins to read now, and by the two parties' attempts
+abbrev pub literalReport : Literal → Party → (starts own others : Bool) → Report
+literalReport l q s t u = cond s (reportOf (literalDecision l q t u)) nothing
+
+-- three values say a report
 pub record Says (sat one two : Bool) (s : Report) : Type 0 where
-  pub met-is : sat ≡ isMet s
+  pub sat-is : sat ≡ isMet s
   pub one-is : one ≡ isBroken party1 s
   pub two-is : two ≡ isBroken party2 s
+
+pub exactly : (s : Report) → Says (isMet s) (isBroken party1 s) (isBroken party2 s) s
+exactly s = record { sat-is = refl; one-is = refl; two-is = refl }
 
 -- ---- the equations of each kind's block
 
@@ -136,8 +143,8 @@ pub data WiredExpression : Expression → (S K end live : Signal) → Type 0 whe
 -- the signals of a clause's block: begins to read, goes on; satisfied now, violated now with party 1, with party 2 to blame
 pub data WiredClause : Clause → (S K sat one two : Signal) → Type 0 where
   wired-literal : {l : Literal} {q : Party} {a : ℕ} {S K sat one two : Signal}
-      → ((p : Period) (h : List Period) → let s = reportOf (literalDecision l q (tries p q a) (tries p (other q) a)) in
-      (sat p h ≡ (S p h && isMet s)) × (one p h ≡ (S p h && isBroken party1 s)) × (two p h ≡ (S p h && isBroken party2 s)))
+      → ((p : Period) (h : List Period)
+      → Says (sat p h) (one p h) (two p h) (literalReport l q (S p h) (tries p q a) (tries p (other q) a)))
       → WiredClause (literal l q a) S K sat one two
   wired-both : {l r : Clause} {S K go done satL oneL twoL satR oneR twoR metL metR sat one two : Signal}
       → UntilDone done K go

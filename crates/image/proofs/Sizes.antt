@@ -74,9 +74,9 @@ length-clause (repeat c) b S K rest = rw (length-clause c) (omega arith)
 length-clause (when e c) b S K rest = rw (length-clause c, length-expression e) (omega arith)
 length-clause (until c e) b S K rest = rw (length-expression e, length-clause c) (omega arith)
 
-pub length-rows : (c : Clause) → length (rowsFor c) ≡ clauseSize c + fixedRows
+pub length-rowsFor : (c : Clause) → length (rowsFor c) ≡ clauseSize c + fixedRows
 unfolding rowsFor
-length-rows c = rw (length-clause c) (omega arith)
+length-rowsFor c = rw (length-clause c) (omega arith)
 
 -- no record has more rows than the widest
 size-max : (r : Record) → size r ≤ maxSize
@@ -100,7 +100,7 @@ clause-max (when e c) = omega (arith, expression-max e, clause-max c)
 clause-max (until c e) = omega (arith, clause-max c, expression-max e)
 
 pub rows-max : (c : Clause) → length (rowsFor c) ≤ maxRowsFor (records c)
-rows-max c = omega (arith, length-rows c, clause-max c)
+rows-max c = omega (arith, length-rowsFor c, clause-max c)
 
 -- no more than every image buffer has room for
 pub rows-allowed : (c : Clause) → length (rowsFor c) ≤ allowedRows (records c)

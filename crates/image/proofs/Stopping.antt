@@ -9,15 +9,15 @@ use mathlib.Core.Path.{_≡_, refl, sym}
 use borrow.Author.Tests.{lt-ltb, le-ltb}
 use lib.ListN.{length}
 use Rattle.records.proofs.Cases.{lt-or-le}
-use Rattle.periods.specs.Periods.{party1, party2, Period}
+use Rattle.periods.specs.Periods.{Period}
 use Rattle.contract.specs.Meaning.{Clause, Decision, undecided, satisfied, violated, meaning, EmptyFree}
 use Rattle.contract.specs.Verdicts.{decisionPeriod}
-use Rattle.image.proofs.Signals.{Signal, at, _≐_, Report, nothing, isMet, isBroken, Says, UntilDone}
-use Rattle.image.proofs.Threads.{thread, happens, unlessPast, cut, cut-off}
-use Rattle.image.proofs.Reports.{decidedAt, once-decided, said, saidBy, NotBefore, silent-past, decided-happens, Behaves}
-
-pub exactly : (s : Report) → Says (isMet s) (isBroken party1 s) (isBroken party2 s) s
-exactly s = record { met-is = refl; one-is = refl; two-is = refl }
+use Rattle.image.proofs.Signals.{Signal, at, _≐_, nothing, Says, exactly, UntilDone}
+use Rattle.image.proofs.Once.{happens}
+use Rattle.image.proofs.Threads.{thread, unlessPast, cut, cut-off}
+use Rattle.image.proofs.Reports.{decidedAt, saidBy, NotBefore, silent-past}
+use Rattle.image.proofs.Decisions.{once-decided, decided-happens}
+use Rattle.image.proofs.Behaviour.{Behaves}
 
 decided-at : (d : Decision) (k : ℕ) → decidedAt d ≡ some k → decisionPeriod d ≡ k
 decided-at undecided k e = cc
@@ -32,11 +32,10 @@ Unfinished c (some w) = NotBefore (length w) (decidedAt (meaning c w))
 -- on what is left of a list the clause is unfinished, and says what it says on the list
 cut-unfinished : (c : Clause) (t : Option (List Period))
     → (saidBy c (cut (λ w. decidedAt (meaning c w)) t) ≡ saidBy c t) × Unfinished c (cut (λ w. decidedAt (meaning c w)) t)
-unfolding said
 cut-unfinished c none = (refl, tt)
 cut-unfinished c (some w) = go (decidedAt (meaning c w)) refl
   where
-    go : (o : Option ℕ) → decidedAt (meaning c w) ≡ o → (saidBy c (unlessPast o w) ≡ said c w) × Unfinished c (unlessPast o w)
+    go : (o : Option ℕ) → decidedAt (meaning c w) ≡ o → (saidBy c (unlessPast o w) ≡ saidBy c (some w)) × Unfinished c (unlessPast o w)
     go none e = (refl, rw e tt)
     go (some k) e =
         ⊎-elim (λ l. rw (lt-ltb k (length w) l) (sym (silent-past (length w) (meaning c w) (omega (arith, decided-at (meaning c w) k e))), tt))
@@ -54,7 +53,7 @@ pub stops : {c : Clause} {S K go done sat one two : Signal} → EmptyFree c → 
     → Says (sat p h) (one p h) (two p h) (saidBy c (thread S go (p ∷ h))))
     → Behaves c S K sat one two
 stops {c} {S} {K} {go} {done} {sat} {one} {two} g u done-is right =
-    record { says = λ h. says-at h (cut-off (λ w. decidedAt (meaning c w)) (once-decided c g) S u done-at h) }
+    record { says = λ h. says-at h (cut-off (once-decided c g) S u done-at h) }
   where
     says-at : (h : List Period) → thread S go h ≡ cut (λ w. decidedAt (meaning c w)) (thread S K h)
         → Says (at sat h) (at one h) (at two h) (saidBy c (thread S K h))
@@ -66,4 +65,4 @@ stops {c} {S} {K} {go} {done} {sat} {one} {two} g u done-is right =
     done-at [] i = rw (nothing-read S K)
     done-at (p ∷ h) i =
         let s = says-at (p ∷ h) i in
-        rw (done-is p h, s .met-is, s .one-is, s .two-is) (decided-happens c (thread S K (p ∷ h)))
+        rw (done-is p h, s .sat-is, s .one-is, s .two-is) (decided-happens c (thread S K (p ∷ h)))

@@ -15,8 +15,9 @@ use Rattle.contract.specs.Expressions.{Expression, Holds, member, begins}
 use Rattle.contract.specs.Readings.{AcceptedAt, RejectedAt, Reading, pending, accepted, rejected, judged, first, readingTo, reading}
 use Rattle.contract.proofs.Expressions.{member-iff, begins-iff}
 use Rattle.contract.proofs.Readings.{accepted-iff, rejected-iff}
-use Rattle.image.proofs.Threads.{is, unlessPast}
-use Rattle.image.proofs.Reports.{acceptedAt}
+use Rattle.image.proofs.Once.{isAt}
+use Rattle.image.proofs.Threads.{unlessPast}
+use Rattle.image.proofs.Decisions.{acceptedAt}
 use Rattle.image.proofs.Expressions.{heldBy, beginsBy}
 
 abbrev pub isPending : Reading → Bool
@@ -32,7 +33,7 @@ pub data Tested (n : ℕ) : Reading → (held begins : Bool) → Type 0 where
   rejected-by-now : {k : ℕ} → k ≤ n → Tested n (rejected k) false false
 
 -- accepted now: the list is in the set
-pub accepted-now : {n : ℕ} {r : Reading} {m b : Bool} → Tested n r m b → m ≡ is (acceptedAt r) n
+pub accepted-now : {n : ℕ} {r : Reading} {m b : Bool} → Tested n r m b → m ≡ isAt (acceptedAt r) n
 accepted-now goes-on = refl
 accepted-now {n} accepted-last = sym (eq-eqb n n refl)
 accepted-now {n} (accepted-before {k} l) = sym (ne-eqb k n (λ i. omega arith))

@@ -1,21 +1,21 @@
 -- Which list of periods a block has read, by the signals that tell it when to read.
 -- A part that hands over to another leaves it the rest of the list (`handed-over`); a block that stops when it has decided has read the list
 -- as long as it is undecided (`cut-off`).
-use Prim.Native.Nat.{ℕ, suc, _≤_, _<_}
+use Prim.Native.Nat.{ℕ, suc}
 use native.Mathlib.Nat.{le-refl}
 use native.Mathlib.Omega.{arith}
 use mathlib.Core.Bool.{Bool, true, false, not, _&&_, cond, false≢true}
-use mathlib.Core.List.{List, [], _∷_, _++_}
-use mathlib.Core.Logic.{_↔_, _⊎_, ⊎-elim}
+use mathlib.Core.List.{List, [], _∷_, _++_, append-eq-nil-iff, cons-ne-nil}
+use mathlib.Core.Logic.{_↔_, _≢_, _⊎_, ⊎-elim}
 use mathlib.Core.Option.{Option, none, some, Option·none-ne-some, Option·some-injective}
 use mathlib.Core.Path.{_≡_, refl, sym, _∙_, subst}
 use borrow.Author.Tests.{lt-ltb, le-ltb, eq-eqb, ne-eqb}
-use lib.Dec.{eqb, ltb}
-use lib.ListN.{length, drop, length-append}
+use lib.Dec.{ltb}
+use lib.ListN.{length, drop}
 use lib.Seq.{drop-append-seam, drop-append-le}
-use Rattle.records.proofs.Cases.{lt-or-le}
 use Rattle.periods.specs.Periods.{Period}
 use Rattle.image.proofs.Signals.{Signal, at, UntilDone, HandsOver}
+use Rattle.image.proofs.Once.{Once, isAt, happens, length-snoc, Grown, waiting, happening, just, past, grown, first-period}
 
 -- ---- threads
 
@@ -24,7 +24,11 @@ pub data Active (S K : Signal) : (h w : List Period) → Type 0 where
   started : {p : Period} {h : List Period} → S p h ≡ true → Active S K (p ∷ h) (p ∷ [])
   kept : {p : Period} {h w : List Period} → K p h ≡ true → Active S K h w → Active S K (p ∷ h) (w ++ (p ∷ []))
 
--- never both
+pub not-empty : {S K : Signal} {h w : List Period} → Active S K h w → (h ≢ []) × (w ≢ [])
+not-empty (started {p = p} {h = h} s) = (cons-ne-nil p h, cons-ne-nil p [])
+not-empty (kept {p = p} {h = h} {w = w} k a) = (cons-ne-nil p h, λ z. cons-ne-nil p [] (append-eq-nil-iff {p = w} .0 z .1))
+
+-- never both true
 pub record Exclusive (S K : Signal) : Type 0 where
   pub never-both : (p : Period) (h : List Period) → (S p h && K p h) ≡ false
 
@@ -54,10 +58,14 @@ abbrev pub extend : Period → Option (List Period) → Option (List Period)
 extend p none = none
 extend p (some w) = some (w ++ (p ∷ []))
 
+-- what has been read with a period more, by whether reading begins with it and whether it goes on
+abbrev pub readNext : (starts goes : Bool) → Period → Option (List Period) → Option (List Period)
+readNext s k p t = cond s (some (p ∷ [])) (cond k (extend p t) none)
+
 -- what has been read up to now, where S and K are never both true
 unfoldable pub thread : (S K : Signal) → List Period → Option (List Period)
 thread S K [] = none
-thread S K (p ∷ h) = cond (S p h) (some (p ∷ [])) (cond (K p h) (extend p (thread S K h)) none)
+thread S K (p ∷ h) = readNext (S p h) (K p h) p (thread S K h)
 
 only-kept : (s k : Bool) → (s && k) ≡ false → k ≡ true → s ≡ false
 only-kept true k e f = absurd (false≢true (sym e ∙ f))
@@ -68,14 +76,14 @@ unfolding thread
 active-thread x (started s) = rw s
 active-thread {S} {K} x (kept {p = p} {h = h} k a) = rw (only-kept (S p h) (K p h) (x .never-both p h) k, k, active-thread x a)
 
-thread-is-active : (S K : Signal) (h w : List Period) → thread S K h ≡ some w → Active S K h w
+pub thread-is-active : (S K : Signal) (h w : List Period) → thread S K h ≡ some w → Active S K h w
 unfolding thread
 thread-is-active S K [] w e = absurd (Option·none-ne-some w e)
 thread-is-active S K (p ∷ h) w e = go (S p h) refl (K p h) refl (thread S K h) (thread-is-active S K h) e
   where
     go : (s : Bool) → S p h ≡ s → (k : Bool) → K p h ≡ k
         → (t : Option (List Period)) → ((v : List Period) → t ≡ some v → Active S K h v)
-        → cond s (some (p ∷ [])) (cond k (extend p t) none) ≡ some w → Active S K (p ∷ h) w
+        → readNext s k p t ≡ some w → Active S K (p ∷ h) w
     go true s k i t a e = subst (Active S K (p ∷ h)) (Option·some-injective (p ∷ []) w e) (started s)
     go false s false i t a e = absurd (Option·none-ne-some w e)
     go false s true i none a e = absurd (Option·none-ne-some w e)
@@ -84,31 +92,7 @@ thread-is-active S K (p ∷ h) w e = go (S p h) refl (K p h) refl (thread S K h)
 pub thread-active : (S K : Signal) → Exclusive S K → (h w : List Period) → Active S K h w ↔ (thread S K h ≡ some w)
 thread-active S K x h w = (active-thread x, thread-is-active S K h w)
 
--- ---- what happens at one period of a list
-
--- between period 1 and period n, or not at all
-abbrev pub Between : ℕ → Option ℕ → Type 0
-Between n none = Unit {0}
-Between n (some k) = (1 ≤ k) × (k ≤ n)
-
--- f is a period of the list at which something happens: none so far, or one that stays when the list grows
-pub record Once (f : List Period → Option ℕ) : Type 0 where
-  pub between : (w : List Period) → Between (length w) (f w)
-  pub stays : (w : List Period) (p : Period) (k : ℕ) → f w ≡ some k → f (w ++ (p ∷ [])) ≡ some k
-  pub only-now : (w : List Period) (p : Period) → f w ≡ none → (f (w ++ (p ∷ [])) ≡ none) ⊎ (f (w ++ (p ∷ [])) ≡ some (suc (length w)))
-
-abbrev pub is : Option ℕ → ℕ → Bool
-is none n = false
-is (some k) n = eqb k n
-
-abbrev pub isSome : Option ℕ → Bool
-isSome none = false
-isSome (some k) = true
-
--- it happens in the last period of what has been read
-abbrev pub happens : (List Period → Option ℕ) → Option (List Period) → Bool
-happens f none = false
-happens f (some w) = is (f w) (length w)
+-- ---- what is left of the list when something happens
 
 -- what is left of a list after period k, if anything is
 abbrev pub restAfter : Option ℕ → List Period → Option (List Period)
@@ -128,44 +112,12 @@ abbrev pub cut : (List Period → Option ℕ) → Option (List Period) → Optio
 cut f none = none
 cut f (some w) = unlessPast (f w) w
 
-pub length-snoc : (w : List Period) (p : Period) → length (w ++ (p ∷ [])) ≡ suc (length w)
-length-snoc w p = rw (length-append w (p ∷ [])) (omega arith)
-
--- before and after the period that follows n others: it has not happened, happens now, has just happened, or is past
-data Grown (n : ℕ) : (before after : Option ℕ) → Type 0 where
-  never : Grown n none none
-  now : Grown n none (some (suc n))
-  just : Grown n (some n) (some n)
-  past : {k : ℕ} → k < n → Grown n (some k) (some k)
-
-not-at-start : (r : Option ℕ) → Between 0 r → r ≡ none
-not-at-start none b = refl
-not-at-start (some k) b = absurd (omega arith)
-
-module _ (f : List Period → Option ℕ) (o : Once f) where
-  grown : (w : List Period) (p : Period) → Grown (length w) (f w) (f (w ++ (p ∷ [])))
-  grown w p = go (f w) refl (o .between w)
-    where
-      go : (r : Option ℕ) → f w ≡ r → Between (length w) r → Grown (length w) r (f (w ++ (p ∷ [])))
-      go none e b = ⊎-elim (λ i. rw i never) (λ i. rw i now) (o .only-now w p e)
-      go (some k) e b = rw (o .stays w p k e) (⊎-elim (λ l. past l) last (lt-or-le k (length w)))
-        where
-          last : length w ≤ k → Grown (length w) (some k) (some k)
-          last l = let same : length w ≡ k = omega arith in subst (λ (j : ℕ). Grown (length w) (some j) (some j)) same just
-
-  pub none-yet : f [] ≡ none
-  none-yet = not-at-start (f []) (o .between [])
-
-  -- nothing is past in the first period
-  pub first-period : (p : Period) → (f (p ∷ []) ≡ none) ⊎ (f (p ∷ []) ≡ some 1)
-  first-period p = o .only-now [] p none-yet
-
 -- with one period more, what is handed over, and what is not cut off
 grows : (w : List Period) (p : Period) (r r′ : Option ℕ) → Grown (length w) r r′
-    → (cond (is r (length w)) (some (p ∷ [])) (cond (not (is r (length w))) (extend p (restAfter r w)) none) ≡ restAfter r′ (w ++ (p ∷ [])))
-    × (cond (not (is r (length w))) (extend p (unlessPast r w)) none ≡ unlessPast r′ (w ++ (p ∷ [])))
-grows w p none none never = (refl, refl)
-grows w p none (some k) now = rw (length-snoc w p, le-ltb (suc (length w)) (suc (length w)) (le-refl (suc (length w)))) (refl, refl)
+    → (readNext (isAt r (length w)) (not (isAt r (length w))) p (restAfter r w) ≡ restAfter r′ (w ++ (p ∷ [])))
+    × (cond (not (isAt r (length w))) (extend p (unlessPast r w)) none ≡ unlessPast r′ (w ++ (p ∷ [])))
+grows w p none none waiting = (refl, refl)
+grows w p none (some k) happening = rw (length-snoc w p, le-ltb (suc (length w)) (suc (length w)) (le-refl (suc (length w)))) (refl, refl)
 grows w p (some j) (some k) just =
     rw (
       eq-eqb (length w) (length w) refl,
@@ -183,37 +135,35 @@ grows w p (some j) (some k) (past l) =
     ) (refl, refl)
 
 -- a part that starts in the period after `fired` reads the rest of the list from there on
-pub handed-over : (f : List Period → Option ℕ) → Once f → {fired S K start go : Signal} → Exclusive S K → HandsOver fired K start go
+pub handed-over : {f : List Period → Option ℕ} → Once f → {fired S K start go : Signal} → Exclusive S K → HandsOver fired K start go
     → ((h : List Period) → at fired h ≡ happens f (thread S K h))
     → (h : List Period) → thread start go h ≡ handed f (thread S K h)
 unfolding thread
-handed-over f o x w fires [] = refl
-handed-over f o {S = S} {K} x w fires (p ∷ h) =
-    rw (w .starts p h, w .goes p h, fires h, handed-over f o x w fires h) (step (S p h) (K p h) (x .never-both p h) (thread S K h))
+handed-over o x w fires [] = refl
+handed-over {f} o {S = S} {K} x w fires (p ∷ h) =
+    rw (w .starts p h, w .goes p h, fires h, handed-over o x w fires h) (step (S p h) (K p h) (x .never-both p h) (thread S K h))
   where
     step : (s k : Bool) → (s && k) ≡ false → (t : Option (List Period))
-        → cond (k && happens f t) (some (p ∷ [])) (cond (k && not (happens f t)) (extend p (handed f t)) none)
-        ≡ handed f (cond s (some (p ∷ [])) (cond k (extend p t) none))
+        → readNext (k && happens f t) (k && not (happens f t)) p (handed f t) ≡ handed f (readNext s k p t)
     step true true e t = absurd (false≢true (sym e))
-    step true false e t = ⊎-elim (λ i. rw i) (λ i. rw i) (first-period f o p)
+    step true false e t = ⊎-elim (λ i. rw i) (λ i. rw i) (first-period o p)
     step false false e t = refl
     step false true e none = refl
-    step false true e (some v) = grows v p (f v) (f (v ++ (p ∷ []))) (grown f o v p) .0
+    step false true e (some v) = grows v p (f v) (f (v ++ (p ∷ []))) (grown o v p) .0
 
 -- what stops in the period after `done` has read the list as long as nothing has happened before its last period
-pub cut-off : (f : List Period → Option ℕ) → Once f → {done K go : Signal} (S : Signal) → UntilDone done K go
+pub cut-off : {f : List Period → Option ℕ} → Once f → {done K go : Signal} (S : Signal) → UntilDone done K go
     → ((h : List Period) → thread S go h ≡ cut f (thread S K h) → at done h ≡ happens f (thread S K h))
     → (h : List Period) → thread S go h ≡ cut f (thread S K h)
 unfolding thread
-cut-off f o S w right [] = refl
-cut-off f o {K = K} S w right (p ∷ h) =
-    let earlier = cut-off f o S w right h in
+cut-off o S w right [] = refl
+cut-off {f} o {K = K} S w right (p ∷ h) =
+    let earlier = cut-off o S w right h in
     rw (w .goes p h, right h earlier, earlier) (step (S p h) (K p h) (thread S K h))
   where
     step : (s k : Bool) (t : Option (List Period))
-        → cond s (some (p ∷ [])) (cond (k && not (happens f t)) (extend p (cut f t)) none)
-        ≡ cut f (cond s (some (p ∷ [])) (cond k (extend p t) none))
-    step true k t = ⊎-elim (λ i. rw i) (λ i. rw i) (first-period f o p)
+        → readNext s (k && not (happens f t)) p (cut f t) ≡ cut f (readNext s k p t)
+    step true k t = ⊎-elim (λ i. rw i) (λ i. rw i) (first-period o p)
     step false false t = refl
     step false true none = refl
-    step false true (some v) = grows v p (f v) (f (v ++ (p ∷ []))) (grown f o v p) .1
+    step false true (some v) = grows v p (f v) (f (v ++ (p ∷ []))) (grown o v p) .1

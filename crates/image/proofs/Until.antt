@@ -14,13 +14,16 @@ use Rattle.periods.specs.Periods.{party1, party2, Period}
 use Rattle.contract.specs.Expressions.{Expression, member}
 use Rattle.contract.specs.Readings.{Reading, pending, accepted, rejected, reading}
 use Rattle.contract.specs.Meaning.{Clause, until, Decision, undecided, satisfied, violated, untilMeaning, meaning, EmptyFree}
-use Rattle.contract.proofs.Meaning.{Within, within}
-use Rattle.image.proofs.Signals.{Signal, at, _≐_, nothing, met, broken, isMet, isBroken, reportOf, Says, UntilDone}
-use Rattle.image.proofs.Threads.{isSome, thread, unlessPast}
-use Rattle.image.proofs.Reports.{decidedAt, acceptedAt, said, saidBy, NotBefore, timely, someone-blamed, Behaves}
+use Rattle.contract.proofs.Meaning.{Within, decision-within}
+use Rattle.image.proofs.Signals.{Signal, at, _≐_, nothing, met, broken, isMet, isBroken, reportOf, Says, exactly, UntilDone}
+use Rattle.image.proofs.Once.{isSome}
+use Rattle.image.proofs.Threads.{thread, unlessPast}
+use Rattle.image.proofs.Reports.{decidedAt, saidBy, NotBefore, timely, someone-blamed}
+use Rattle.image.proofs.Decisions.{acceptedAt}
+use Rattle.image.proofs.Behaviour.{Behaves}
 use Rattle.image.proofs.Expressions.{heldBy, ReadsAlone}
 use Rattle.image.proofs.Tested.{Tested, goes-on, accepted-last, accepted-before, rejected-by-now, tested}
-use Rattle.image.proofs.Stopping.{exactly, Unfinished, stops}
+use Rattle.image.proofs.Stopping.{Unfinished, stops}
 
 held-if-accepted : {n : ℕ} {r : Reading} {m b : Bool} → Tested n r m b → NotBefore n (acceptedAt r) → m ≡ isSome (acceptedAt r)
 held-if-accepted goes-on h = refl
@@ -38,8 +41,8 @@ held-accepted : (e : Expression) (w : List Period) → NotBefore (length w) (acc
 held-accepted e w h = rw (not-past (acceptedAt (reading e w)) w h) at (held-if-accepted (tested e w) h)
 
 -- of a decision in period j and an acceptance in period k, the one that counts is the earlier
-either : (n j k : ℕ) (d : Decision) → decidedAt d ≡ some j → NotBefore n (decidedAt (cond (leb j k) d (satisfied k))) → (n ≤ j) × (n ≤ k)
-either n j k d e h = go (lt-or-le k j)
+neither-before : (n j k : ℕ) (d : Decision) → decidedAt d ≡ some j → NotBefore n (decidedAt (cond (leb j k) d (satisfied k))) → (n ≤ j) × (n ≤ k)
+neither-before n j k d e h = go (lt-or-le k j)
   where
     go : (k < j) ⊎ (j ≤ k) → (n ≤ j) × (n ≤ k)
     go (inl l) = let i : n ≤ k = rw (lt-leb j k l) at h in omega arith
@@ -51,8 +54,8 @@ until-parts : (n : ℕ) (d : Decision) (r : Reading) → NotBefore n (decidedAt 
 until-parts n d pending h = (h, tt)
 until-parts n d (rejected k) h = (h, tt)
 until-parts n undecided (accepted k) h = (tt, h)
-until-parts n (satisfied j) (accepted k) h = either n j k (satisfied j) refl h
-until-parts n (violated j b) (accepted k) h = either n j k (violated j b) refl h
+until-parts n (satisfied j) (accepted k) h = neither-before n j k (satisfied j) refl h
+until-parts n (violated j b) (accepted k) h = neither-before n j k (violated j b) refl h
 
 until-report : (n : ℕ) (d : Decision) (r : Reading) → Within n d → NotBefore n (acceptedAt r)
     → Says (isMet (reportOf d) || (isSome (acceptedAt r) && not (isBroken party1 (reportOf d) || isBroken party2 (reportOf d))))
@@ -66,16 +69,16 @@ until-report n (violated j b) (accepted k) p h = rw (le-leb j k (omega arith), s
 until-said : (c : Clause) (e : Expression) → EmptyFree (until c e) → (v : Option (List Period)) → Unfinished (until c e) v
     → Says (isMet (saidBy c v) || (heldBy e v && not (isBroken party1 (saidBy c v) || isBroken party2 (saidBy c v))))
     (isBroken party1 (saidBy c v)) (isBroken party2 (saidBy c v)) (saidBy (until c e) v)
-unfolding said meaning EmptyFree
+unfolding meaning EmptyFree
 until-said c e g none u = exactly nothing
 until-said c e g (some w) u =
     let n = length w in
-    let p = within c (g .0) w in
+    let p = decision-within c (g .0) w in
     let o = until-parts n (meaning c w) (reading e w) u in
     rw (
       timely n (meaning c w) p (o .0),
       held-accepted e w (o .1),
-      timely n (untilMeaning (meaning c w) (reading e w)) (within (until c e) g w) u,
+      timely n (untilMeaning (meaning c w) (reading e w)) (decision-within (until c e) g w) u,
     ) (until-report n (meaning c w) (reading e w) p (o .1))
 
 pub behaves-until : {c : Clause} {e : Expression} {S K go done end live satC one two sat : Signal}
@@ -86,4 +89,4 @@ pub behaves-until : {c : Clause} {e : Expression} {S K go done end live satC one
 behaves-until {c} {e} {S} {go = go} g u reads b sat-is done-is =
     stops g u done-is λ p h o.
     let s = b .says (p ∷ h) in
-    rw (sat-is p h, reads .ends (p ∷ h), s .met-is, s .one-is, s .two-is) (until-said c e g (thread S go (p ∷ h)) o)
+    rw (sat-is p h, reads .ends (p ∷ h), s .sat-is, s .one-is, s .two-is) (until-said c e g (thread S go (p ∷ h)) o)

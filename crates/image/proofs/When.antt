@@ -2,7 +2,7 @@
 -- been read ceases to begin a list of its set.
 use Prim.Native.Nat.{ℕ, suc, _≤_, _<_}
 use native.Mathlib.Omega.{arith}
-use mathlib.Core.Bool.{Bool, true, false, not, _&&_, _||_, cond, and-false, or-comm, not-eq-not}
+use mathlib.Core.Bool.{Bool, true, false, not, _&&_, _||_, and-false, or-comm, not-eq-not}
 use mathlib.Core.List.{List, [], _∷_, _++_}
 use mathlib.Core.Logic.{_⊎_, inl, inr}
 use mathlib.Core.Option.{Option, none, some}
@@ -19,11 +19,14 @@ use Rattle.contract.specs.Meaning.{Clause, when, Decision, undecided, satisfied
 use Rattle.contract.proofs.Expressions.{member-iff, begins-iff, some-list}
 use Rattle.contract.proofs.Readings.{readingBy, reading-take}
 use Rattle.image.proofs.Signals.{Signal, at, _≐_, isMet, isBroken, Says, HandsOver}
-use Rattle.image.proofs.Threads.{Exclusive, until-fired, extend, thread, happens, length-snoc, cut, cut-off}
-use Rattle.image.proofs.Reports.{unbroken, acceptedAt, once-accepted, now, Behaves}
+use Rattle.image.proofs.Once.{happens, length-snoc}
+use Rattle.image.proofs.Threads.{Exclusive, until-fired, readNext, thread, cut, cut-off}
+use Rattle.image.proofs.Reports.{unbroken, now, nowBy}
+use Rattle.image.proofs.Decisions.{acceptedAt, once-accepted}
+use Rattle.image.proofs.Behaviour.{Behaves}
 use Rattle.image.proofs.Expressions.{heldBy, beginsBy, ReadsAlone}
 use Rattle.image.proofs.Tested.{isPending, Tested, goes-on, accepted-last, accepted-before, rejected-by-now, accepted-now, pending-now, tested}
-use Rattle.image.proofs.Handing.{Hands, keeps, passes, nowBy, handing}
+use Rattle.image.proofs.Handing.{Hands, keeps, passes, handing}
 
 -- what the expression of `when` decides for itself: it keeps its rejection, which satisfies the clause
 abbrev rejection : Reading → Decision
@@ -75,7 +78,7 @@ module _ (e : Expression) where
   pending-first g = rw (not-eq-not {b = false} .0 (λ m. g (member-iff e [] .0 m)), begins-iff e [] .1 (some-list e))
 
   -- by whether reading begins with the period, and whether it goes on
-  rejected-by : ¬ Holds e [] → (p : Period) (s k : Bool) (t : Option (List Period)) → let u = cond s (some (p ∷ [])) (cond k (extend p t) none) in
+  rejected-by : ¬ Holds e [] → (p : Period) (s k : Bool) (t : Option (List Period)) → let u = readNext s k p t in
       ((s || (k && pendingBy t)) && not (beginsBy e (cut acceptance u))) ≡ rejectedBy u
   rejected-by g p true k t = rw (pending-first g) at (rejected-next [] p)
   rejected-by g p false true none = refl
@@ -91,7 +94,7 @@ module _ (e : Expression) (guarded : ¬ Holds e []) {S K start go end live : Sig
 
   -- the expression reads until it is accepted
   reads-until : (h : List Period) → thread S go h ≡ cut (acceptance e) (thread S K h)
-  reads-until h = cut-off (acceptance e) (once-accepted e guarded) S (until-fired w) ends-accepted h
+  reads-until h = cut-off (once-accepted e guarded) S (until-fired w) ends-accepted h
 
   module _ {reads : Signal} (reads-is : reads ≐ λ p h. S p h || (go p h && at live h)) where
     reads-pending : (p : Period) (h : List Period) → reads p h ≡ (S p h || (K p h && pendingBy e (thread S K h)))
@@ -126,8 +129,8 @@ hands-when (rejected k) second = keeps
 
 says-rejection : (e : Expression) (t : Option (List Period)) {x : Bool} → x ≡ rejectedBy e t
     → Says x false false (nowBy (λ w. rejection (reading e w)) t)
-says-rejection e none h = record { met-is = h; one-is = refl; two-is = refl }
-says-rejection e (some w) h = record { met-is = h; one-is = never party1 (reading e w); two-is = never party2 (reading e w) }
+says-rejection e none h = record { sat-is = h; one-is = refl; two-is = refl }
+says-rejection e (some w) h = record { sat-is = h; one-is = never party1 (reading e w); two-is = never party2 (reading e w) }
   where
     never : (q : Party) (r : Reading) → false ≡ isBroken q (now (length w) (rejection r))
     never q pending = refl
@@ -141,7 +144,7 @@ pub behaves-when : {e : Expression} {c : Clause} {S K start go end live reads sa
 unfolding EmptyFree meaning
 behaves-when {e} {c} {S} {K} {end = end} {live} {reads} {satC} {sat = sat} g x reader w right reads-is sat-is = record {
   says = λ h. rw (sat-at h)
-      (handing (acceptance e) (once-accepted e (g .0)) (λ v. rejection (reading e v)) (when e c) c (g .1)
+      (handing (once-accepted e (g .0)) (λ v. rejection (reading e v)) (when e c) c (g .1)
       (λ v. hands-when (reading e v) (after (meaning c) v))
       x w (λ i. ends-accepted e (g .0) w reader i (reads-until e (g .0) w reader i)) right h
       (says-rejection e (thread S K h) (rejects e (g .0) w reader reads-is h)));

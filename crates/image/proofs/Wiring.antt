@@ -7,10 +7,10 @@ use Rattle.periods.specs.Periods
 use Rattle.periods.specs.Periods.{Party, party1, party2, other, Period}
 use Rattle.layout.specs.Rows.{Row}
 use Rattle.contract.specs.Expressions.{Atom, any, tries, idle, succeeds, fails, holds, Expression, atom, seq, or, star, holdsEmpty}
-use Rattle.contract.specs.Meaning.{Literal, duty, ban, power, Clause, literal, both, then, repair, repeat, when, until, only, Decision, satisfied, violated, literalDecision}
+use Rattle.contract.specs.Meaning.{Literal, duty, ban, power, Clause, literal, both, then, repair, repeat, when, until, only}
 use Rattle.image.specs.Widths.{neverRow, _⊹_, afterExpression, afterClause}
 use Rattle.image.specs.Blocks.{untilDone, handOver, joinOn, remember, endRow, liveRow, ifEmpty, expressionRows, blaming, outputsOf, clauseRows}
-use Rattle.image.proofs.Signals.{Signal, _≐_, Obeys, isMet, isBroken, reportOf, UntilDone, HandsOver, JoinsOn, Remembers, whereEmpty, WiredExpression, wired-atom, wired-seq, wired-or, wired-star, WiredClause, wired-literal, wired-both, wired-then, wired-repair, wired-repeat, wired-when, wired-until}
+use Rattle.image.proofs.Signals.{Signal, _≐_, Obeys, Report, isMet, isBroken, literalReport, UntilDone, HandsOver, JoinsOn, Remembers, whereEmpty, WiredExpression, wired-atom, wired-seq, wired-or, wired-star, WiredClause, wired-literal, wired-both, wired-then, wired-repair, wired-repeat, wired-when, wired-until}
 
 -- that signals obey rows, as a type that shows the rows: each law below reads its own rows there and hands the rest on
 record GivesRows (v : ℕ → Signal) (b : ℕ) (rows : List Row) : Type 0 where
@@ -42,52 +42,53 @@ module _ {v : ℕ → Signal} {b : ℕ} {rest : List Row} {G : Type 0} where
 
 -- ---- literals
 
--- three values tell what the decision of a literal of party q says, where s is true: one blames q, one the other party
-record TellsOf (q : Party) (d : Decision) (s sat own others : Bool) : Type 0 where
-  met-is : sat ≡ (s && isMet (reportOf d))
-  own-is : own ≡ (s && isBroken q (reportOf d))
-  others-is : others ≡ (s && isBroken (other q) (reportOf d))
+-- three values say a report of a literal of party q: one blames q, one the other party
+record LiteralSays (q : Party) (s : Report) (sat own others : Bool) : Type 0 where
+  sat-is : sat ≡ isMet s
+  own-is : own ≡ isBroken q s
+  others-is : others ≡ isBroken (other q) s
 
--- it says nothing while S is false, and otherwise one of three things
-untold : {q : Party} {d : Decision} → TellsOf q d false false false false
-untold = record { met-is = refl; own-is = refl; others-is = refl }
+says-nothing : {q : Party} → LiteralSays q Report.nothing false false false
+says-nothing = record { sat-is = refl; own-is = refl; others-is = refl }
 
-met : {q : Party} {k : ℕ} → TellsOf q (satisfied k) true true false false
-met = record { met-is = refl; own-is = refl; others-is = refl }
+says-met : {q : Party} → LiteralSays q Report.met true false false
+says-met = record { sat-is = refl; own-is = refl; others-is = refl }
 
-blames-own : (q : Party) {k : ℕ} → TellsOf q (violated k (only q)) true false true false
-blames-own party1 = record { met-is = refl; own-is = refl; others-is = refl }
-blames-own party2 = record { met-is = refl; own-is = refl; others-is = refl }
+blames-own : (q : Party) → LiteralSays q (Report.broken (only q)) false true false
+blames-own party1 = record { sat-is = refl; own-is = refl; others-is = refl }
+blames-own party2 = record { sat-is = refl; own-is = refl; others-is = refl }
 
-blames-other : (q : Party) {k : ℕ} → TellsOf q (violated k (only (other q))) true false false true
-blames-other party1 = record { met-is = refl; own-is = refl; others-is = refl }
-blames-other party2 = record { met-is = refl; own-is = refl; others-is = refl }
+blames-other : (q : Party) → LiteralSays q (Report.broken (only (other q))) false false true
+blames-other party1 = record { sat-is = refl; own-is = refl; others-is = refl }
+blames-other party2 = record { sat-is = refl; own-is = refl; others-is = refl }
 
 -- what the rows of each kind compute from S and the two attempts
-duty-tells : (q : Party) (s t u : Bool) → TellsOf q (literalDecision duty q t u) s (s && t && u) (s && not t) (s && t && not u)
-duty-tells q false t u = untold
-duty-tells q true false u = blames-own q
-duty-tells q true true false = blames-other q
-duty-tells q true true true = met
+duty-says : (q : Party) (s t u : Bool) → LiteralSays q (literalReport duty q s t u) (s && t && u) (s && not t) (s && t && not u)
+duty-says q false t u = says-nothing
+duty-says q true false u = blames-own q
+duty-says q true true false = blames-other q
+duty-says q true true true = says-met
 
-ban-tells : (q : Party) (s t u : Bool) → TellsOf q (literalDecision ban q t u) s (s && not (s && t && u)) (s && t && u) false
-ban-tells q false t u = untold
-ban-tells q true false u = met
-ban-tells q true true false = met
-ban-tells q true true true = blames-own q
+ban-says : (q : Party) (s t u : Bool) → LiteralSays q (literalReport ban q s t u) (s && not (s && t && u)) (s && t && u) false
+ban-says q false t u = says-nothing
+ban-says q true false u = says-met
+ban-says q true true false = says-met
+ban-says q true true true = blames-own q
 
-power-tells : (q : Party) (s t u : Bool) → TellsOf q (literalDecision power q t u) s (s && not (s && t && not u)) false (s && t && not u)
-power-tells q false t u = untold
-power-tells q true false u = met
-power-tells q true true false = blames-other q
-power-tells q true true true = met
+power-says : (q : Party) (s t u : Bool) → LiteralSays q (literalReport power q s t u) (s && not (s && t && not u)) false (s && t && not u)
+power-says q false t u = says-nothing
+power-says q true false u = says-met
+power-says q true true false = blames-other q
+power-says q true true true = says-met
 
 wire-literal : (v : ℕ → Signal) (l : Literal) (q : Party) (a S K sat own others : ℕ)
     → ((p : Period) (h : List Period)
-    → TellsOf q (literalDecision l q (Periods.tries p q a) (Periods.tries p (other q) a)) (v S p h) (v sat p h) (v own p h) (v others p h))
+    → LiteralSays q (literalReport l q (v S p h) (Periods.tries p q a) (Periods.tries p (other q) a)) (v sat p h) (v own p h) (v others p h))
     → let out = blaming q sat own others in WiredClause (literal l q a) (v S) (v K) (v (out .sat)) (v (out .one)) (v (out .two))
-wire-literal v l party1 a S K sat own others t = wired-literal λ p h. (t p h .met-is, t p h .own-is, t p h .others-is)
-wire-literal v l party2 a S K sat own others t = wired-literal λ p h. (t p h .met-is, t p h .others-is, t p h .own-is)
+wire-literal v l party1 a S K sat own others t =
+    wired-literal λ p h. record { sat-is = t p h .sat-is; one-is = t p h .own-is; two-is = t p h .others-is }
+wire-literal v l party2 a S K sat own others t =
+    wired-literal λ p h. record { sat-is = t p h .sat-is; one-is = t p h .others-is; two-is = t p h .own-is }
 
 module _ (v : ℕ → Signal) (never-is : v neverRow ≐ λ p h. false) where
   -- ---- expressions
@@ -145,20 +146,20 @@ module _ (v : ℕ → Signal) (never-is : v neverRow ≐ λ p h. false) where
       → (WiredClause c (v S) (v K) (v (outputsOf c b .sat)) (v (outputsOf c b .one)) (v (outputsOf c b .two)) → GivesRows v (afterClause c b) rest → G)
       → G
   unfolding clauseRows afterClause outputsOf
-  wire-clause (literal duty q a) o k =
+  wire-clause (literal duty q a) {S = S} o k =
       let (tryOwn, (tryOther, (asked, (sat, (notOwn, (own, (notOther, (others, o′)))))))) = o .signals in
       k (wire-literal v duty q a _ _ _ _ _ λ p h.
-      rw (sat p h, own p h, others p h, asked p h, notOwn p h, notOther p h, tryOwn p h, tryOther p h) (duty-tells q _ _ _))
+      rw (sat p h, own p h, others p h, asked p h, notOwn p h, notOther p h, tryOwn p h, tryOther p h) (duty-says q (v S p h) _ _))
       (record { signals = o′ })
-  wire-clause (literal ban q a) o k =
+  wire-clause (literal ban q a) {S = S} o k =
       let (tryOwn, (tryOther, (asked, (own, (clear, (sat, o′)))))) = o .signals in
       k (wire-literal v ban q a _ _ _ _ _ λ p h.
-      rw (sat p h, clear p h, own p h, asked p h, tryOwn p h, tryOther p h, never-is p h) (ban-tells q _ _ _))
+      rw (sat p h, clear p h, own p h, asked p h, tryOwn p h, tryOther p h, never-is p h) (ban-says q (v S p h) _ _))
       (record { signals = o′ })
-  wire-clause (literal power q a) o k =
+  wire-clause (literal power q a) {S = S} o k =
       let (tryOwn, (tryOther, (asked, (notOther, (others, (clear, (sat, o′))))))) = o .signals in
       k (wire-literal v power q a _ _ _ _ _ λ p h.
-      rw (sat p h, clear p h, others p h, asked p h, notOther p h, tryOwn p h, tryOther p h, never-is p h) (power-tells q _ _ _))
+      rw (sat p h, clear p h, others p h, asked p h, notOther p h, tryOwn p h, tryOther p h, never-is p h) (power-says q (v S p h) _ _))
       (record { signals = o′ })
   wire-clause (both l r) o k =
       until-done o λ stops o₁.

@@ -25,7 +25,7 @@ use Rattle.runner.specs.Calls.{beginReplyBytes, stepReplyBytes, begin, step}
 use Rattle.runner.specs.StepCalls.{StepCall, stateAfterCall}
 use Rattle.contract.specs.Meaning.{Clause, only, bothParties, Decision, undecided, satisfied, violated, meaning}
 use Rattle.contract.specs.Verdicts.{decisionPeriod, blame, verdict}
-use Rattle.contract.proofs.Meaning.{within, within-period}
+use Rattle.contract.proofs.Meaning.{decision-within, within-period}
 use Rattle.reader.specs.Reader.{taken, read}
 use Rattle.reader.proofs.Reader.{taken-spells}
 use Rattle.image.specs.Monitors.{callTest, accepts, periodsAfter, meantAnswer, AnswersCalls, Monitors}
@@ -121,7 +121,7 @@ module _ (c : Clause) (image state trace : List ℕ) (k : ℕ) (later : List ℕ
       g .decision-is
       ∙ rw reply-meant
       (field-back (four 0 ∷ four seen ∷ eight 0 ∷ four (blame decided) ∷ []) (four (decisionPeriod decided)) [] (replicate stepReplyBytes 0) (omega arith)
-      (omega (arith, within-period (length next) decided (within c (f .free) next))))
+      (omega (arith, within-period (length next) decided (decision-within c (f .free) next))))
 
 -- ---- the loop over the periods
 
@@ -135,7 +135,7 @@ module _ (c : Clause) (image trace text₀ state : List ℕ) where
   pub held-first : Follows c image state [] → Held c image trace text₀ 0 state text₀ 0 0
   unfolding periodsOf periodLines
   held-first f =
-      let z : decisionPeriod (meaning c []) ≤ 0 = within-period 0 (meaning c []) (within c (f .free) []) in
+      let z : decisionPeriod (meaning c []) ≤ 0 = within-period 0 (meaning c []) (decision-within c (f .free) []) in
       record { follows = f; puts = record { text-is = refl; end-is = refl; fits = omega arith }; decides = omega arith }
 
   -- one period more
@@ -195,7 +195,7 @@ module _ {image state₀ trace text₀ : List ℕ} {n : ℕ} (a : MayList image 
         let q = h (a .clause) (a .follows) in
         let w = periodsOf trace k in
         let e : length w ≡ k = length-periodsOf trace k in
-        omega (arith, q .decides, a .few, within-period (length w) (meaning (a .clause) w) (within (a .clause) (q .follows .free) w))
+        omega (arith, q .decides, a .few, within-period (length w) (meaning (a .clause) w) (decision-within (a .clause) (q .follows .free) w))
 
     -- there is room for the last line
     pub last-room : k ≤ n → at ≤ lineBytes * k → length text ≡ length text₀ → at + length (decidedLine decision) ≤ length text
