@@ -23,8 +23,7 @@ use Rattle.layout.proofs.Images.{GoodImage, passed-good}
 use Rattle.contract.specs.Meaning.{Clause}
 use Rattle.reader.specs.Limits.{maxRecords}
 use Rattle.reader.specs.Reader.{taken, read, contractRecords, readTest}
-use Rattle.reader.proofs.Places.{readFaults, read-only}
-use Rattle.reader.proofs.Answers.{test-passed}
+use Rattle.reader.proofs.Answers.{test-passed, readFaults, read-only}
 use Rattle.image.specs.Limits.{bufferBytes}
 use Rattle.image.specs.Images.{imageFor}
 use Rattle.image.proofs.Images.{right-for, sized-for}
