@@ -1,15 +1,16 @@
 -- The table by its numbers: each kind is the kind of its own number, which numbers are a kind's, and what the program's table has at each.
 use Prim.Native.Nat.{ℕ, zero, suc, _+_, _-_, _≤_, _<_}
 use native.Mathlib.Omega.{arith}
-use mathlib.Core.Path.{_≡_, refl, subst}
+use mathlib.Core.Path.{_≡_, refl, sym, ap, _∙_, subst}
 use mathlib.Core.Logic.{⊎-elim}
 use mathlib.Core.Bool.{Bool, true, false, _&&_, not, cond, and-eq-true-iff, false≢true}
 use mathlib.Core.List.{List, [], _∷_, map}
 use mathlib.Core.Option.{Option, none, some}
 use lib.Dec.{eqb, ltb, leb}
-use lib.ListN.{length, getD}
+use lib.ListN.{length, getD, List·getD-map}
 use borrow.Author.Tests.{eqb-true, lt-ltb, le-leb}
 use Rattle.records.proofs.Cases.{lt-or-le}
+use Rattle.reader.specs.declared.Entry.{Entry}
 use Rattle.reader.specs.declared.Lookup.the-variants.{Found, Unknown}
 use Rattle.reader.specs.Table.{Kind, kinds, numbered, kindOf, line, duty, ban, power, both, then, repair, repeat, when, until, any, tries, idle, succeeds, fails, seq, or, star}
 use Rattle.reader.specs.Trees.{Fields, Record}
@@ -145,36 +146,22 @@ table-at f d i h = go kinds i h
     go (K ∷ Ks) zero h = refl
     go (K ∷ Ks) (suc i) h = go Ks i (omega arith)
 
--- the program's table
--- each line is packedLine and unpackedLine again
-unpacked-line : (k : Kind) → unpackedLine (packedLine (entryOf k)) ≡ entryOf k
-unpacked-line duty = refl
-unpacked-line ban = refl
-unpacked-line power = refl
-unpacked-line both = refl
-unpacked-line then = refl
-unpacked-line repair = refl
-unpacked-line repeat = refl
-unpacked-line when = refl
-unpacked-line until = refl
-unpacked-line any = refl
-unpacked-line tries = refl
-unpacked-line idle = refl
-unpacked-line succeeds = refl
-unpacked-line fails = refl
-unpacked-line seq = refl
-unpacked-line or = refl
-unpacked-line star = refl
-
+-- the program's table, a number for each kind, which unpacked is the kind's entry
 abbrev pub lines : List ℕ
 lines = map (λ (k : Kind). packedLine (entryOf k)) kinds
 
-module _ (d : ℕ) where
-  pub known-clause : (n : ℕ) → OfClause n → lookupOf (kindOf n) ≡ Found (unpackedLine (getD lines (clausePlace n) d))
-  known-clause n h = rw (clause-kind n h, table-at (λ (k : Kind). packedLine (entryOf k)) d (clausePlace n) (omega arith), unpacked-line)
+unpacked-lines : map unpackedLine lines ≡ map entryOf kinds
+unpacked-lines = refl
 
-  pub known-expression : (n : ℕ) → OfExpression n → lookupOf (kindOf n) ≡ Found (unpackedLine (getD lines (expressionPlace n) d))
-  known-expression n h = rw (expression-kind n h, table-at (λ (k : Kind). packedLine (entryOf k)) d (expressionPlace n) (omega arith), unpacked-line)
+line-at : (d i : ℕ) → i < length kinds → unpackedLine (getD lines i d) ≡ entryOf (getD kinds i duty)
+line-at d i h =
+    sym (List·getD-map unpackedLine lines i d) ∙ ap (λ (es : List Entry). getD es i (unpackedLine d)) unpacked-lines ∙ table-at entryOf (unpackedLine d) i h
+
+pub known-clause : (d n : ℕ) → OfClause n → lookupOf (kindOf n) ≡ Found (unpackedLine (getD lines (clausePlace n) d))
+known-clause d n h = rw (clause-kind n h, line-at d (clausePlace n) (omega arith))
+
+pub known-expression : (d n : ℕ) → OfExpression n → lookupOf (kindOf n) ≡ Found (unpackedLine (getD lines (expressionPlace n) d))
+known-expression d n h = rw (expression-kind n h, line-at d (expressionPlace n) (omega arith))
 
 pub unknown : (n : ℕ) → ¬ OfClause n → ¬ OfExpression n → lookupOf (kindOf n) ≡ Unknown
 unknown n no-clause no-expression = rw (no-kind n no-clause no-expression)
