@@ -7,5 +7,4 @@ pub mod Reader
 pub mod Places
 pub mod Answers
 pub mod Codes
-pub mod Tests
 pub mod Stack

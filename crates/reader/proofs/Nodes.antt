@@ -23,7 +23,7 @@ use Rattle.reader.specs.Limits.{recordBytes}
 use Rattle.reader.specs.Table.{Sort, clause, expression, Kind, duty, ban, power, both, then, repair, repeat, when, until, any, tries, idle, succeeds, fails, seq, or, star, kindOf, line}
 use Rattle.reader.specs.Trees.{Tree, Trees, Fields, goodFields, node}
 use Rattle.reader.specs.Spelling.{spellRecord, Allowed, ExpressionInRange, InRange}
-use Rattle.reader.specs.Reader.{Result, refused, taken, next, provided, demand, fieldsIn, Operand, operand, Operands, oneMore, operandsOf, holdsEmptyUnder, push, readRecord}
+use Rattle.reader.specs.Reader.{Result, refused, taken, next, provided, demand, kindAt, fieldsAt, Operand, operand, Operands, oneMore, operandsOf, holdsEmptyUnder, push, readRecord}
 use Rattle.reader.proofs.Table.{kind-number, number-kind}
 use Rattle.reader.proofs.Fields.{recordOf, used-same}
 use Rattle.reader.proofs.Spelling.{All}
@@ -134,12 +134,12 @@ pub record Completed (st : List Operand) (l : List ℕ) (st′ : List Operand) :
   pub after : st′ ≡ operand (line kind .completes) (node kind fields trees) ∷ rest
   pub not-empty : holdsEmptyUnder (line kind .completes) (node kind fields trees) ≡ false
 
-front-bytes : (l : List ℕ) (kind : Kind) → recordBytes ≤ length l → marked l 0 contractMark ≡ true → kindOf (getD l 2 0) ≡ some kind
-    → take recordBytes l ≡ spellRecord record { kind = kind; fields = fieldsIn l }
+front-bytes : (l : List ℕ) (kind : Kind) → recordBytes ≤ length l → marked l 0 contractMark ≡ true → kindOf (kindAt l 0) ≡ some kind
+    → take recordBytes l ≡ spellRecord record { kind = kind; fields = fieldsAt l 0 }
 unfolding spellRecord
 front-bytes l kind n m j =
     let at : (i : ℕ) → i < recordBytes → drop i l ≡ getD l i 0 ∷ drop (suc i) l = λ i b. drop-cons l i 0 (omega arith) in
-    rw (take-add 2 4 l, of-marked l 0 _ _ (omega arith) m, at 2 (lit< tt), at 3 (lit< tt), at 4 (lit< tt), at 5 (lit< tt), number-kind (getD l 2 0) kind j)
+    rw (take-add 2 4 l, of-marked l 0 _ _ (omega arith) m, at 2 (lit< tt), at 3 (lit< tt), at 4 (lit< tt), at 5 (lit< tt), number-kind (kindAt l 0) kind j)
 
 pub refused-taken : {A : Type 0} {f : Fault} {k : ℕ} {x : A} → refused f k ≡ taken x → ⊥
 refused-taken h = let z : _≡_ {A = ℕ} 0 1 = cc in omega arith
@@ -165,14 +165,14 @@ pub completed : (k : ℕ) (st : List Operand) (l : List ℕ) (st′ : List Opera
 unfolding readRecord
 completed k st l st′ n h =
     required (marked l 0 contractMark) BadMark k h λ m h₂.
-    demanded (kindOf (getD l 2 0)) UnknownKind k h₂ λ kind j h₃.
-    required (goodFields (line kind) (fieldsIn l)) BadField k h₃ λ b h₄.
+    demanded (kindOf (kindAt l 0)) UnknownKind k h₂ λ kind j h₃.
+    required (goodFields (line kind) (fieldsAt l 0)) BadField k h₃ λ b h₄.
     demanded (operandsOf (line kind .operands) st) BadOperands k h₄ λ os o h₅.
-    required (not (holdsEmptyUnder (line kind .completes) (node kind (fieldsIn l) (os .trees)))) EmptyList k h₅ λ e h₆.
-    let u = used-same kind (fieldsIn l) b in
+    required (not (holdsEmptyUnder (line kind .completes) (node kind (fieldsAt l 0) (os .trees)))) EmptyList k h₅ λ e h₆.
+    let u = used-same kind (fieldsAt l 0) b in
     record {
       kind = kind;
-      fields = fieldsIn l;
+      fields = fieldsAt l 0;
       trees = os .trees;
       rest = os .rest;
       bytes = front-bytes l kind n m j ∙ ap (λ (f : Fields). spellRecord record { kind = kind; fields = f }) (sym u);

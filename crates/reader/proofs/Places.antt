@@ -2,24 +2,22 @@
 use Prim.Native.Nat.{ℕ, zero, suc, _+_, _*_, _-_, _≤_, _<_}
 use native.Mathlib.Nat.{le-of-suc-le-suc, not-suc-le-zero, le-refl}
 use native.Mathlib.Omega.{arith}
-use mathlib.Core.Bool.{Bool, true, false, not, or-true, false≢true}
+use mathlib.Core.Bool.{Bool, true, false, not, false≢true}
 use mathlib.Core.List.{List, [], _∷_}
 use mathlib.Core.Option.{Option, none, some}
 use mathlib.Core.Path.{_≡_, refl, sym, _∙_}
-use lib.Dec.{eqb, lit<}
+use lib.Dec.{lit<}
 use lib.ListN.{length, take, drop, getD}
 use lib.Seq.{getD-take, length-take-le}
 use Rattle.records.specs.Marks.{contractMark, marked}
 use Rattle.records.proofs.Written.{drop-take}
-use Rattle.records.proofs.Refusals.{onlyFor}
 use Rattle.records.specs.declared.Fault.{Fault}
-use Rattle.records.specs.Refusals.{faultNumber, require, among}
+use Rattle.records.specs.Refusals.{require, among}
 use Rattle.records.specs.declared.Fault.the-variants.{BadLength, BadMark, UnknownKind, BadField, BadOperands, NotOneClause, EmptyList}
-use Rattle.contract.specs.Meaning.{Clause}
 use Rattle.reader.specs.Limits.{maxRecords, recordBytes}
 use Rattle.reader.specs.Table.{clause, expression, kindOf, line}
 use Rattle.reader.specs.Trees.{goodFields, node}
-use Rattle.reader.specs.Reader.{Result, refused, taken, next, provided, demand, fieldsIn, Operand, operand, operandsOf, holdsEmptyUnder, readRecord, readRecords, justOne, contractRecords, goodContractLength, read, recordFaults, testOf, readTest, Faultless, FirstFault}
+use Rattle.reader.specs.Reader.{Result, refused, taken, next, provided, demand, kindAt, fieldsAt, Operand, operand, operandsOf, holdsEmptyUnder, readRecord, readRecords, justOne, contractRecords, goodContractLength, read, recordFaults, Faultless, FirstFault}
 use Rattle.reader.proofs.Nodes.{refused-taken, followed}
 use Rattle.reader.proofs.Reader.{WholeRecords, good-length}
 
@@ -42,10 +40,10 @@ record-at : (k : ℕ) (st : List Operand) (l : List ℕ) → AtRecord k (readRec
 unfolding readRecord
 record-at k st l =
     require-at (marked l 0 contractMark) BadMark k _ refl
-    (demand-at (kindOf (getD l 2 0)) UnknownKind k _ refl
-    (λ kind. require-at (goodFields (line kind) (fieldsIn l)) BadField k _ refl
+    (demand-at (kindOf (kindAt l 0)) UnknownKind k _ refl
+    (λ kind. require-at (goodFields (line kind) (fieldsAt l 0)) BadField k _ refl
     (demand-at (operandsOf (line kind .operands) st) BadOperands k _ refl
-    (λ os. require-at (not (holdsEmptyUnder (line kind .completes) (node kind (fieldsIn l) (os .trees)))) EmptyList k _ refl tt))))
+    (λ os. require-at (not (holdsEmptyUnder (line kind .completes) (node kind (fieldsAt l 0) (os .trees)))) EmptyList k _ refl tt))))
 
 -- ---- the first record that is refused
 

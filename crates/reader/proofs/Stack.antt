@@ -20,7 +20,7 @@ use Rattle.reader.specs.Limits.{maxRecords, recordBytes}
 use Rattle.reader.specs.Table.{clause}
 use Rattle.reader.specs.Reader.{Operand, refused, taken, next, readRecord, readRecords, justOne, testOf}
 use Rattle.reader.specs.Codes.{sortNumber, codeOf, codeAt, stepOf}
-use Rattle.reader.proofs.Codes.{Pushed, step-bad, step-completed, just-one, not-one, not-clause}
+use Rattle.reader.proofs.Codes.{Pushed, step-drop, step-bad, step-completed, just-one, not-one, not-clause}
 
 -- after k of n records
 pub record Read (l : List ℕ) (n : ℕ) (stack : List ℕ) (top k : ℕ) : Type 0 where
@@ -74,16 +74,16 @@ module _ {l : List ℕ} {n : ℕ} {stack : List ℕ} {top k : ℕ} (r : Read l n
         rw e
 
     -- the two codes on top are those of the two operands on top
-    step : {s : Step} → stepOf here (getD stack (top + 1) 0) (getD stack top 0) ≡ s
-        → stepOf here (codeAt (r .operands) 1) (codeAt (r .operands) 0) ≡ s
-    step e = rw (← code-at 1, ← code-at 0, add-zero) e
+    step : {s : Step} → stepOf l (recordBytes * k) (getD stack (top + 1) 0) (getD stack top 0) ≡ s
+        → stepOf here 0 (codeAt (r .operands) 1) (codeAt (r .operands) 0) ≡ s
+    step e = rw (← code-at 1, ← code-at 0, add-zero, ← step-drop) e
 
-    pub read-bad : (f : Fault) → stepOf here (getD stack (top + 1) 0) (getD stack top 0) ≡ Bad f → readRecords 0 n [] l ≡ refused f k
+    pub read-bad : (f : Fault) → stepOf l (recordBytes * k) (getD stack (top + 1) 0) (getD stack top 0) ≡ Bad f → readRecords 0 n [] l ≡ refused f k
     read-bad f e =
         let bad : readRecord k (r .operands) here ≡ refused f k = step-bad k (r .operands) here f (step e) in
         sym (r .same) ∙ unrolled ∙ ap (λ x. next x (λ st. readRecords (suc k) (n - suc k) st (drop recordBytes here))) bad
 
-    pub read-pushed : (m c : ℕ) → stepOf here (getD stack (top + 1) 0) (getD stack top 0) ≡ Completed m c
+    pub read-pushed : (m c : ℕ) → stepOf l (recordBytes * k) (getD stack (top + 1) 0) (getD stack top 0) ≡ Completed m c
         → (1 ≤ top + m) × (top + m ≤ maxRecords) × Read l n (set stack (top + m - 1) c) (top + m - 1) (k + 1)
     read-pushed m c e =
         let p : Pushed k (r .operands) here m c = step-completed k (r .operands) here m c (step e) in

@@ -2,7 +2,7 @@
 ghost use mathlib.Core.Path.{_≡_};
 ghost use mathlib.Core.List.{[]};
 ghost use Prim.Native.Nat.{_+_, _≤_};
-ghost use lib.ListN.{length, drop, getD};
+ghost use lib.ListN.{length, getD};
 ghost use Rattle.reader.specs.Limits.{recordBytes};
 ghost use Rattle.reader.specs.Table.{range, within, kindOf};
 ghost use Rattle.reader.specs.Reader.{next, readRecords, justOne, contractRecords, testOf, readTest};
@@ -150,7 +150,7 @@ fn within(f: Range, x: u8) -> bool
 
 // Whether each field is one that the kind allows.
 fn good_fields(e: Entry, party: u8, action: u8, last: u8) -> bool
-    ensures { λ r. ⌜ r ≡ inRanges e party action last ⌝ }
+    ensures { λ r. ⌜ r ≡ inRanges e record { party = party; action = action; last = last } ⌝ }
 {
     if !within(e.party, party) {
         return false;
@@ -220,7 +220,7 @@ pub enum Step {
 // The tests of the record from byte `at` on, in their order.
 fn read_record(contract: &[u8], at: usize, below: u8, top: u8) -> Step
     requires { ⌜ at + recordBytes ≤ length (now contract) ⌝ }
-    ensures { λ r. ⌜ r ≡ stepOf (drop at (now (contract .entry))) below top ⌝ }
+    ensures { λ r. ⌜ r ≡ stepOf (now (contract .entry)) at below top ⌝ }
 {
     if !records::marked(contract, at, records::CONTRACT_MARK) {
         return Step::Bad(Fault::BadMark);

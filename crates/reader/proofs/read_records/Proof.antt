@@ -4,7 +4,7 @@ use Prim.Native.Nat.{_+_, _*_, _≤_, _-_}
 use native.Mathlib.Omega.{arith}
 use mathlib.Core.Path.{_≡_, sym, _∙_}
 use mathlib.Core.Logic.{⊎-elim}
-use lib.ListN.{drop, getD, set}
+use lib.ListN.{getD, set}
 use Rattle.reader.specs.Limits.{maxRecords, recordBytes}
 use Rattle.reader.specs.Codes.{stepOf}
 use Rattle.reader.proofs.Stack.{Read, read-none, read-bad, read-pushed, ends-taken, ends-many, ends-unmet}
@@ -25,7 +25,7 @@ abbrev μ-loop : tie.MeasureT-loop
 step : (c : lts.After-read-record (peek-reads.Asked, peek-reads.Learnt, read-record-reads.Asked, read-record-reads.Learnt) reads.Pre reads.Post Inv-loop μ-loop)
     → let d = c .before .before .before .before .before .before in
     let v = d .loop in
-    stepOf (drop (recordBytes * v .k) (d .before .before .args .contract .now)) (getD (v .stack) (v .top + 1) 0) (getD (v .stack) (v .top) 0)
+    stepOf (d .before .before .args .contract .now) (recordBytes * v .k) (getD (v .stack) (v .top + 1) 0) (getD (v .stack) (v .top) 0)
     ≡ c .read-record .result
 step c = rw (← c .before .before .before .peek .ensures, ← c .before .peek2 .ensures) (sym (c .read-record .ensures))
 
