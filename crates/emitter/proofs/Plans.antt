@@ -101,15 +101,15 @@ equal-parts : (k : Kind) {xs ys : List RowNumbers}
     take n xs ≡ take n ys → drop n xs ≡ drop n ys → xs ≡ ys
 equal-parts k {xs} {ys} p q = let n = width (plainRecord k) .before in sym (take-append-drop n xs) ∙ rw (p, q) (take-append-drop n ys)
 
--- rows that others follow
-abbrev Followed : (List Row → List Row) → Type 0
-Followed f = (rest : List Row) → f rest ≡ f [] ++ rest
+-- its own rows stand before those that follow
+abbrev Prepends : (List Row → List Row) → Type 0
+Prepends f = (rest : List Row) → f rest ≡ f [] ++ rest
 
 -- one operand's rows, or two operands', and others after them
-one : {part : List Row → List Row} → Followed part → (after : List Row) → map numbersOf (part after) ≡ map numbersOf (part []) ++ map numbersOf after
+one : {part : List Row → List Row} → Prepends part → (after : List Row) → map numbersOf (part after) ≡ map numbersOf (part []) ++ map numbersOf after
 one p after = rw (p after, map-append)
 
-two : {right left : List Row → List Row} → Followed right → Followed left → (after : List Row)
+two : {right left : List Row → List Row} → Prepends right → Prepends left → (after : List Row)
     → map numbersOf (right (left after)) ≡ map numbersOf (right [] ++ left []) ++ map numbersOf after
 two {right} {left} r l after = rw (r (left after), l after, ← append-assoc (right []), map-append numbersOf (right [] ++ left []))
 

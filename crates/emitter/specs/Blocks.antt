@@ -15,7 +15,7 @@ use Rattle.reader.specs.Reader.{kindAt, fieldsAt, operand}
 use Rattle.reader.specs.Codes.{emptyCode, codeOf, completed}
 use Rattle.image.specs.Widths.{neverRow, afterExpression, afterClause}
 use Rattle.image.specs.Blocks.{endRow, liveRow, expressionRows, Outputs, outputsOf, clauseRows}
-use Rattle.emitter.specs.declared.RecordBytes.{RecordBytes}
+use Rattle.emitter.specs.declared.RecordBody.{RecordBody}
 use Rattle.emitter.specs.declared.Plan.{Plan}
 use Rattle.emitter.specs.declared.Block.{Block}
 use Rattle.emitter.specs.declared.Wires.{Wires}
@@ -24,14 +24,14 @@ use Rattle.emitter.specs.Rows.{numbersOf, writtenRows, rowTable, valueAt
 -- ---- a record's bytes
 
 -- the last of the first n records
-abbrev pub lastRecord : (contract : List ℕ) (n : ℕ) → RecordBytes
+abbrev pub lastRecord : (contract : List ℕ) (n : ℕ) → RecordBody
 lastRecord contract n =
     let at = recordBytes * (n - 1) in
     let f = fieldsAt contract at in
     record { kind = kindAt contract at; party = f .party; action = f .action; last = f .last }
 
 -- as a record of this kind
-abbrev pub recordFrom : Kind → RecordBytes → Record
+abbrev pub recordFrom : Kind → RecordBody → Record
 recordFrom k r = record { kind = k; fields = record { party = r .party; action = r .action; last = r .last } }
 
 -- ---- the rows of one record

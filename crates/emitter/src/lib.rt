@@ -213,7 +213,7 @@ fn table_row(table: &[u32], j: u8) -> TableRow
 // ---- the plan of each record
 
 // The bytes of a record after its mark.
-pub struct RecordBytes {
+pub struct RecordBody {
     pub kind: u8,
     pub party: u8,
     pub action: u8,
@@ -221,13 +221,13 @@ pub struct RecordBytes {
 }
 
 // The last of the first n records.
-fn last_record(contract: &[u8], n: usize) -> RecordBytes
+fn last_record(contract: &[u8], n: usize) -> RecordBody
     requires { ⌜ 1 ≤ n ⌝ }
     requires { ⌜ recordBytes * n ≤ length (now contract) ⌝ }
     ensures { λ r. ⌜ r ≡ lastRecord (now (contract .entry)) n ⌝ }
 {
     let at = reader::RECORD_BYTES * (n - 1);
-    RecordBytes {
+    RecordBody {
         kind: contract[at + 2],
         party: contract[at + 3],
         action: contract[at + 4],
@@ -301,7 +301,7 @@ fn named(l: PlanLine) -> Plan
 }
 
 // The plan of a record.
-fn plan_of(r: RecordBytes) -> Plan
+fn plan_of(r: RecordBody) -> Plan
     ensures { λ p. ⌜ ((k : Kind) → kindOf (r .kind) ≡ some k → p ≡ planOf (recordFrom k r)) ⌝ }
 {
     let plans = PLANS;
@@ -451,7 +451,7 @@ fn put_own(image: &mut [u8], plan: Plan, at: u32, next: u32, bases: &[u32; 16])
 }
 
 // The block of a record and its operands.
-fn block_of(bases: &[u32; 16], plan: Plan, r: RecordBytes, left: Block, right: Block) -> Block
+fn block_of(bases: &[u32; 16], plan: Plan, r: RecordBody, left: Block, right: Block) -> Block
     requires { ⌜ Small (now bases) ⌝ }
     requires { ⌜ left .next + plan .after ≤ maxRows ⌝ }
     ensures { λ b. ⌜ b ≡ recordBlock (now (bases .entry)) plan (r .kind) (r .party) left right ⌝ }
@@ -476,7 +476,7 @@ fn block_of(bases: &[u32; 16], plan: Plan, r: RecordBytes, left: Block, right: B
 fn put_record(
     image: &mut [u8],
     plan: Plan,
-    r: RecordBytes,
+    r: RecordBody,
     at: u32,
     s: u32,
     k: u32,

@@ -19,7 +19,7 @@ use Rattle.records.specs.Refusals.{require}
 use Rattle.records.specs.declared.Fault.the-variants.{BadMark, UnknownKind, BadField, BadOperands, NotOneClause, EmptyList}
 use Rattle.reader.specs.declared.Lookup.the-variants.{Found}
 use Rattle.reader.specs.declared.Step.{Step}
-use Rattle.reader.specs.declared.Step.the-variants.{Bad, Completed}
+use Rattle.reader.specs.declared.Step.the-variants.{Completed}
 use Rattle.records.specs.declared.Test.the-variants.{Passed, Refused}
 use Rattle.reader.specs.Table.{Sort, clause, expression, Kind, kindOf, line, duty, ban, power, both, then, repair, repeat, when, until, any, tries, idle, succeeds, fails, seq, or, star}
 use Rattle.reader.specs.Trees.{Trees, Fields, goodFields, node}
@@ -137,22 +137,22 @@ Pushed k st l m c = Replaced st (readRecord k st l) m c
 
 -- a result on trees at record k is that of a step on codes
 abbrev Agrees : ℕ → List Operand → Result (List Operand) → Step → Type 0
-Agrees k st r (Bad f) = r ≡ refused f k
+Agrees k st r (Step.Refused f) = r ≡ refused f k
 Agrees k st r (Completed m c) = Replaced st r m c
 
 module _ (k : ℕ) (st : List Operand) where
   agrees-require : (ok : Bool) (f : Fault) (r : Result (List Operand)) (s : Step) → Agrees k st r s
-      → Agrees k st (provided (require ok f k) r) (cond ok s (Bad f))
+      → Agrees k st (provided (require ok f k) r) (cond ok s (Step.Refused f))
   agrees-require true f r s h = h
   agrees-require false f r s h = refl
 
   agrees-unless : (t : Bool) (f : Fault) (r : Result (List Operand)) (s : Step) → Agrees k st r s
-      → Agrees k st (provided (require (not t) f k) r) (cond t (Bad f) s)
+      → Agrees k st (provided (require (not t) f k) r) (cond t (Step.Refused f) s)
   agrees-unless true f r s h = refl
   agrees-unless false f r s h = h
 
   agrees-demand : {A : Type 0} (o : Option A) (f : Fault) (g : A → Result (List Operand)) (s : Step)
-      → ((x : A) → o ≡ some x → Agrees k st (g x) s) → Agrees k st (demand o f k g) (cond (present o) s (Bad f))
+      → ((x : A) → o ≡ some x → Agrees k st (g x) s) → Agrees k st (demand o f k g) (cond (present o) s (Step.Refused f))
   agrees-demand none f g s each = refl
   agrees-demand (some x) f g s each = each x refl
 
@@ -166,7 +166,7 @@ module _ (k : ℕ) (st : List Operand) where
 agrees-push : (k : ℕ) (K : Kind) (f : Fields) (ts : Trees (line K .operands)) (rest : List Operand)
     → let st = onto (line K .operands) ts rest in
     Agrees k st (push k (line K .completes) (node K f ts) rest)
-    (cond (emptyUnder (line K .number) (codeAt st 1) (codeAt st 0)) (Bad EmptyList)
+    (cond (emptyUnder (line K .number) (codeAt st 1) (codeAt st 0)) (Step.Refused EmptyList)
     (Completed (length (line K .operands)) (completed (line K .number) (codeAt st 1) (codeAt st 0))))
 agrees-push k K f ts rest =
     let st = onto (line K .operands) ts rest in
@@ -199,8 +199,8 @@ pub step-drop : (l : List ℕ) (at b t : ℕ) → stepOf l at b t ≡ stepOf (dr
 unfolding stepOf
 step-drop l at b t = rw (marked-drop l at contractMark) (simp getD-drop)
 
-pub step-bad : (k : ℕ) (st : List Operand) (l : List ℕ) (f : Fault) → stepOf l 0 (codeAt st 1) (codeAt st 0) ≡ Bad f → readRecord k st l ≡ refused f k
-step-bad k st l f e = subst (Agrees k st (readRecord k st l)) e (agrees k st l)
+pub step-refused : (k : ℕ) (st : List Operand) (l : List ℕ) (f : Fault) → stepOf l 0 (codeAt st 1) (codeAt st 0) ≡ Step.Refused f → readRecord k st l ≡ refused f k
+step-refused k st l f e = subst (Agrees k st (readRecord k st l)) e (agrees k st l)
 
 pub step-completed : (k : ℕ) (st : List Operand) (l : List ℕ) (m c : ℕ) → stepOf l 0 (codeAt st 1) (codeAt st 0) ≡ Completed m c → Pushed k st l m c
 step-completed k st l m c e = subst (Agrees k st (readRecord k st l)) e (agrees k st l)
@@ -211,11 +211,11 @@ not-clause-code : (empty : Bool) → ¬ (expressionCode empty ≡ sortNumber cla
 not-clause-code true e = omega arith
 not-clause-code false e = omega arith
 
-pub just-one : (n : ℕ) (st : List Operand) → length st ≡ 1 → codeAt st 0 ≡ sortNumber clause → testOf (justOne n st) ≡ Passed
-just-one n [] h i = absurd (omega arith)
-just-one n (operand clause c ∷ []) h i = refl
-just-one n (operand expression e ∷ []) h i = absurd (not-clause-code (holdsEmpty e) i)
-just-one n (o ∷ p ∷ st) h i = absurd (omega arith)
+pub one-clause : (n : ℕ) (st : List Operand) → length st ≡ 1 → codeAt st 0 ≡ sortNumber clause → testOf (justOne n st) ≡ Passed
+one-clause n [] h i = absurd (omega arith)
+one-clause n (operand clause c ∷ []) h i = refl
+one-clause n (operand expression e ∷ []) h i = absurd (not-clause-code (holdsEmpty e) i)
+one-clause n (o ∷ p ∷ st) h i = absurd (omega arith)
 
 pub not-one : (n : ℕ) (st : List Operand) → ¬ (length st ≡ 1) → testOf (justOne n st) ≡ Refused NotOneClause n
 not-one n [] h = refl

@@ -122,8 +122,8 @@ pub read-node : (k : ℕ) (kind : Kind) (f : Fields) (ts : Trees (line kind .ope
 unfolding readRecord marked spellRecord
 read-node k kind f ts st rest h = rw (kind-number kind, h, operands-onto (line kind .operands) ts st)
 
--- the record at the front of the bytes completes a node, pushed in place of its operands
-pub record Completed (st : List Operand) (l : List ℕ) (st′ : List Operand) : Type 0 where
+-- the record at the front of the bytes makes a node, pushed in place of its operands
+pub record MakesNode (st : List Operand) (l : List ℕ) (st′ : List Operand) : Type 0 where
   pub kind : Kind
   pub fields : Fields
   pub trees : Trees (line kind .operands)
@@ -160,10 +160,10 @@ pub followed : {A B C : Type 0} (r : Result A) {g : A → Result B} {x : B} → 
 followed (refused f k) h go = absurd (refused-taken h)
 followed (taken y) h go = go y refl h
 
-pub completed : (k : ℕ) (st : List Operand) (l : List ℕ) (st′ : List Operand) → recordBytes ≤ length l → readRecord k st l ≡ taken st′
-    → Completed st l st′
+pub makes-node : (k : ℕ) (st : List Operand) (l : List ℕ) (st′ : List Operand) → recordBytes ≤ length l → readRecord k st l ≡ taken st′
+    → MakesNode st l st′
 unfolding readRecord
-completed k st l st′ n h =
+makes-node k st l st′ n h =
     required (marked l 0 contractMark) BadMark k h λ m h₂.
     demanded (kindOf (kindAt l 0)) UnknownKind k h₂ λ kind j h₃.
     required (goodFields (line kind) (fieldsAt l 0)) BadField k h₃ λ b h₄.

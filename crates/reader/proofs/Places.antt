@@ -47,15 +47,15 @@ record-at k st l =
 
 -- ---- the first record that is refused
 
--- of the n records from k on, so many are passed and the next one is refused
+-- of the n records from k on, `count` are passed and the next one is refused
 record Stopped (k n : ℕ) (st : List Operand) (l : List ℕ) (f : Fault) (j : ℕ) : Type 0 where
-  passed : ℕ
-  place : j ≡ k + passed
-  within : passed < n
+  count : ℕ
+  place : j ≡ k + count
+  within : count < n
   of-record : among recordFaults f ≡ true
   stack : List Operand
-  before : readRecords k passed st l ≡ taken stack
-  here : readRecords k (suc passed) st l ≡ refused f j
+  before : readRecords k count st l ≡ taken stack
+  here : readRecords k (suc count) st l ≡ refused f j
 
 stopped : (k n : ℕ) (st : List Operand) (l : List ℕ) (f : Fault) (j : ℕ) → readRecords k n st l ≡ refused f j → Stopped k n st l f j
 unfolding readRecords
@@ -68,11 +68,11 @@ stopped k (suc n) st l f j h = go (readRecord k st l) refl (λ st′. stopped (s
     go (refused g i) e further =
         let h′ : refused g i ≡ refused f j = rw e at h in
         let a = rw (e ∙ h′) at (record-at k st l) in
-        record { passed = 0; place = omega (arith, a .0); within = omega arith; of-record = a .1; stack = st; before = refl; here = rw e h′ }
+        record { count = 0; place = omega (arith, a .0); within = omega arith; of-record = a .1; stack = st; before = refl; here = rw e h′ }
     go (taken st′) e further =
         let s = further st′ (rw e at h) in
         record {
-          passed = suc (s .passed);
+          count = suc (s .count);
           place = omega (arith, s .place);
           within = omega (arith, s .within);
           of-record = s .of-record;
@@ -196,7 +196,7 @@ first-fault l f k h o = go (refusal l f k h)
     go (at-end w st g e i) = absurd (false≢true (rw (← e) at o))
     go (at-record w r o) =
         let s = stopped 0 (contractRecords l) [] l f k r in
-        let p : s .passed ≡ k = omega (arith, s .place) in
+        let p : s .count ≡ k = omega (arith, s .place) in
         let c : suc k ≤ contractRecords l = omega (arith, s .within) in
         let here : readRecords 0 (suc k) [] l ≡ refused f k = rw p at (s .here) in
         record {

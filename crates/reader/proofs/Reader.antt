@@ -19,7 +19,7 @@ use Rattle.reader.specs.Spelling.{spellRecord, spell, records, InRange, 
 use Rattle.reader.specs.Reader.{taken, Operand, operand, holdsEmptyUnder, readRecord, readRecords, justOne, contractRecords, goodContractLength, read}
 use Rattle.reader.proofs.Fields.{used, recordOf}
 use Rattle.reader.proofs.Spelling.{spellTrees, treesRecords, All, on-tree, spell-node, records-node, length-spell, some-records}
-use Rattle.reader.proofs.Nodes.{Good, good-node, onto, read-node, Completed, required, followed, completed}
+use Rattle.reader.proofs.Nodes.{Good, good-node, onto, read-node, MakesNode, required, followed, makes-node}
 
 -- ---- what has been read is what the stack spells
 
@@ -41,14 +41,14 @@ good-onto : (ss : List Sort) (ts : Trees ss) (st : List Operand) → GoodStack (
 good-onto [] ts st g = (tt, g)
 good-onto (s ∷ ss) ts st g = let h = good-onto ss (ts .1) (operand s (ts .0) ∷ st) g in ((h .1 .0, h .0), h .1 .1)
 
-completed-spells : (st : List Operand) (l : List ℕ) (st′ : List Operand) → Completed st l st′
+spell-made : (st : List Operand) (l : List ℕ) (st′ : List Operand) → MakesNode st l st′
     → spellStack st′ ≡ spellStack st ++ take recordBytes l
-completed-spells st l st′ c =
+spell-made st l st′ c =
     rw (c .after, c .before, c .bytes, spell-node (c .kind) (c .fields) (c .trees), spell-onto (line (c .kind) .operands) (c .trees) (c .rest))
     (sym (append-assoc (spellStack (c .rest)) (spellTrees (line (c .kind) .operands) (c .trees)) (spellRecord (recordOf (c .kind) (c .fields)))))
 
-completed-good : (st : List Operand) (l : List ℕ) (st′ : List Operand) → Completed st l st′ → GoodStack st → GoodStack st′
-completed-good st l st′ c g =
+good-made : (st : List Operand) (l : List ℕ) (st′ : List Operand) → MakesNode st l st′ → GoodStack st → GoodStack st′
+good-made st l st′ c g =
     let h = good-onto (line (c .kind) .operands) (c .trees) (c .rest) (rw (c .before) at g) in
     rw (c .after) (good-node (c .kind) (c .fields) (c .trees) .1 (c .in-range, h .0, c .not-empty), h .1)
 
@@ -58,10 +58,10 @@ records-spell : (k n : ℕ) (st : List Operand) (l : List ℕ) (st′ : List Ope
 unfolding readRecords
 records-spell k zero st l st′ w h g = let e : st ≡ st′ = cc in (rw (← e) (sym (append-nil (spellStack st))), rw e at g)
 records-spell k (suc n) st l st′ w h g = followed (readRecord k st l) h λ st₂ i j.
-    let c = completed k st l st₂ (omega arith) i in
-    let d = records-spell (suc k) n st₂ (drop recordBytes l) st′ (rw length-drop (omega arith)) j (completed-good st l st₂ c g) in
+    let c = makes-node k st l st₂ (omega arith) i in
+    let d = records-spell (suc k) n st₂ (drop recordBytes l) st′ (rw length-drop (omega arith)) j (good-made st l st₂ c g) in
     let s : recordBytes * suc n ≡ recordBytes + recordBytes * n = omega arith in
-    let e = rw (completed-spells st l st₂ c, append-assoc (spellStack st)) at (d .0) in
+    let e = rw (spell-made st l st₂ c, append-assoc (spellStack st)) at (d .0) in
     (rw (s, take-add recordBytes (recordBytes * n) l) e, d .1)
 
 -- ---- the length

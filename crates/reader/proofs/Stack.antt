@@ -15,15 +15,15 @@ use Rattle.records.specs.declared.Fault.{Fault}
 use Rattle.records.specs.declared.Test.the-variants.{Passed, Refused}
 use Rattle.records.specs.declared.Fault.the-variants.{NotOneClause}
 use Rattle.reader.specs.declared.Step.{Step}
-use Rattle.reader.specs.declared.Step.the-variants.{Bad, Completed}
+use Rattle.reader.specs.declared.Step.the-variants.{Completed}
 use Rattle.reader.specs.Limits.{maxRecords, recordBytes}
 use Rattle.reader.specs.Table.{clause}
 use Rattle.reader.specs.Reader.{Operand, refused, taken, next, readRecord, readRecords, justOne, testOf}
 use Rattle.reader.specs.Codes.{sortNumber, codeOf, codeAt, stepOf}
-use Rattle.reader.proofs.Codes.{Pushed, step-drop, step-bad, step-completed, just-one, not-one, not-clause}
+use Rattle.reader.proofs.Codes.{Pushed, step-drop, step-refused, step-completed, one-clause, not-one, not-clause}
 
 -- after k of n records
-pub record Read (l : List ℕ) (n : ℕ) (stack : List ℕ) (top k : ℕ) : Type 0 where
+pub record StackAfter (l : List ℕ) (n : ℕ) (stack : List ℕ) (top k : ℕ) : Type 0 where
   pub operands : List Operand
   pub codes : drop top stack ≡ map codeOf operands
   pub sized : maxRecords ≡ length stack
@@ -33,8 +33,8 @@ pub record Read (l : List ℕ) (n : ℕ) (stack : List ℕ) (top k : ℕ) : Type
   pub few : n ≤ maxRecords
   pub same : readRecords k (n - k) operands (drop (recordBytes * k) l) ≡ readRecords 0 n [] l
 
-pub read-none : (l : List ℕ) (n : ℕ) → n ≤ maxRecords → Read l n (replicate maxRecords 0) maxRecords 0
-read-none l n h =
+pub after-none : (l : List ℕ) (n : ℕ) → n ≤ maxRecords → StackAfter l n (replicate maxRecords 0) maxRecords 0
+after-none l n h =
     record {
       operands = [];
       codes = refl;
@@ -55,7 +55,7 @@ replaced stack top m c h i =
     let split : set stack at c ≡ take at stack ++ (c ∷ drop (suc at) stack) = set-split stack at c (omega arith) in
     rw (split, drop-at (take at stack) (c ∷ drop (suc at) stack) at (length-take-le at stack (omega arith)), e, drop-drop)
 
-module _ {l : List ℕ} {n : ℕ} {stack : List ℕ} {top k : ℕ} (r : Read l n stack top k) where
+module _ {l : List ℕ} {n : ℕ} {stack : List ℕ} {top k : ℕ} (r : StackAfter l n stack top k) where
   pub code-at : (i : ℕ) → getD stack (top + i) 0 ≡ codeAt (r .operands) i
   code-at i = sym (getD-drop top stack i 0) ∙ ap (λ (cs : List ℕ). getD cs i 0) (r .codes)
 
@@ -78,13 +78,13 @@ module _ {l : List ℕ} {n : ℕ} {stack : List ℕ} {top k : ℕ} (r : Read l n
         → stepOf here 0 (codeAt (r .operands) 1) (codeAt (r .operands) 0) ≡ s
     step e = rw (← code-at 1, ← code-at 0, add-zero, ← step-drop) e
 
-    pub read-bad : (f : Fault) → stepOf l (recordBytes * k) (getD stack (top + 1) 0) (getD stack top 0) ≡ Bad f → readRecords 0 n [] l ≡ refused f k
-    read-bad f e =
-        let bad : readRecord k (r .operands) here ≡ refused f k = step-bad k (r .operands) here f (step e) in
+    pub read-refused : (f : Fault) → stepOf l (recordBytes * k) (getD stack (top + 1) 0) (getD stack top 0) ≡ Step.Refused f → readRecords 0 n [] l ≡ refused f k
+    read-refused f e =
+        let bad : readRecord k (r .operands) here ≡ refused f k = step-refused k (r .operands) here f (step e) in
         sym (r .same) ∙ unrolled ∙ ap (λ x. next x (λ st. readRecords (suc k) (n - suc k) st (drop recordBytes here))) bad
 
     pub read-pushed : (m c : ℕ) → stepOf l (recordBytes * k) (getD stack (top + 1) 0) (getD stack top 0) ≡ Completed m c
-        → (1 ≤ top + m) × (top + m ≤ maxRecords) × Read l n (set stack (top + m - 1) c) (top + m - 1) (k + 1)
+        → (1 ≤ top + m) × (top + m ≤ maxRecords) × StackAfter l n (set stack (top + m - 1) c) (top + m - 1) (k + 1)
     read-pushed m c e =
         let p : Pushed k (r .operands) here m c = step-completed k (r .operands) here m c (step e) in
         let count : length (r .operands) ≡ maxRecords - top = operand-count in
@@ -127,7 +127,7 @@ module _ {l : List ℕ} {n : ℕ} {stack : List ℕ} {top k : ℕ} (r : Read l n
 
     pub ends-taken : top ≡ maxRecords - 1 → not (eqb (getD stack top 0) (sortNumber clause)) ≡ false → testOf (next (readRecords 0 n [] l) (justOne n)) ≡ Passed
     ends-taken e c =
-        ended ∙ just-one n (r .operands) (one e) (sym code ∙ eqb-true (getD stack top 0) (sortNumber clause) (not-false _ c))
+        ended ∙ one-clause n (r .operands) (one e) (sym code ∙ eqb-true (getD stack top 0) (sortNumber clause) (not-false _ c))
 
     pub ends-many : ¬ (top ≡ maxRecords - 1) → testOf (next (readRecords 0 n [] l) (justOne n)) ≡ Refused NotOneClause n
     ends-many e =

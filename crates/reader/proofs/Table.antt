@@ -12,12 +12,12 @@ use borrow.Author.Tests.{eqb-true, lt-ltb, le-leb}
 use Rattle.records.proofs.Cases.{lt-or-le}
 use Rattle.reader.specs.declared.Entry.{Entry}
 use Rattle.reader.specs.declared.Lookup.the-variants.{Found, Unknown}
-use Rattle.reader.specs.Table.{Kind, kinds, numbered, kindOf, line, duty, ban, power, both, then, repair, repeat, when, until, any, tries, idle, succeeds, fails, seq, or, star}
+use Rattle.reader.specs.Table.{Kind, kinds, firstNumbered, kindOf, line, duty, ban, power, both, then, repair, repeat, when, until, any, tries, idle, succeeds, fails, seq, or, star}
 use Rattle.reader.specs.Trees.{Fields, Record}
 use Rattle.reader.specs.Codes.{entryOf, packedLine, unpackedLine, lookupOf}
 
 pub kind-number : (k : Kind) → kindOf (line k .number) ≡ some k
-unfolding kindOf numbered
+unfolding kindOf firstNumbered
 kind-number duty = refl
 kind-number ban = refl
 kind-number power = refl
@@ -41,24 +41,24 @@ every f [] = true
 every f (K ∷ Ks) = f K && every f Ks
 
 -- the kind has this number and passes this test
-abbrev Listed : (Kind → Bool) → ℕ → Option Kind → Type 0
-Listed f n none = Unit {0}
-Listed f n (some K) = (line K .number ≡ n) × (f K ≡ true)
+abbrev Passes : (Kind → Bool) → ℕ → Option Kind → Type 0
+Passes f n none = Unit {0}
+Passes f n (some K) = (line K .number ≡ n) × (f K ≡ true)
 
 -- a kind found by its number passes the test that all do
-listed : (f : Kind → Bool) (n : ℕ) (Ks : List Kind) → every f Ks ≡ true → Listed f n (numbered n Ks)
-unfolding numbered
-listed f n [] h = tt
-listed f n (K ∷ Ks) h = go (eqb (line K .number) n) refl (listed f n Ks (and-eq-true-iff (f K) (every f Ks) .0 h .1))
+first-passes : (f : Kind → Bool) (n : ℕ) (Ks : List Kind) → every f Ks ≡ true → Passes f n (firstNumbered n Ks)
+unfolding firstNumbered
+first-passes f n [] h = tt
+first-passes f n (K ∷ Ks) h = go (eqb (line K .number) n) refl (first-passes f n Ks (and-eq-true-iff (f K) (every f Ks) .0 h .1))
   where
-    go : (t : Bool) → eqb (line K .number) n ≡ t → Listed f n (numbered n Ks) → Listed f n (cond t (some K) (numbered n Ks))
+    go : (t : Bool) → eqb (line K .number) n ≡ t → Passes f n (firstNumbered n Ks) → Passes f n (cond t (some K) (firstNumbered n Ks))
     go true e rest = (eqb-true (line K .number) n e, and-eq-true-iff (f K) (every f Ks) .0 h .0)
     go false e rest = rest
 
 -- a test that all kinds of the table pass is passed by every kind
 pub of-all : (f : Kind → Bool) → every f kinds ≡ true → (k : Kind) → f k ≡ true
 unfolding kindOf
-of-all f h k = subst (Listed f (line k .number)) (kind-number k) (listed f (line k .number) kinds h) .1
+of-all f h k = subst (Passes f (line k .number)) (kind-number k) (first-passes f (line k .number) kinds h) .1
 
 -- and one that they pass whatever the fields are, by every record
 pub of-records : (f : Record → Bool) → ((fs : Fields) → every (λ k. f record { kind = k; fields = fs }) kinds ≡ true) → (r : Record) → f r ≡ true
@@ -66,7 +66,7 @@ of-records f h r = of-all (λ k. f record { kind = k; fields = r .fields }) (h (
 
 pub number-kind : (n : ℕ) (k : Kind) → kindOf n ≡ some k → line k .number ≡ n
 unfolding kindOf
-number-kind n k h = subst (Listed (λ j. true) n) h (listed (λ j. true) n kinds refl) .0
+number-kind n k h = subst (Passes (λ j. true) n) h (first-passes (λ j. true) n kinds refl) .0
 
 -- ---- the kinds of the numbers
 
@@ -98,14 +98,14 @@ abbrev pub expressionPlace : ℕ → ℕ
 expressionPlace n = n - (line any .number - line until .number)
 
 pub clause-kind : (n : ℕ) → OfClause n → kindOf n ≡ some (getD kinds (clausePlace n) duty)
-unfolding kindOf numbered
+unfolding kindOf firstNumbered
 clause-kind n h =
     at (λ n. kindOf n ≡ some (getD kinds (clausePlace n) duty)) (line duty .number) 9
     (refl and refl and refl and refl and refl and refl and refl and refl and refl and tt)
     n (h .0) (omega arith)
 
 pub expression-kind : (n : ℕ) → OfExpression n → kindOf n ≡ some (getD kinds (expressionPlace n) duty)
-unfolding kindOf numbered
+unfolding kindOf firstNumbered
 expression-kind n h =
     at (λ n. kindOf n ≡ some (getD kinds (expressionPlace n) duty)) (line any .number) 8
     (refl and refl and refl and refl and refl and refl and refl and refl and tt)

@@ -13,7 +13,7 @@ use Rattle.reader.specs.declared.Entry.{Entry}
 use Rattle.reader.specs.declared.Lookup.{Lookup}
 use Rattle.reader.specs.declared.Lookup.the-variants.{Found, Unknown}
 use Rattle.reader.specs.declared.Step.{Step}
-use Rattle.reader.specs.declared.Step.the-variants.{Bad, Completed}
+use Rattle.reader.specs.declared.Step.the-variants.{Refused, Completed}
 use Rattle.reader.specs.Limits.{maxRecords, recordBytes}
 use Rattle.reader.specs.Table.{Sort, clause, expression, Kind, duty, when, until, seq, or, star, range, within, line, kindOf}
 use Rattle.reader.specs.Trees.{Fields}
@@ -118,18 +118,18 @@ completed k b t =
 -- ---- a record
 
 abbrev pub stepFound : Lookup → (kind : ℕ) → Fields → (below top : ℕ) → Step
-stepFound Unknown k f b t = Bad UnknownKind
+stepFound Unknown k f b t = Refused UnknownKind
 stepFound (Found e) k f b t =
     cond (inRanges e f)
     (cond (goodOperands (e .operands) (e .first) (e .second) b t)
-    (cond (emptyUnder k b t) (Bad EmptyList) (Completed (e .operands) (completed k b t)))
-    (Bad BadOperands))
-    (Bad BadField)
+    (cond (emptyUnder k b t) (Refused EmptyList) (Completed (e .operands) (completed k b t)))
+    (Refused BadOperands))
+    (Refused BadField)
 
 -- what the record from byte `at` on does to a stack with these two codes on top: a fault, or so many operands replaced by one of this code
 unfoldable pub stepOf : List ℕ → (at : ℕ) → (below top : ℕ) → Step
 stepOf l at b t =
-    cond (marked l at contractMark) (stepFound (lookupOf (kindOf (kindAt l at))) (kindAt l at) (fieldsAt l at) b t) (Bad BadMark)
+    cond (marked l at contractMark) (stepFound (lookupOf (kindOf (kindAt l at))) (kindAt l at) (fieldsAt l at) b t) (Refused BadMark)
 
 -- ---- the premises of the inner functions
 

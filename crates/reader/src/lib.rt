@@ -213,7 +213,7 @@ pub fn completed(kind: u8, below: u8, top: u8) -> u8
 
 // What a record does to the stack: a fault, or so many operands replaced by one of this code.
 pub enum Step {
-    Bad(Fault),
+    Refused(Fault),
     Completed(u8, u8),
 }
 
@@ -223,21 +223,21 @@ fn read_record(contract: &[u8], at: usize, below: u8, top: u8) -> Step
     ensures { λ r. ⌜ r ≡ stepOf (now (contract .entry)) at below top ⌝ }
 {
     if !records::marked(contract, at, records::CONTRACT_MARK) {
-        return Step::Bad(Fault::BadMark);
+        return Step::Refused(Fault::BadMark);
     }
     let kind = contract[at + 2];
     let found = entry_of(kind);
     let Lookup::Found(e) = found else {
-        return Step::Bad(Fault::UnknownKind);
+        return Step::Refused(Fault::UnknownKind);
     };
     if !good_fields(e, contract[at + 3], contract[at + 4], contract[at + 5]) {
-        return Step::Bad(Fault::BadField);
+        return Step::Refused(Fault::BadField);
     }
     if !good_operands(e, below, top) {
-        return Step::Bad(Fault::BadOperands);
+        return Step::Refused(Fault::BadOperands);
     }
     if empty_under(kind, below, top) {
-        return Step::Bad(Fault::EmptyList);
+        return Step::Refused(Fault::EmptyList);
     }
     Step::Completed(e.operands, completed(kind, below, top))
 }
@@ -267,7 +267,7 @@ fn read_records(contract: &[u8], n: usize) -> Test
             peek(&stack, top),
         );
         match step {
-            Step::Bad(fault) => {
+            Step::Refused(fault) => {
                 return Test::Refused(fault, k);
             }
             Step::Completed(operands, code) => {

@@ -62,7 +62,7 @@ module _ (t : ℕ) where
       RecordRead (a .contract .now) (a .n) (p .before .before .before .last-record .result) (p .before .operands .result) (p .before .before .plan-of .result)
   reads p =
       record {
-        bytes-are = p .before .before .before .last-record .ensures;
+        body-is = p .before .before .before .last-record .ensures;
         plan-is = p .before .before .plan-of .ensures;
         count-is = p .before .operands .ensures;
       }

@@ -7,7 +7,7 @@ use mathlib.Core.Logic.{⊎-elim}
 use lib.ListN.{getD, set}
 use Rattle.reader.specs.Limits.{maxRecords, recordBytes}
 use Rattle.reader.specs.Codes.{stepOf}
-use Rattle.reader.proofs.Stack.{Read, read-none, read-bad, read-pushed, ends-taken, ends-many, ends-unmet}
+use Rattle.reader.proofs.Stack.{StackAfter, after-none, read-refused, read-pushed, ends-taken, ends-many, ends-unmet}
 use Rattle.reader.proofs.read_records.Statement.{statement}
 use Rattle.reader.proofs.read_records.Tie as tie
 use Rattle.reader.proofs.read_records.Reads as reads
@@ -16,7 +16,7 @@ use Rattle.reader.proofs.peek.Reads as peek-reads
 use Rattle.reader.proofs.read_record.Reads as read-record-reads
 
 abbrev Inv-loop : tie.InvT-loop
-Inv-loop contract n stack₀ top₀ k₀ stack top k = Read contract n stack top k
+Inv-loop contract n stack₀ top₀ k₀ stack top k = StackAfter contract n stack top k
 
 abbrev μ-loop : tie.MeasureT-loop
 μ-loop contract n stack₀ top₀ k₀ stack top k = n - k
@@ -36,14 +36,14 @@ pushed : (c : lts.After-known-told2 (peek-reads.Asked, peek-reads.Learnt, read-r
     let m = c .before .step2 .given .0 .0 in
     (1 ≤ v .top + m)
     × (v .top + m ≤ maxRecords)
-    × Read (d .before .before .args .contract .now) (d .before .before .args .n) (set (v .stack) (v .top + m - 1) (c .before .step2 .given .0 .1 .0)) (v .top + m - 1) (v .k + 1)
+    × StackAfter (d .before .before .args .contract .now) (d .before .before .args .n) (set (v .stack) (v .top + m - 1) (c .before .step2 .given .0 .1 .0)) (v .top + m - 1) (v .k + 1)
 pushed c =
     let r = c .before .before .before in
     let i = r .before .before .before .before .before in
     read-pushed (i .before .loop .inv) (i .loop-test .taken) _ _ (step r ∙ c .before .step2 .given .1)
 
 loop-holds : tie.Need-loop-holds Inv-loop μ-loop
-loop-holds c = read-none (c .before .args .contract .now) (c .before .args .n) (c .before .pre .few)
+loop-holds c = after-none (c .before .args .contract .now) (c .before .args .n) (c .before .pre .few)
 
 mul-read-record : tie.Need-mul-read-record Inv-loop μ-loop
 mul-read-record c =
@@ -82,7 +82,7 @@ returns : tie.Need-returns Inv-loop μ-loop
 returns c =
     let r = c .before .before .before in
     let i = r .before .before .before .before .before in
-    rw (read-bad (i .before .loop .inv) (i .loop-test .taken) _ (step r ∙ c .before .step .given .1))
+    rw (read-refused (i .before .loop .inv) (i .loop-test .taken) _ (step r ∙ c .before .step .given .1))
 
 enum-known-step-2 : tie.Need-enum-known-step-2 Inv-loop μ-loop
 enum-known-step-2 c = search needs
