@@ -1,4 +1,5 @@
--- `emitter::put_leaf_rows` meets its contract: the numbers of the program's table hold the definition's rows.
+-- `emitter::put_leaf_rows` meets its contract: the numbers of the program's table hold the definition's rows. Rattle proves this and the like
+-- `put_node_rows` without a file; this one is here for a wrong row to be refused at.
 use mathlib.Core.Path.{refl}
 use borrow.Author.Needs.{needs}
 use Rattle.emitter.proofs.put_leaf_rows.Statement.{statement}
