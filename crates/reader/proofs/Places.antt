@@ -57,29 +57,31 @@ record Stopped (k n : ℕ) (st : List Operand) (l : List ℕ) (f : Fault) (j : �
   before : readRecords k count st l ≡ taken stack
   here : readRecords k (suc count) st l ≡ refused f j
 
+-- what is refused is refused at once, or later
+refused-next : {A B C : Type 0} (r : Result A) {g : A → Result B} {f : Fault} {j : ℕ} → next r g ≡ refused f j → (r ≡ refused f j → C)
+    → ((x : A) → r ≡ taken x → g x ≡ refused f j → C) → C
+refused-next (refused d i) h now later = now (cc)
+refused-next (taken x) h now later = later x refl h
+
 stopped : (k n : ℕ) (st : List Operand) (l : List ℕ) (f : Fault) (j : ℕ) → readRecords k n st l ≡ refused f j → Stopped k n st l f j
 unfolding readRecords
 stopped k zero st l f j h = absurd (refused-taken (sym h))
-stopped k (suc n) st l f j h = go (readRecord k st l) refl (λ st′. stopped (suc k) n st′ (drop recordBytes l) f j)
-  where
-    go : (r : Result (List Operand)) → readRecord k st l ≡ r
-        → ((st′ : List Operand) → readRecords (suc k) n st′ (drop recordBytes l) ≡ refused f j
-        → Stopped (suc k) n st′ (drop recordBytes l) f j) → Stopped k (suc n) st l f j
-    go (refused g i) e further =
-        let h′ : refused g i ≡ refused f j = rw e at h in
-        let a = rw (e ∙ h′) at (record-at k st l) in
-        record { count = 0; place = omega (arith, a .0); within = omega arith; of-record = a .1; stack = st; before = refl; here = rw e h′ }
-    go (taken st′) e further =
-        let s = further st′ (rw e at h) in
-        record {
-          count = suc (s .count);
-          place = omega (arith, s .place);
-          within = omega (arith, s .within);
-          of-record = s .of-record;
-          stack = s .stack;
-          before = rw e (s .before);
-          here = rw e (s .here);
-        }
+stopped k (suc n) st l f j h =
+    refused-next (readRecord k st l) h
+    (λ e.
+    let a = rw e at (record-at k st l) in
+    record { count = 0; place = omega (arith, a .0); within = omega arith; of-record = a .1; stack = st; before = refl; here = rw e })
+    (λ st′ e h₂.
+    let s = stopped (suc k) n st′ (drop recordBytes l) f j h₂ in
+    record {
+      count = suc (s .count);
+      place = omega (arith, s .place);
+      within = omega (arith, s .within);
+      of-record = s .of-record;
+      stack = s .stack;
+      before = rw e (s .before);
+      here = rw e (s .here);
+    })
 
 -- where n records are passed, so are fewer
 fewer-passed : (k m n : ℕ) (st : List Operand) (l : List ℕ) (st′ : List Operand) → m ≤ n → readRecords k n st l ≡ taken st′
@@ -96,14 +98,9 @@ still-refused : (k m n : ℕ) (st : List Operand) (l : List ℕ) (f : Fault) (j 
 unfolding readRecords
 still-refused k zero n st l f j b h = absurd (refused-taken (sym h))
 still-refused k (suc m) zero st l f j b h = absurd (not-suc-le-zero b)
-still-refused k (suc m) (suc n) st l f j b h = go (readRecord k st l) refl (λ st′. still-refused (suc k) m n st′ (drop recordBytes l) f j (le-of-suc-le-suc b))
-  where
-    go : (r : Result (List Operand)) → readRecord k st l ≡ r
-        → ((st′ : List Operand) → readRecords (suc k) m st′ (drop recordBytes l) ≡ refused f j
-        → readRecords (suc k) n st′ (drop recordBytes l) ≡ refused f j)
-        → readRecords k (suc n) st l ≡ refused f j
-    go (refused g i) e further = rw e (rw e at h)
-    go (taken st′) e further = rw e (further st′ (rw e at h))
+still-refused k (suc m) (suc n) st l f j b h =
+    refused-next (readRecord k st l) h (λ e. rw e)
+    (λ st′ e h₂. rw e (still-refused (suc k) m n st′ (drop recordBytes l) f j (le-of-suc-le-suc b) h₂))
 
 -- ---- a beginning of the bytes
 
@@ -161,15 +158,16 @@ pub data Refusal (l : List ℕ) (f : Fault) (k : ℕ) : Type 0 where
 
 pub refusal : (l : List ℕ) (f : Fault) (k : ℕ) → read l ≡ refused f k → Refusal l f k
 unfolding read
-refusal l f k h = go (goodContractLength l) refl (readRecords 0 (contractRecords l) [] l) refl
+refusal l f k h = go (goodContractLength l) refl
   where
-    go : (t : Bool) → goodContractLength l ≡ t → (r : Result (List Operand)) → readRecords 0 (contractRecords l) [] l ≡ r → Refusal l f k
-    go false e r i = let h′ = rw e at h in at-length e (cc) (cc)
-    go true e (refused g j) i =
-        let h′ = rw (e, i) at h in
-        let i′ : readRecords 0 (contractRecords l) [] l ≡ refused f k = cc in
-        at-record (good-length l .0 e) i′ (stopped 0 (contractRecords l) [] l f k i′ .of-record)
-    go true e (taken st) i = let d = end-refused (contractRecords l) st f k (rw (e, i) at h) in at-end (good-length l .0 e) st i (d .0) (d .1)
+    n : ℕ
+    n = contractRecords l
+
+    go : (t : Bool) → goodContractLength l ≡ t → Refusal l f k
+    go false e = let h′ = rw e at h in at-length e (cc) (cc)
+    go true e =
+        refused-next (readRecords 0 n [] l) (rw e at h) (λ r. at-record (good-length l .0 e) r (stopped 0 n [] l f k r .of-record))
+        (λ st r h₂. let d = end-refused n st f k h₂ in at-end (good-length l .0 e) st r (d .0) (d .1))
 
 faultless : (l : List ℕ) (st : List Operand) → readRecords 0 (contractRecords l) [] l ≡ taken st → Faultless l
 faultless l st h = record { none-met = λ f k e. go f k (refusal l f k e) }
