@@ -53,10 +53,10 @@ clause-onto (M.repeat c) b S K xs rest = rw (← clause-onto c)
 clause-onto (M.when e c) b S K xs rest = rw (← clause-onto c, ← expression-onto e)
 clause-onto (M.until c e) b S K xs rest = rw (← expression-onto e, ← clause-onto c)
 
-pub expression-rest : (e : Expression) (b S K : ℕ) (rest : List Row) → expressionRows e b S K rest ≡ expressionRows e b S K [] ++ rest
+expression-rest : (e : Expression) (b S K : ℕ) (rest : List Row) → expressionRows e b S K rest ≡ expressionRows e b S K [] ++ rest
 expression-rest e b S K rest = expression-onto e b S K [] rest
 
-pub clause-rest : (c : Clause) (b S K : ℕ) (rest : List Row) → clauseRows c b S K rest ≡ clauseRows c b S K [] ++ rest
+clause-rest : (c : Clause) (b S K : ℕ) (rest : List Row) → clauseRows c b S K rest ≡ clauseRows c b S K [] ++ rest
 clause-rest c b S K rest = clause-onto c b S K [] rest
 
 -- ---- how many rows a tree has

@@ -35,7 +35,7 @@ abbrev pub Good : (s : Sort) → Tree s → Type 0
 Good clause c = InRange c × EmptyFree c
 Good expression e = ExpressionInRange e
 
-pub not-held : (e : Expression) → holdsEmpty e ≡ false ↔ (¬ Holds e [])
+not-held : (e : Expression) → holdsEmpty e ≡ false ↔ (¬ Holds e [])
 not-held e = (λ h p. false≢true (sym h ∙ empty-iff e .1 p), λ n. go (holdsEmpty e) refl n)
   where
     go : (t : Bool) → holdsEmpty e ≡ t → (¬ Holds e []) → t ≡ false
@@ -82,7 +82,7 @@ abbrev pub onto : (ss : List Sort) → Trees ss → List Operand → List Operan
 onto [] ts st = st
 onto (s ∷ ss) ts st = onto ss (ts .1) (operand s (ts .0) ∷ st)
 
-pub operands-onto : (ss : List Sort) (ts : Trees ss) (st : List Operand) → operandsOf ss (onto ss ts st) ≡ some record { trees = ts; rest = st }
+operands-onto : (ss : List Sort) (ts : Trees ss) (st : List Operand) → operandsOf ss (onto ss ts st) ≡ some record { trees = ts; rest = st }
 unfolding operandsOf
 operands-onto [] ts st = refl
 operands-onto (clause ∷ ss) ts st = rw (operands-onto ss (ts .1) (operand clause (ts .0) ∷ st))
@@ -150,7 +150,7 @@ pub required : {A C : Type 0} (t : Bool) (f : Fault) (k : ℕ) {r : Result A} {x
 required true f k h go = go refl h
 required false f k h go = absurd (refused-taken h)
 
-pub demanded : {A B C : Type 0} (o : Option A) (f : Fault) (k : ℕ) {g : A → Result B} {x : B} → demand o f k g ≡ taken x
+demanded : {A B C : Type 0} (o : Option A) (f : Fault) (k : ℕ) {g : A → Result B} {x : B} → demand o f k g ≡ taken x
     → ((y : A) → o ≡ some y → g y ≡ taken x → C) → C
 demanded none f k h go = absurd (refused-taken h)
 demanded (some y) f k h go = go y refl h

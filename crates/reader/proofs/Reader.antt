@@ -10,12 +10,12 @@ use lib.Dec.{eqb, ltb, leb}
 use lib.ListN.{length, take, drop, length-drop}
 use lib.Seq.{take-add, take-all}
 use borrow.Author.Tests.{eqb-true, eq-eqb, ltb-true, lt-ltb, leb-true, le-leb}
-use Rattle.contract.specs.Meaning.{Clause, EmptyFree}
+use Rattle.contract.specs.Meaning.{Clause}
 use Rattle.records.specs.declared.Fault.the-variants.{BadLength}
 use Rattle.reader.specs.Limits.{maxRecords, recordBytes}
 use Rattle.reader.specs.Table.{Sort, clause, expression, Kind, line}
 use Rattle.reader.specs.Trees.{Tree, Trees, Fields, goodFields, node}
-use Rattle.reader.specs.Spelling.{spellRecord, spell, records, InRange, Spells, spellTree, treeRecords}
+use Rattle.reader.specs.Spelling.{spellRecord, spell, records, Spells, spellTree, treeRecords}
 use Rattle.reader.specs.Reader.{taken, Operand, operand, holdsEmptyUnder, readRecord, readRecords, justOne, contractRecords, goodContractLength, read}
 use Rattle.reader.proofs.Fields.{used, recordOf}
 use Rattle.reader.proofs.Spelling.{spellTrees, treesRecords, All, on-tree, spell-node, records-node, length-spell, some-records}
@@ -114,9 +114,6 @@ module _ (l : List ℕ) (c : Clause) (h : read l ≡ taken c) where
       followed (readRecords 0 (contractRecords l) [] l) h₂ λ st h₃ h₄.
       (good-length l .0 g, rw (just-one (contractRecords l) st c h₄) at h₃)
 
-  pub taken-length : goodContractLength l ≡ true
-  taken-length = good-length l .1 (read-taken .0)
-
   taken-stack : (l ≡ spell c) × Good clause c
   taken-stack =
       let w = read-taken .0 .whole in
@@ -174,18 +171,15 @@ reads-node kind f u ts h good k n st rest =
 reads-tree : (s : Sort) (t : Tree s) → ReadsTree s t
 reads-tree = on-tree ReadsTree reads-node
 
-pub spelled-taken : (c : Clause) → records c ≤ maxRecords → InRange c → EmptyFree c → read (spell c) ≡ taken c
+pub spells-taken : (l : List ℕ) (c : Clause) → Spells l c → read l ≡ taken c
 unfolding read readRecords ReadsTree
-spelled-taken c n r e =
+spells-taken l c s =
     let count : contractRecords (spell c) ≡ records c = unfold contractRecords in rw length-spell (omega arith) in
     let w : WholeRecords (spell c) =
-    record { some-records = rw count (some-records c); few-records = rw count n; whole = rw count (length-spell c) } in
-    let s : readRecords 0 (records c) [] (spell c) ≡ taken (operand clause c ∷ []) =
-    rw (add-zero, append-nil) at (reads-tree clause c (r, e) 0 0 [] []) in
-    rw (good-length (spell c) .1 w, count, s)
-
-pub spells-taken : (l : List ℕ) (c : Clause) → Spells l c → read l ≡ taken c
-spells-taken l c s = rw (s .bytes) (spelled-taken c (s .few-records) (s .in-range) (s .empty-free))
+    record { some-records = rw count (s .some-records); few-records = rw count (s .few-records); whole = rw count (length-spell c) } in
+    let stack : readRecords 0 (records c) [] (spell c) ≡ taken (operand clause c ∷ []) =
+    rw (add-zero, append-nil) at (reads-tree clause c (s .in-range, s .empty-free) 0 0 [] []) in
+    rw (s .bytes, good-length (spell c) .1 w, count, stack)
 
 pub taken-iff : (l : List ℕ) (c : Clause) → (read l ≡ taken c) ↔ Spells l c
 taken-iff l c = (taken-spells l c, spells-taken l c)

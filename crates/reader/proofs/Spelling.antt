@@ -33,7 +33,7 @@ All P (s ∷ ss) ts = P s (ts .0) × All P ss (ts .1)
 
 -- ---- a record
 
-pub length-record : (r : Record) → length (spellRecord r) ≡ recordBytes
+length-record : (r : Record) → length (spellRecord r) ≡ recordBytes
 unfolding spellRecord
 length-record r = refl
 
@@ -153,9 +153,6 @@ length-spellTrees (s ∷ ss) ts = rw (length-append, length-tree, length-spellTr
 
 pub length-spell : (c : Clause) → length (spell c) ≡ recordBytes * records c
 length-spell = length-tree clause
-
-pub length-expression : (e : Expression) → length (spellExpression e) ≡ recordBytes * expressionRecords e
-length-expression = length-tree expression
 
 pub some-records : (c : Clause) → 1 ≤ records c
 some-records = on-tree (λ s t. 1 ≤ treeRecords s t) (λ k f u ts h. rw records-node (omega arith)) clause

@@ -47,7 +47,7 @@ after-none l n h =
     }
 
 -- a code written under those that stay
-pub replaced : (stack : List ℕ) (top m c : ℕ) → 1 ≤ top + m → top + m ≤ length stack
+replaced : (stack : List ℕ) (top m c : ℕ) → 1 ≤ top + m → top + m ≤ length stack
     → drop (top + m - 1) (set stack (top + m - 1) c) ≡ c ∷ drop m (drop top stack)
 replaced stack top m c h i =
     let at : ℕ = top + m - 1 in
@@ -56,10 +56,10 @@ replaced stack top m c h i =
     rw (split, drop-at (take at stack) (c ∷ drop (suc at) stack) at (length-take-le at stack (omega arith)), e, drop-drop)
 
 module _ {l : List ℕ} {n : ℕ} {stack : List ℕ} {top k : ℕ} (r : StackAfter l n stack top k) where
-  pub code-at : (i : ℕ) → getD stack (top + i) 0 ≡ codeAt (r .operands) i
+  code-at : (i : ℕ) → getD stack (top + i) 0 ≡ codeAt (r .operands) i
   code-at i = sym (getD-drop top stack i 0) ∙ ap (λ (cs : List ℕ). getD cs i 0) (r .codes)
 
-  pub operand-count : length (r .operands) ≡ maxRecords - top
+  operand-count : length (r .operands) ≡ maxRecords - top
   operand-count = sym (length-map (r .operands) codeOf) ∙ ap length (sym (r .codes)) ∙ length-drop top stack ∙ ap (λ (m : ℕ). m - top) (sym (r .sized))
 
   module _ (h : k < n) where
@@ -109,7 +109,7 @@ module _ {l : List ℕ} {n : ℕ} {stack : List ℕ} {top k : ℕ} (r : StackAft
         )
 
   module _ (h : n ≤ k) where
-    pub read-all : readRecords 0 n [] l ≡ taken (r .operands)
+    read-all : readRecords 0 n [] l ≡ taken (r .operands)
     unfolding readRecords
     read-all =
         let e : n - k ≡ 0 = omega arith in
