@@ -10,7 +10,7 @@ use mathlib.Core.Option.{Option, none, some}
 use lib.Dec.{eqb, leb}
 use lib.ListN.{length, drop, getD}
 use lib.Seq.{drop-drop, getD-drop}
-use borrow.Author.Tests.{leb-true}
+use borrow.Author.Tests.{ne-eqb, leb-true}
 use Rattle.records.specs.Marks.{contractMark, marked}
 use Rattle.records.proofs.Marks.{marked-drop}
 use Rattle.contract.specs.Expressions.{holdsEmpty}
@@ -19,8 +19,7 @@ use Rattle.records.specs.Refusals.{require}
 use Rattle.records.specs.declared.Fault.the-variants.{BadMark, UnknownKind, BadField, BadOperands, NotOneClause, EmptyList}
 use Rattle.reader.specs.declared.Lookup.the-variants.{Found}
 use Rattle.reader.specs.declared.Step.{Step}
-use Rattle.reader.specs.declared.Step.the-variants.{Completed}
-use Rattle.records.specs.declared.Test.the-variants.{Passed, Refused}
+use Rattle.reader.specs.declared.Step.the-variants.{Refused, Completed}
 use Rattle.reader.specs.Table.{Sort, clause, expression, Kind, kindOf, line, duty, ban, power, both, then, repair, repeat, when, until, any, tries, idle, succeeds, fails, seq, or, star}
 use Rattle.reader.specs.Trees.{Trees, Fields, goodFields, node}
 use Rattle.reader.specs.Reader.{Result, refused, taken, provided, demand, kindAt, fieldsAt, Operand, operand, oneMore, below, operandsOf, holdsEmptyUnder, push, readRecord, justOne, testOf}
@@ -137,22 +136,22 @@ Pushed k st l m c = Replaced st (readRecord k st l) m c
 
 -- a result on trees at record k is that of a step on codes
 abbrev Agrees : ℕ → List Operand → Result (List Operand) → Step → Type 0
-Agrees k st r (Step.Refused f) = r ≡ refused f k
+Agrees k st r (Refused f) = r ≡ refused f k
 Agrees k st r (Completed m c) = Replaced st r m c
 
 module _ (k : ℕ) (st : List Operand) where
   agrees-require : (ok : Bool) (f : Fault) (r : Result (List Operand)) (s : Step) → Agrees k st r s
-      → Agrees k st (provided (require ok f k) r) (cond ok s (Step.Refused f))
+      → Agrees k st (provided (require ok f k) r) (cond ok s (Refused f))
   agrees-require true f r s h = h
   agrees-require false f r s h = refl
 
   agrees-unless : (t : Bool) (f : Fault) (r : Result (List Operand)) (s : Step) → Agrees k st r s
-      → Agrees k st (provided (require (not t) f k) r) (cond t (Step.Refused f) s)
+      → Agrees k st (provided (require (not t) f k) r) (cond t (Refused f) s)
   agrees-unless true f r s h = refl
   agrees-unless false f r s h = h
 
   agrees-demand : {A : Type 0} (o : Option A) (f : Fault) (g : A → Result (List Operand)) (s : Step)
-      → ((x : A) → o ≡ some x → Agrees k st (g x) s) → Agrees k st (demand o f k g) (cond (present o) s (Step.Refused f))
+      → ((x : A) → o ≡ some x → Agrees k st (g x) s) → Agrees k st (demand o f k g) (cond (present o) s (Refused f))
   agrees-demand none f g s each = refl
   agrees-demand (some x) f g s each = each x refl
 
@@ -166,7 +165,7 @@ module _ (k : ℕ) (st : List Operand) where
 agrees-push : (k : ℕ) (K : Kind) (f : Fields) (ts : Trees (line K .operands)) (rest : List Operand)
     → let st = onto (line K .operands) ts rest in
     Agrees k st (push k (line K .completes) (node K f ts) rest)
-    (cond (emptyUnder (line K .number) (codeAt st 1) (codeAt st 0)) (Step.Refused EmptyList)
+    (cond (emptyUnder (line K .number) (codeAt st 1) (codeAt st 0)) (Refused EmptyList)
     (Completed (length (line K .operands)) (completed (line K .number) (codeAt st 1) (codeAt st 0))))
 agrees-push k K f ts rest =
     let st = onto (line K .operands) ts rest in
@@ -199,7 +198,7 @@ pub step-drop : (l : List ℕ) (at b t : ℕ) → stepOf l at b t ≡ stepOf (dr
 unfolding stepOf
 step-drop l at b t = rw (marked-drop l at contractMark) (simp getD-drop)
 
-pub step-refused : (k : ℕ) (st : List Operand) (l : List ℕ) (f : Fault) → stepOf l 0 (codeAt st 1) (codeAt st 0) ≡ Step.Refused f → readRecord k st l ≡ refused f k
+pub step-refused : (k : ℕ) (st : List Operand) (l : List ℕ) (f : Fault) → stepOf l 0 (codeAt st 1) (codeAt st 0) ≡ Refused f → readRecord k st l ≡ refused f k
 step-refused k st l f e = subst (Agrees k st (readRecord k st l)) e (agrees k st l)
 
 pub step-completed : (k : ℕ) (st : List Operand) (l : List ℕ) (m c : ℕ) → stepOf l 0 (codeAt st 1) (codeAt st 0) ≡ Completed m c → Pushed k st l m c
@@ -207,23 +206,13 @@ step-completed k st l m c e = subst (Agrees k st (readRecord k st l)) e (agrees 
 
 -- ---- 6
 
-not-clause-code : (empty : Bool) → ¬ (expressionCode empty ≡ sortNumber clause)
-not-clause-code true e = omega arith
-not-clause-code false e = omega arith
+expression-code : (empty : Bool) → eqb (expressionCode empty) (sortNumber clause) ≡ false
+expression-code true = refl
+expression-code false = refl
 
-pub one-clause : (n : ℕ) (st : List Operand) → length st ≡ 1 → codeAt st 0 ≡ sortNumber clause → testOf (justOne n st) ≡ Passed
-one-clause n [] h i = absurd (omega arith)
-one-clause n (operand clause c ∷ []) h i = refl
-one-clause n (operand expression e ∷ []) h i = absurd (not-clause-code (holdsEmpty e) i)
-one-clause n (o ∷ p ∷ st) h i = absurd (omega arith)
-
-pub not-one : (n : ℕ) (st : List Operand) → ¬ (length st ≡ 1) → testOf (justOne n st) ≡ Refused NotOneClause n
-not-one n [] h = refl
-not-one n (o ∷ []) h = absurd (h refl)
-not-one n (o ∷ p ∷ st) h = refl
-
-pub not-clause : (n : ℕ) (st : List Operand) → length st ≡ 1 → ¬ (codeAt st 0 ≡ sortNumber clause) → testOf (justOne n st) ≡ Refused NotOneClause n
-not-clause n [] h i = absurd (omega arith)
-not-clause n (operand clause c ∷ []) h i = absurd (i refl)
-not-clause n (operand expression e ∷ []) h i = refl
-not-clause n (o ∷ p ∷ st) h i = absurd (omega arith)
+pub end-test : (n : ℕ) (st : List Operand)
+    → testOf (justOne n st) ≡ require (eqb (length st) 1 && eqb (codeAt st 0) (sortNumber clause)) NotOneClause n
+end-test n [] = refl
+end-test n (operand clause c ∷ []) = refl
+end-test n (operand expression e ∷ []) = rw (expression-code (holdsEmpty e))
+end-test n (o ∷ p ∷ st) = rw (ne-eqb (length (o ∷ p ∷ st)) 1 (λ e. omega arith))

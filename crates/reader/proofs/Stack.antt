@@ -4,23 +4,22 @@ use Prim.Native.Nat.{ℕ, suc, _+_, _*_, _-_, _≤_, _<_}
 use native.Mathlib.Nat.{add-zero, sub-zero}
 use native.Mathlib.Numerals.{add-one}
 use native.Mathlib.Omega.{arith}
-use mathlib.Core.Bool.{true, false, not}
+use mathlib.Core.Bool.{_&&_}
 use mathlib.Core.List.{List, [], _∷_, _++_, map}
 use mathlib.Core.Path.{_≡_, refl, sym, ap, _∙_}
-use borrow.Author.Tests.{not-true, not-false, eqb-true, eqb-false}
 use lib.Dec.{eqb}
 use lib.ListN.{length, take, drop, getD, set, replicate, length-set, length-drop, length-map}
 use lib.Seq.{getD-drop, drop-drop, drop-at, set-split, length-take-le}
 use Rattle.records.specs.declared.Fault.{Fault}
-use Rattle.records.specs.declared.Test.the-variants.{Passed, Refused}
+use Rattle.records.specs.Refusals.{require}
 use Rattle.records.specs.declared.Fault.the-variants.{NotOneClause}
 use Rattle.reader.specs.declared.Step.{Step}
-use Rattle.reader.specs.declared.Step.the-variants.{Completed}
+use Rattle.reader.specs.declared.Step.the-variants.{Refused, Completed}
 use Rattle.reader.specs.Limits.{maxRecords, recordBytes}
 use Rattle.reader.specs.Table.{clause}
 use Rattle.reader.specs.Reader.{Operand, refused, taken, next, readRecord, readRecords, justOne, testOf}
 use Rattle.reader.specs.Codes.{sortNumber, codeOf, codeAt, stepOf}
-use Rattle.reader.proofs.Codes.{Pushed, step-drop, step-refused, step-completed, one-clause, not-one, not-clause}
+use Rattle.reader.proofs.Codes.{Pushed, step-drop, step-refused, step-completed, end-test}
 
 -- after k of n records
 pub record StackAfter (l : List ℕ) (n : ℕ) (stack : List ℕ) (top k : ℕ) : Type 0 where
@@ -78,7 +77,7 @@ module _ {l : List ℕ} {n : ℕ} {stack : List ℕ} {top k : ℕ} (r : StackAft
         → stepOf here 0 (codeAt (r .operands) 1) (codeAt (r .operands) 0) ≡ s
     step e = rw (← code-at 1, ← code-at 0, add-zero, ← step-drop) e
 
-    pub read-refused : (f : Fault) → stepOf l (recordBytes * k) (getD stack (top + 1) 0) (getD stack top 0) ≡ Step.Refused f → readRecords 0 n [] l ≡ refused f k
+    pub read-refused : (f : Fault) → stepOf l (recordBytes * k) (getD stack (top + 1) 0) (getD stack top 0) ≡ Refused f → readRecords 0 n [] l ≡ refused f k
     read-refused f e =
         let bad : readRecord k (r .operands) here ≡ refused f k = step-refused k (r .operands) here f (step e) in
         sym (r .same) ∙ unrolled ∙ ap (λ x. next x (λ st. readRecords (suc k) (n - suc k) st (drop recordBytes here))) bad
@@ -116,25 +115,8 @@ module _ {l : List ℕ} {n : ℕ} {stack : List ℕ} {top k : ℕ} (r : StackAft
         sym (r .same) ∙ ap (λ m. readRecords k m (r .operands) (drop (recordBytes * k) l)) e
 
     -- 6, by the codes
-    ended : testOf (next (readRecords 0 n [] l) (justOne n)) ≡ testOf (justOne n (r .operands))
-    ended = rw read-all
-
-    one : top ≡ maxRecords - 1 → length (r .operands) ≡ 1
-    one e = operand-count ∙ ap (λ (t : ℕ). maxRecords - t) e
-
-    code : getD stack top 0 ≡ codeAt (r .operands) 0
-    code = rw add-zero at (code-at 0)
-
-    pub ends-taken : top ≡ maxRecords - 1 → not (eqb (getD stack top 0) (sortNumber clause)) ≡ false → testOf (next (readRecords 0 n [] l) (justOne n)) ≡ Passed
-    ends-taken e c =
-        ended ∙ one-clause n (r .operands) (one e) (sym code ∙ eqb-true (getD stack top 0) (sortNumber clause) (not-false _ c))
-
-    pub ends-many : ¬ (top ≡ maxRecords - 1) → testOf (next (readRecords 0 n [] l) (justOne n)) ≡ Refused NotOneClause n
-    ends-many e =
-        let count : length (r .operands) ≡ maxRecords - top = operand-count in
-        ended ∙ not-one n (r .operands) (λ i. e (omega (arith, r .inside)))
-
-    pub ends-unmet : top ≡ maxRecords - 1 → not (eqb (getD stack top 0) (sortNumber clause)) ≡ true
-        → testOf (next (readRecords 0 n [] l) (justOne n)) ≡ Refused NotOneClause n
-    ends-unmet e c =
-        ended ∙ not-clause n (r .operands) (one e) (λ i. eqb-false (getD stack top 0) (sortNumber clause) (not-true _ c) (code ∙ i))
+    pub ended : testOf (next (readRecords 0 n [] l) (justOne n))
+        ≡ require (eqb (maxRecords - top) 1 && eqb (getD stack top 0) (sortNumber clause)) NotOneClause n
+    ended =
+        let code : getD stack top 0 ≡ codeAt (r .operands) 0 = rw add-zero at (code-at 0) in
+        rw (read-all, end-test n (r .operands), operand-count, code)

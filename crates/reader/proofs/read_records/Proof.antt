@@ -1,13 +1,17 @@
 -- `reader::read_records` meets its contract. The loop's invariant: the stack has the codes of the operands that the records so far leave.
 use borrow.Author.Needs.{needs}
+use borrow.Author.Tests.{eq-eqb, ne-eqb, not-true, not-false}
 use Prim.Native.Nat.{_+_, _*_, _≤_, _-_}
 use native.Mathlib.Omega.{arith}
+use mathlib.Core.Bool.{true, false}
 use mathlib.Core.Path.{_≡_, sym, _∙_}
 use mathlib.Core.Logic.{⊎-elim}
+use lib.Dec.{eqb}
 use lib.ListN.{getD, set}
 use Rattle.reader.specs.Limits.{maxRecords, recordBytes}
-use Rattle.reader.specs.Codes.{stepOf}
-use Rattle.reader.proofs.Stack.{StackAfter, after-none, read-refused, read-pushed, ends-taken, ends-many, ends-unmet}
+use Rattle.reader.specs.Table.{clause}
+use Rattle.reader.specs.Codes.{sortNumber, stepOf}
+use Rattle.reader.proofs.Stack.{StackAfter, after-none, read-refused, read-pushed, ended}
 use Rattle.reader.proofs.read_records.Statement.{statement}
 use Rattle.reader.proofs.read_records.Tie as tie
 use Rattle.reader.proofs.read_records.Reads as reads
@@ -128,15 +132,24 @@ array-read-if2 c =
 returns-2 : tie.Need-returns-2 Inv-loop μ-loop
 returns-2 c =
     let a = c .before in
-    ⊎-elim
-    (λ w. sym (ends-many (a .before .loop .inv) (a .loop-test .left) (w .taken)))
-    (λ w. sym (ends-unmet (a .before .loop .inv) (a .loop-test .left) (w .0 .left) (w .1 .taken)))
-    (c .if1 .came)
+    let v = a .before .loop in
+    let i = v .inv .inside in
+    rw (ended (v .inv) (a .loop-test .left))
+    (⊎-elim
+    (λ w. rw (ne-eqb (maxRecords - v .top) 1 (λ e. w .taken (omega arith))))
+    (λ w.
+    let e = w .0 .left in
+    let not-clause : eqb (getD (v .stack) (v .top) 0) (sortNumber clause) ≡ false = not-true _ (w .1 .taken) in
+    rw (eq-eqb (maxRecords - v .top) 1 (omega arith), not-clause))
+    (c .if1 .came))
 
 returns-3 : tie.Need-returns-3 Inv-loop μ-loop
 returns-3 c =
     let a = c .before .before in
-    sym (ends-taken (a .before .loop .inv) (a .loop-test .left) (c .before .if1 .left) (c .if2 .left))
+    let v = a .before .loop in
+    let e = c .before .if1 .left in
+    let is-clause : eqb (getD (v .stack) (v .top) 0) (sortNumber clause) ≡ true = not-false _ (c .if2 .left) in
+    rw (ended (v .inv) (a .loop-test .left), eq-eqb (maxRecords - v .top) 1 (omega arith), is-clause)
 
 pub read-records-spec : {M : Type 1} → statement M
 read-records-spec =
