@@ -2,7 +2,7 @@
 use Prim.Native.Nat.{ℕ, zero, suc, _+_, _*_, _/_, _%_, _≤_}
 use native.Mathlib.Nat.{add-zero, add-assoc, zero-add}
 use native.Mathlib.Omega.{arith}
-use mathlib.Core.Bool.{Bool, true, false, _&&_, and-eq-true-iff}
+use mathlib.Core.Bool.{true, false, _&&_, and-eq-true-iff}
 use mathlib.Core.List.{List, [], _∷_, _++_, append-nil, append-assoc}
 use mathlib.Core.Logic.{_↔_}
 use mathlib.Core.Path.{_≡_, refl, sym, ap, _∙_}
@@ -89,13 +89,6 @@ good-length l = (there, back)
         let e : length l ≡ recordBytes * (length l / recordBytes) = w .whole in
         let f = le-leb (length l) (recordBytes * maxRecords) (omega (arith, w .few-records)) in
         rw (lt-ltb 0 (length l) (omega (arith, w .some-records)), eq-eqb (length l % recordBytes) 0 (omega arith), f)
-
-pub not-whole : (l : List ℕ) → ¬ WholeRecords l → goodContractLength l ≡ false
-not-whole l n = go (goodContractLength l) refl
-  where
-    go : (t : Bool) → goodContractLength l ≡ t → t ≡ false
-    go true e = absurd (n (good-length l .0 e))
-    go false e = refl
 
 -- ---- what is taken spells its clause
 
