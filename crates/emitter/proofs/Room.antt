@@ -248,7 +248,7 @@ module _ {contract : List ℕ} {n : ℕ} {image : List ℕ} {b S K : ℕ} (e : E
 
     pub record-rows : {later : List ℕ} {left right : Block} → Written contract (n - 1) count image (b + p .before) S (wiresOf p b S K) later left right
         → length later ≡ length image → (r .party < 256) × (r .action < 256)
-        → RecordRows later p b (left .next) (basesOf b S K left right (r .party) (r .action))
+        → RecordRows (length later) p b (left .next) (basesOf b S K left right (r .party) (r .action))
     record-rows {later} {left} {right} w l small-fields =
         let o = opened in
         let d = w .placed (o .before) (line (o .k) .operands) (o .ts) (o .is .count-is) (o .operands .ends) in

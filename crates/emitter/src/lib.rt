@@ -392,7 +392,7 @@ fn value_at(bases: &[u32; 16], x: u8) -> u32
 
 // Writes `count` rows of a table, from its row `from` on.
 fn put_from(image: &mut [u8], at: u32, bases: &[u32; 16], table: &[u32], from: u8, count: u8)
-    requires { ⌜ RoomFrom (now image) at (now bases) (length (now table)) from count ⌝ }
+    requires { ⌜ RoomFrom (length (now image)) at (now bases) (length (now table)) from count ⌝ }
     ensures { λ _. ⌜ now (image .exit) ≡ writtenRows (now (image .entry)) at (tableRows (now (bases .entry)) (map unpacked (now (table .entry))) from count) ⌝ }
 {
     let mut j = 0;
@@ -411,7 +411,7 @@ fn put_from(image: &mut [u8], at: u32, bases: &[u32; 16], table: &[u32], from: u
 
 // The same from the first table, and from the second: a function for each, so that only one of the two is laid on the stack.
 fn put_leaf_rows(image: &mut [u8], at: u32, bases: &[u32; 16], from: u8, count: u8)
-    requires { ⌜ RoomFrom (now image) at (now bases) (length leafRows) from count ⌝ }
+    requires { ⌜ RoomFrom (length (now image)) at (now bases) (length leafRows) from count ⌝ }
     ensures { λ _. ⌜ now (image .exit) ≡ writtenRows (now (image .entry)) at (tableRows (now (bases .entry)) leafRows from count) ⌝ }
 {
     let table = LEAF_ROWS;
@@ -419,7 +419,7 @@ fn put_leaf_rows(image: &mut [u8], at: u32, bases: &[u32; 16], from: u8, count: 
 }
 
 fn put_node_rows(image: &mut [u8], at: u32, bases: &[u32; 16], from: u8, count: u8)
-    requires { ⌜ RoomFrom (now image) at (now bases) (length nodeRows) from count ⌝ }
+    requires { ⌜ RoomFrom (length (now image)) at (now bases) (length nodeRows) from count ⌝ }
     ensures { λ _. ⌜ now (image .exit) ≡ writtenRows (now (image .entry)) at (tableRows (now (bases .entry)) nodeRows from count) ⌝ }
 {
     let table = NODE_ROWS;
@@ -428,7 +428,7 @@ fn put_node_rows(image: &mut [u8], at: u32, bases: &[u32; 16], from: u8, count: 
 
 // Writes `count` of a record's own rows, from row `from` on, counted over both tables.
 fn put_rows(image: &mut [u8], at: u32, bases: &[u32; 16], from: u8, count: u8)
-    requires { ⌜ RoomForRows (now image) at (now bases) from count ⌝ }
+    requires { ⌜ RoomForRows (length (now image)) at (now bases) from count ⌝ }
     ensures { λ _. ⌜ now (image .exit) ≡ writtenRows (now (image .entry)) at (tableRows (now (bases .entry)) rowTable from count) ⌝ }
 {
     if count == 0 {
@@ -443,7 +443,7 @@ fn put_rows(image: &mut [u8], at: u32, bases: &[u32; 16], from: u8, count: u8)
 
 // Writes a record's own rows: those from row `at` on, and those from row `next` on, after the operands' rows.
 fn put_own(image: &mut [u8], plan: Plan, at: u32, next: u32, bases: &[u32; 16])
-    requires { ⌜ RecordRows (now image) plan at next (now bases) ⌝ }
+    requires { ⌜ RecordRows (length (now image)) plan at next (now bases) ⌝ }
     ensures { λ _. ⌜ now (image .exit) ≡ recordWritten (now (image .entry)) (now (bases .entry)) plan at next ⌝ }
 {
     put_rows(image, at, bases, plan.from, plan.before);
@@ -483,7 +483,7 @@ fn put_record(
     left: Block,
     right: Block,
 ) -> Block
-    requires { ⌜ RecordRows (now image) plan at (left .next) (basesOf at s k left right (r .party) (r .action)) ⌝ }
+    requires { ⌜ RecordRows (length (now image)) plan at (left .next) (basesOf at s k left right (r .party) (r .action)) ⌝ }
     ensures written { λ _. ⌜ now (image .exit) ≡ recordWritten (now (image .entry)) (basesOf at s k left right (r .party) (r .action)) plan at (left .next) ⌝ }
     ensures gives { λ b. ⌜ b ≡ recordBlock (basesOf at s k left right (r .party) (r .action)) plan (r .kind) (r .party) left right ⌝ }
 {

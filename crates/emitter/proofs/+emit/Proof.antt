@@ -80,7 +80,7 @@ module _ (t : ℕ) where
       → let a = p .before .before .before .before .before .before .args in
       let r = p .before .before .before .last-record .result in
       length later ≡ length (a .image .now)
-      → RecordRows later (p .before .before .plan-of .result) (a .at) (left .next) (basesOf (a .at) (a .s) (a .k) left right (r .party) (r .action))
+      → RecordRows (length later) (p .before .before .plan-of .result) (a .at) (left .next) (basesOf (a .at) (a .s) (a .k) left right (r .party) (r .action))
   rows-at p w l =
       let bytes = p .before .before .before .last-record .ok in
       record-rows (p .before .before .before .before .before .before .pre .1) (reads p) w l (omega arith, omega arith)
