@@ -45,7 +45,7 @@ after-none l n h =
       same = rw sub-zero;
     }
 
--- a code written under those that stay
+-- a code written in place of the m on top
 replaced : (stack : List ℕ) (top m c : ℕ) → 1 ≤ top + m → top + m ≤ length stack
     → drop (top + m - 1) (set stack (top + m - 1) c) ≡ c ∷ drop m (drop top stack)
 replaced stack top m c h i =

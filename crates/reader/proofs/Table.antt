@@ -1,5 +1,5 @@
 -- The table by its numbers: each kind is the kind of its own number, which numbers are a kind's, and what the program's table has at each.
-use Prim.Native.Nat.{ℕ, zero, suc, _+_, _-_, _≤_, _<_}
+use Prim.Native.Nat.{ℕ, zero, suc, _-_, _≤_, _<_}
 use native.Mathlib.Omega.{arith}
 use mathlib.Core.Path.{_≡_, refl, sym, ap, _∙_, subst}
 use mathlib.Core.Logic.{⊎-elim}
@@ -9,7 +9,9 @@ use mathlib.Core.Option.{Option, none, some}
 use lib.Dec.{eqb, ltb, leb}
 use lib.ListN.{length, getD, List·getD-map}
 use borrow.Author.Tests.{eqb-true, lt-ltb, le-leb}
+use Rattle.records.specs.Refusals.{firstFailing}
 use Rattle.records.proofs.Cases.{lt-or-le}
+use Rattle.records.proofs.Searches.{failing-below}
 use Rattle.reader.specs.declared.Entry.{Entry}
 use Rattle.reader.specs.declared.Lookup.the-variants.{Found, Unknown}
 use Rattle.reader.specs.Table.{Kind, kinds, firstNumbered, kindOf, line, duty, ban, power, both, then, repair, repeat, when, until, any, tries, idle, succeeds, fails, seq, or, star}
@@ -70,20 +72,6 @@ number-kind n k h = subst (Passes (λ j. true) n) h (first-passes (λ j. true) n
 
 -- ---- the kinds of the numbers
 
--- true of each of so many numbers from i on
-abbrev From : (ℕ → Type 0) → (i count : ℕ) → Type 0
-From P i zero = Unit {0}
-From P i (suc m) = P i × From P (suc i) m
-
-infixr 5 _and_
-abbrev _and_ : {A B : Type 0} → A → B → A × B
-a and b = (a, b)
-
-at : (P : ℕ → Type 0) (i m : ℕ) → From P i m → (n : ℕ) → i ≤ n → n < i + m → P n
-at P i zero all n h l = absurd (omega arith)
-at P i (suc m) all n h l =
-    ⊎-elim (λ s. let e : i ≡ n = omega arith in subst P e (all .0)) (λ s. at P (suc i) m (all .1) n s (omega arith)) (lt-or-le n (suc i))
-
 -- the numbers that are a kind's, and its place among the kinds
 abbrev pub OfClause : ℕ → Type 0
 OfClause n = (line duty .number ≤ n) × (n ≤ line until .number)
@@ -97,19 +85,20 @@ clausePlace n = n - line duty .number
 abbrev pub expressionPlace : ℕ → ℕ
 expressionPlace n = n - (line any .number - line until .number)
 
+abbrev hasNumber : (place : ℕ → ℕ) → ℕ → Bool
+hasNumber place n = eqb (line (getD kinds (place n) duty) .number) n
+
+kind-at : (place : ℕ → ℕ) (a count n : ℕ) → a ≤ n → n < firstFailing (hasNumber place) a count → kindOf n ≡ some (getD kinds (place n) duty)
+kind-at place a count n h l =
+    ap kindOf (sym (eqb-true _ n (failing-below (hasNumber place) a count n h l))) ∙ kind-number (getD kinds (place n) duty)
+
 pub clause-kind : (n : ℕ) → OfClause n → kindOf n ≡ some (getD kinds (clausePlace n) duty)
-unfolding kindOf firstNumbered
-clause-kind n h =
-    at (λ n. kindOf n ≡ some (getD kinds (clausePlace n) duty)) (line duty .number) 9
-    (refl and refl and refl and refl and refl and refl and refl and refl and refl and tt)
-    n (h .0) (omega arith)
+unfolding firstFailing
+clause-kind n h = kind-at clausePlace (line duty .number) 9 n (h .0) (omega arith)
 
 pub expression-kind : (n : ℕ) → OfExpression n → kindOf n ≡ some (getD kinds (expressionPlace n) duty)
-unfolding kindOf firstNumbered
-expression-kind n h =
-    at (λ n. kindOf n ≡ some (getD kinds (expressionPlace n) duty)) (line any .number) 8
-    (refl and refl and refl and refl and refl and refl and refl and refl and tt)
-    n (h .0) (omega arith)
+unfolding firstFailing
+expression-kind n h = kind-at expressionPlace (line any .number) 8 n (h .0) (omega arith)
 
 -- no kind has a number from a on and below b
 none-between : (a b n : ℕ) → every (λ K. not (leb a (line K .number) && ltb (line K .number) b)) kinds ≡ true → a ≤ n → n < b

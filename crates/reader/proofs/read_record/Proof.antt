@@ -1,4 +1,4 @@
--- `reader::read_record` meets its contract: each way out makes the tests that led to it.
+-- `reader::read_record` meets its contract: each way out by the tests that led to it.
 use borrow.Author.Needs.{needs}
 use borrow.Author.Tests.{not-true, not-false}
 use mathlib.Core.Path.{sym, _∙_}
