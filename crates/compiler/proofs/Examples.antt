@@ -5,7 +5,7 @@ use Rattle.records.specs.Marks.{marked}
 use Rattle.records.specs.Replies.{fieldsBytes, call}
 use Rattle.layout.specs.Rows.{encode}
 use Rattle.layout.specs.Images.{imageBytes, rowsBytes, endBytes, rowCount}
-use Rattle.reader.specs.Table.{numbered, kindOf}
+use Rattle.reader.specs.Table.{firstNumbered, kindOf}
 use Rattle.reader.specs.Trees.{goodFields, node}
 use Rattle.reader.specs.Reader as Reader
 use Rattle.reader.specs.Reader.{operandsOf, readRecord, readRecords, read, readTest}
@@ -17,6 +17,6 @@ use Rattle.compiler.specs.Calls.{compile}
 
 pub compile-vectors : CompileVectors
 unfolding
-    compile compileTest call fieldsBytes readTest read Reader.goodContractLength Reader.contractRecords readRecords readRecord numbered kindOf goodFields operandsOf node imageFor image
+    compile compileTest call fieldsBytes readTest read Reader.goodContractLength Reader.contractRecords readRecords readRecord firstNumbered kindOf goodFields operandsOf node imageFor image
     rowsFor clauseRows outputsOf imageBytes rowsBytes endBytes encode rowCount marked bytes
 compile-vectors = record { taken = refl; short = refl; clause-first = refl; no-room = refl }

@@ -15,8 +15,7 @@ use Rattle.records.proofs.Refusals.{first-passed, require-passed, onlyFor, only
 use Rattle.contract.specs.Meaning.{Clause}
 use Rattle.reader.specs.Limits.{maxRecords}
 use Rattle.reader.specs.Reader.{taken, read, contractRecords, readTest}
-use Rattle.reader.proofs.Places.{readFaults, read-only}
-use Rattle.reader.proofs.Answers.{test-passed}
+use Rattle.reader.proofs.Answers.{test-passed, readFaults, read-only}
 use Rattle.image.specs.Limits.{bufferBytes}
 use Rattle.emitter.specs.Premises.{Writes}
 use Rattle.compiler.specs.Refusals.{compileTest}

@@ -13,7 +13,7 @@ use Rattle.reader.proofs.Table.{kind-number}
 use Rattle.reader.proofs.Codes.{few-operands}
 use Rattle.reader.proofs.Fields.{recordOf}
 use Rattle.image.specs.Widths.{operandsFrom}
-use Rattle.emitter.specs.declared.RecordBytes.{RecordBytes}
+use Rattle.emitter.specs.declared.RecordBody.{RecordBody}
 use Rattle.emitter.specs.declared.Block.{Block}
 use Rattle.emitter.specs.declared.Plan.{Plan}
 use Rattle.emitter.specs.declared.Wires.{Wires}
@@ -23,7 +23,7 @@ use Rattle.emitter.specs.Blocks.{lastRecord, recordFrom, noBlock, basesO
 use Rattle.emitter.proofs.Writing.{written-none, written-after, written-around}
 use Rattle.emitter.proofs.Plans.{leftBlock, rightBlock, operandRows, nodeBases, rows-node, block-node, after-tree}
 use Rattle.emitter.proofs.Tables.{inside-is, length-kindRows}
-use Rattle.emitter.proofs.Operands.{View, view, seen, bytesOf, Last, ends-last, OperandsEnd, ends-operands}
+use Rattle.emitter.proofs.Operands.{View, view, seen, bodyOf, Last, ends-last, OperandsEnd, ends-operands}
 
 -- ---- the operands' rows
 
@@ -85,14 +85,14 @@ module _ {contract : List ℕ} {last : ℕ} {image : List ℕ} {b S : ℕ} {w : 
 -- ---- what the program knows of the last record
 
 -- its bytes, its plan and how many operands it has
-pub record RecordRead (contract : List ℕ) (n : ℕ) (r : RecordBytes) (count : ℕ) (p : Plan) : Type 0 where
-  pub bytes-are : r ≡ lastRecord contract n
+pub record RecordRead (contract : List ℕ) (n : ℕ) (r : RecordBody) (count : ℕ) (p : Plan) : Type 0 where
+  pub body-is : r ≡ lastRecord contract n
   pub plan-is : (k : Kind) → kindOf (r .kind) ≡ some k → p ≡ planOf (recordFrom k r)
   pub count-is : count ≡ operandCount (kindOf (r .kind))
 
 -- the same where it is this record
-pub record Known (own : Record) (r : RecordBytes) (count : ℕ) (p : Plan) : Type 0 where
-  pub bytes-are : r ≡ bytesOf own
+pub record Known (own : Record) (r : RecordBody) (count : ℕ) (p : Plan) : Type 0 where
+  pub body-is : r ≡ bodyOf own
   pub plan-is : p ≡ planOf own
   pub count-is : length (line (own .kind) .operands) ≡ count
 
@@ -106,14 +106,14 @@ next-left (s ∷ s′ ∷ []) ts m b S w h =
     (omega (arith, after-tree s′ (ts .1 .0) b (w .start) (w .go), after-tree s (ts .0) (afterTree s′ (ts .1 .0) b) S (w .keep)))
 next-left (s ∷ s′ ∷ s″ ∷ ss) ts m b S w h = absurd (omega arith)
 
-module _ {contract : List ℕ} {n : ℕ} {r : RecordBytes} {count : ℕ} {p : Plan} (reads : RecordRead contract n r count p) where
+module _ {contract : List ℕ} {n : ℕ} {r : RecordBody} {count : ℕ} {p : Plan} (reads : RecordRead contract n r count p) where
   pub known : (own : Record) → Last contract n own → Known own r count p
   known own l =
-      let e : r ≡ bytesOf own = reads .bytes-are ∙ l .is in
+      let e : r ≡ bodyOf own = reads .body-is ∙ l .is in
       let j : kindOf (r .kind) ≡ some (own .kind) = rw e (kind-number (own .kind)) in
       record {
-        bytes-are = e;
-        plan-is = reads .plan-is (own .kind) j ∙ ap (λ (r : RecordBytes). planOf (recordFrom (own .kind) r)) e;
+        body-is = e;
+        plan-is = reads .plan-is (own .kind) j ∙ ap (λ (r : RecordBody). planOf (recordFrom (own .kind) r)) e;
         count-is = rw (reads .count-is, j);
       }
 
@@ -140,7 +140,7 @@ module _ {contract : List ℕ} {n : ℕ} {r : RecordBytes} {count : ℕ} {p : Pl
           let i = known own (ends-last contract n m k f ts e) in
           let d = placed in
           let l = length-kindRows (nodeBases k f ts m b S K) own in
-          rw (rows, i .plan-is, i .bytes-are, d .rows-are, d .left-is, d .right-is, rows-node k f ts m b S K)
+          rw (rows, i .plan-is, i .body-is, d .rows-are, d .left-is, d .right-is, rows-node k f ts m b S K)
           (written-around image b (operandsFrom own b) _ _ _ _ (rw (l .0) (sym (inside-is own b)))
           (rw length-map (next-left (line k .operands) ts m (operandsFrom own b) S (wiresOf (planOf own) b S K) (few-operands k))))
 
@@ -148,7 +148,7 @@ module _ {contract : List ℕ} {n : ℕ} {r : RecordBytes} {count : ℕ} {p : Pl
       node-block =
           let i = known own (ends-last contract n m k f ts e) in
           let d = placed in
-          rw (gives, i .plan-is, i .bytes-are, d .left-is, d .right-is) (sym (block-node k f ts m b S K))
+          rw (gives, i .plan-is, i .body-is, d .left-is, d .right-is) (sym (block-node k f ts m b S K))
 
     pub emitted : Emitted contract n image b S K latest block
     emitted = record { tree-is = λ m s t e. at m s t (seen s t) e }

@@ -13,7 +13,7 @@ use Rattle.reader.specs.Spelling.{spellRecord, spellTree, treeRecords}
 use Rattle.reader.proofs.Codes.{few-operands}
 use Rattle.reader.proofs.Fields.{recordOf}
 use Rattle.reader.proofs.Spelling.{spellTrees, treesRecords, spell-node, records-node, length-tree, length-spellTrees, on-tree}
-use Rattle.emitter.specs.declared.RecordBytes.{RecordBytes}
+use Rattle.emitter.specs.declared.RecordBody.{RecordBody}
 use Rattle.emitter.specs.Blocks.{lastRecord, EndsWith}
 
 -- ---- every tree is a node
@@ -27,13 +27,13 @@ seen = on-tree View (λ k f u ts h. view k f ts)
 -- ---- the last record and its operands
 
 -- the bytes of a record after its mark
-abbrev pub bytesOf : Record → RecordBytes
-bytesOf r = record { kind = line (r .kind) .number; party = r .fields .party; action = r .fields .action; last = r .fields .last }
+abbrev pub bodyOf : Record → RecordBody
+bodyOf r = record { kind = line (r .kind) .number; party = r .fields .party; action = r .fields .action; last = r .fields .last }
 
 -- the last of the first n records is this one
 pub record Last (contract : List ℕ) (n : ℕ) (r : Record) : Type 0 where
   pub some-record : 1 ≤ n
-  pub is : lastRecord contract n ≡ bytesOf r
+  pub is : lastRecord contract n ≡ bodyOf r
 
 -- the first n records are m records and then those that spell these trees, of which there are at most two
 abbrev pub OperandsEnd : (contract : List ℕ) (n m : ℕ) (ss : List Sort) → Trees ss → Type 0

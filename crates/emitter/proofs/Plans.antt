@@ -53,12 +53,6 @@ clause-onto (M.repeat c) b S K xs rest = rw (← clause-onto c)
 clause-onto (M.when e c) b S K xs rest = rw (← clause-onto c, ← expression-onto e)
 clause-onto (M.until c e) b S K xs rest = rw (← expression-onto e, ← clause-onto c)
 
-pub expression-rest : (e : Expression) (b S K : ℕ) (rest : List Row) → expressionRows e b S K rest ≡ expressionRows e b S K [] ++ rest
-expression-rest e b S K rest = expression-onto e b S K [] rest
-
-pub clause-rest : (c : Clause) (b S K : ℕ) (rest : List Row) → clauseRows c b S K rest ≡ clauseRows c b S K [] ++ rest
-clause-rest c b S K rest = clause-onto c b S K [] rest
-
 -- ---- how many rows a tree has
 
 pub after-tree : (s : Sort) (t : Tree s) (b S K : ℕ) → afterTree s t b ≡ b + length (treeRows s t b S K)
@@ -101,15 +95,15 @@ equal-parts : (k : Kind) {xs ys : List RowNumbers}
     take n xs ≡ take n ys → drop n xs ≡ drop n ys → xs ≡ ys
 equal-parts k {xs} {ys} p q = let n = width (plainRecord k) .before in sym (take-append-drop n xs) ∙ rw (p, q) (take-append-drop n ys)
 
--- rows that others follow
-abbrev Followed : (List Row → List Row) → Type 0
-Followed f = (rest : List Row) → f rest ≡ f [] ++ rest
+-- its own rows stand before those that follow
+abbrev Prepends : (List Row → List Row) → Type 0
+Prepends f = (rest : List Row) → f rest ≡ f [] ++ rest
 
 -- one operand's rows, or two operands', and others after them
-one : {part : List Row → List Row} → Followed part → (after : List Row) → map numbersOf (part after) ≡ map numbersOf (part []) ++ map numbersOf after
+one : {part : List Row → List Row} → Prepends part → (after : List Row) → map numbersOf (part after) ≡ map numbersOf (part []) ++ map numbersOf after
 one p after = rw (p after, map-append)
 
-two : {right left : List Row → List Row} → Followed right → Followed left → (after : List Row)
+two : {right left : List Row → List Row} → Prepends right → Prepends left → (after : List Row)
     → map numbersOf (right (left after)) ≡ map numbersOf (right [] ++ left []) ++ map numbersOf after
 two {right} {left} r l after = rw (r (left after), l after, ← append-assoc (right []), map-append numbersOf (right [] ++ left []))
 
@@ -130,12 +124,12 @@ unfolding node clauseRows expressionRows outputsOf endRow tableRows wiresOf
 rows-node duty f ts m b S K = rw (other-number (partyNamed (f .party)))
 rows-node ban f ts m b S K = rw (other-number (partyNamed (f .party)))
 rows-node power f ts m b S K = rw (other-number (partyNamed (f .party)))
-rows-node both f ts m b S K = equal-parts both refl (two (clause-rest (ts .1 .0) _ _ _) (clause-rest (ts .0) _ _ _) _)
-rows-node then f ts m b S K = equal-parts then refl (two (clause-rest (ts .1 .0) _ _ _) (clause-rest (ts .0) _ _ _) _)
-rows-node repair f ts m b S K = equal-parts repair refl (two (clause-rest (ts .1 .0) _ _ _) (clause-rest (ts .0) _ _ _) _)
-rows-node repeat f ts m b S K = equal-parts repeat refl (one (clause-rest (ts .0) _ _ _) [])
-rows-node when f ts m b S K = equal-parts when refl (two (clause-rest (ts .1 .0) _ _ _) (expression-rest (ts .0) _ _ _) _)
-rows-node until f ts m b S K = equal-parts until refl (two (expression-rest (ts .1 .0) _ _ _) (clause-rest (ts .0) _ _ _) _)
+rows-node both f ts m b S K = equal-parts both refl (two (clause-onto (ts .1 .0) _ _ _ []) (clause-onto (ts .0) _ _ _ []) _)
+rows-node then f ts m b S K = equal-parts then refl (two (clause-onto (ts .1 .0) _ _ _ []) (clause-onto (ts .0) _ _ _ []) _)
+rows-node repair f ts m b S K = equal-parts repair refl (two (clause-onto (ts .1 .0) _ _ _ []) (clause-onto (ts .0) _ _ _ []) _)
+rows-node repeat f ts m b S K = equal-parts repeat refl (one (clause-onto (ts .0) _ _ _ []) [])
+rows-node when f ts m b S K = equal-parts when refl (two (clause-onto (ts .1 .0) _ _ _ []) (expression-onto (ts .0) _ _ _ []) _)
+rows-node until f ts m b S K = equal-parts until refl (two (expression-onto (ts .1 .0) _ _ _ []) (clause-onto (ts .0) _ _ _ []) _)
 rows-node any f ts m b S K = refl
 rows-node tries f ts m b S K = refl
 rows-node idle f ts m b S K = refl
@@ -143,9 +137,9 @@ rows-node succeeds f ts m b S K = refl
 rows-node fails f ts m b S K = refl
 rows-node seq f ts m b S K =
     rw (is-empty (holdsEmpty (ts .0)), is-empty (holdsEmpty (ts .1 .0)))
-    (equal-parts seq refl (two (expression-rest (ts .1 .0) _ _ _) (expression-rest (ts .0) _ _ _) _))
-rows-node or f ts m b S K = two (expression-rest (ts .1 .0) _ _ _) (expression-rest (ts .0) _ _ _) _
-rows-node star f ts m b S K = equal-parts star refl (one (expression-rest (ts .0) _ _ _) _)
+    (equal-parts seq refl (two (expression-onto (ts .1 .0) _ _ _ []) (expression-onto (ts .0) _ _ _ []) _))
+rows-node or f ts m b S K = two (expression-onto (ts .1 .0) _ _ _ []) (expression-onto (ts .0) _ _ _ []) _
+rows-node star f ts m b S K = equal-parts star refl (one (expression-onto (ts .0) _ _ _ []) _)
 
 -- where they end
 pub after-node : (k : Kind) (f : Fields) (ts : Trees (line k .operands)) (m b S : ℕ)

@@ -16,7 +16,7 @@ use Rattle.reader.specs.Spelling.{treeRecords}
 use Rattle.reader.specs.Codes.{emptyCode}
 use Rattle.reader.proofs.Fields.{recordOf}
 use Rattle.image.proofs.Sizes.{inside-expression, inside-clause}
-use Rattle.emitter.specs.declared.RecordBytes.{RecordBytes}
+use Rattle.emitter.specs.declared.RecordBody.{RecordBody}
 use Rattle.emitter.specs.declared.Block.{Block}
 use Rattle.emitter.specs.declared.Plan.{Plan}
 use Rattle.emitter.specs.declared.Wires.{Wires}
@@ -172,7 +172,7 @@ module _ {contract : List ℕ} {last : ℕ} {image : List ℕ} {b S : ℕ} {w : 
 -- ---- what the writer may do, from what it is given
 
 -- the last record with its operands, for which there is room
-record Opened (contract : List ℕ) (n : ℕ) (image : List ℕ) (b S K : ℕ) (r : RecordBytes) (count : ℕ) (p : Plan) : Type 0 where
+record Opened (contract : List ℕ) (n : ℕ) (image : List ℕ) (b S K : ℕ) (r : RecordBody) (count : ℕ) (p : Plan) : Type 0 where
   before : ℕ
   k : Kind
   f : Fields
@@ -189,7 +189,7 @@ module _ {contract : List ℕ} {n : ℕ} {image : List ℕ} {b S K : ℕ} (e : E
       at : (s : Sort) (t : Tree s) → View s t → EndsWith contract n (e .before) s t → 1 ≤ n
       at s t (view k f ts) i = ends-last contract n (e .before) k f ts i .some-record
 
-  module _ {r : RecordBytes} {count : ℕ} {p : Plan} (reads : RecordRead contract n r count p) where
+  module _ {r : RecordBody} {count : ℕ} {p : Plan} (reads : RecordRead contract n r count p) where
     opened : Opened contract n image b S K r count p
     opened = at (e .sort) (e .tree) (seen (e .sort) (e .tree)) (e .ends) (e .room) (e .few)
       where
@@ -248,7 +248,7 @@ module _ {contract : List ℕ} {n : ℕ} {image : List ℕ} {b S K : ℕ} (e : E
 
     pub record-rows : {later : List ℕ} {left right : Block} → Written contract (n - 1) count image (b + p .before) S (wiresOf p b S K) later left right
         → length later ≡ length image → (r .party < 256) × (r .action < 256)
-        → RecordRows later p b (left .next) (basesOf b S K left right (r .party) (r .action))
+        → RecordRows (length later) p b (left .next) (basesOf b S K left right (r .party) (r .action))
     record-rows {later} {left} {right} w l small-fields =
         let o = opened in
         let d = w .placed (o .before) (line (o .k) .operands) (o .ts) (o .is .count-is) (o .operands .ends) in

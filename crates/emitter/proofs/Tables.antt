@@ -21,7 +21,7 @@ use Rattle.emitter.specs.Blocks.{noBlock, basesOf, wiresOf}
 use Rattle.emitter.proofs.Writing.{length-listed}
 
 -- as many rows stand before the operands' rows as the widths say
-pub before-is : (r : Record) → planOf r .before ≡ width r .before
+before-is : (r : Record) → planOf r .before ≡ width r .before
 before-is r = eqb-true (planOf r .before) (width r .before) (of-records (λ r. eqb (planOf r .before) (width r .before)) (λ f. refl) r)
 
 pub inside-is : (r : Record) (b : ℕ) → b + planOf r .before ≡ operandsFrom r b

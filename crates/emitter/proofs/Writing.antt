@@ -19,7 +19,7 @@ unfolding numbersBytes rowsBytes encode
 numbers-bytes [] = refl
 numbers-bytes (r ∷ rs) = ap (λ m. encode r ++ m) (numbers-bytes rs)
 
-pub length-numbers : (rs : List RowNumbers) → length (numbersBytes rs) ≡ rowBytes * length rs
+length-numbers : (rs : List RowNumbers) → length (numbersBytes rs) ≡ rowBytes * length rs
 unfolding numbersBytes bytes
 length-numbers [] = refl
 length-numbers (r ∷ rs) = omega (arith, length-numbers rs)
@@ -57,7 +57,7 @@ written-after image b n rs ss e =
     rw (ends b n rs e, numbers-append rs ss) (sym (sets-append image (rowBytes * b) (numbersBytes rs) (numbersBytes ss)))
 
 -- a run and then the one before it
-pub written-before : (image : List ℕ) (b n : ℕ) (rs ss : List RowNumbers) → n ≡ b + length rs
+written-before : (image : List ℕ) (b n : ℕ) (rs ss : List RowNumbers) → n ≡ b + length rs
     → writtenRows (writtenRows image n ss) b rs ≡ writtenRows image b (rs ++ ss)
 unfolding writtenRows
 written-before image b n rs ss e =

@@ -4,18 +4,18 @@ use mathlib.Core.Bool.{cond}
 use mathlib.Core.List.{List, [], _∷_, _++_, map}
 use mathlib.Core.Path.{_≡_}
 use lib.Dec.{eqb}
-use lib.ListN.{length, take, getD}
+use lib.ListN.{length, take}
 use Rattle.periods.specs.Periods.{party2, partyNumber, other}
 use Rattle.layout.specs.Rows.{Row}
 use Rattle.reader.specs.Limits.{recordBytes}
 use Rattle.reader.specs.Table.{Sort, clause, expression, Kind}
 use Rattle.reader.specs.Trees.{Tree, Record, partyNamed}
 use Rattle.reader.specs.Spelling.{spellTree, treeRecords}
-use Rattle.reader.specs.Reader.{operand}
+use Rattle.reader.specs.Reader.{kindAt, fieldsAt, operand}
 use Rattle.reader.specs.Codes.{emptyCode, codeOf, completed}
 use Rattle.image.specs.Widths.{neverRow, afterExpression, afterClause}
 use Rattle.image.specs.Blocks.{endRow, liveRow, expressionRows, Outputs, outputsOf, clauseRows}
-use Rattle.emitter.specs.declared.RecordBytes.{RecordBytes}
+use Rattle.emitter.specs.declared.RecordBody.{RecordBody}
 use Rattle.emitter.specs.declared.Plan.{Plan}
 use Rattle.emitter.specs.declared.Block.{Block}
 use Rattle.emitter.specs.declared.Wires.{Wires}
@@ -24,13 +24,14 @@ use Rattle.emitter.specs.Rows.{numbersOf, writtenRows, rowTable, valueAt
 -- ---- a record's bytes
 
 -- the last of the first n records
-abbrev pub lastRecord : (contract : List ℕ) (n : ℕ) → RecordBytes
+abbrev pub lastRecord : (contract : List ℕ) (n : ℕ) → RecordBody
 lastRecord contract n =
     let at = recordBytes * (n - 1) in
-    record { kind = getD contract (at + 2) 0; party = getD contract (at + 3) 0; action = getD contract (at + 4) 0; last = getD contract (at + 5) 0 }
+    let f = fieldsAt contract at in
+    record { kind = kindAt contract at; party = f .party; action = f .action; last = f .last }
 
 -- as a record of this kind
-abbrev pub recordFrom : Kind → RecordBytes → Record
+abbrev pub recordFrom : Kind → RecordBody → Record
 recordFrom k r = record { kind = k; fields = record { party = r .party; action = r .action; last = r .last } }
 
 -- ---- the rows of one record

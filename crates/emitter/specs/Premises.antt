@@ -16,23 +16,23 @@ use Rattle.emitter.specs.Blocks.{afterTree, EndsWith}
 pub record Small (l : List ℕ) : Type 0 where
   pub small : (i : ℕ) → getD l i 0 < 256 ^ 2
 
--- there is room for so many rows from row b on, and a table of so many rows has them
-pub record RoomFrom (image : List ℕ) (b : ℕ) (bases : List ℕ) (rows from count : ℕ) : Type 0 where
+-- an image buffer of so many bytes has room for so many rows from row b on, and a table of so many rows has them
+pub record RoomFrom (size b : ℕ) (bases : List ℕ) (rows from count : ℕ) : Type 0 where
   pub bases-small : Small bases
   pub short : rows < 256
   pub listed : from + count ≤ rows
-  pub room : rowBytes * (b + count) ≤ length image
+  pub room : rowBytes * (b + count) ≤ size
   pub few : b + count ≤ maxRows
 
 -- the two tables together have them, and they all stand in one of the two
-pub record RoomForRows (image : List ℕ) (b : ℕ) (bases : List ℕ) (from count : ℕ) : Type 0 where
-  pub has-room : RoomFrom image b bases (length rowTable) from count
+pub record RoomForRows (size b : ℕ) (bases : List ℕ) (from count : ℕ) : Type 0 where
+  pub has-room : RoomFrom size b bases (length rowTable) from count
   pub in-one : (from + count ≤ length leafRows) ⊎ (length leafRows ≤ from)
 
 -- there is room for a record's own rows, n being the first row after its operands' rows
-pub record RecordRows (image : List ℕ) (p : Plan) (b n : ℕ) (bases : List ℕ) : Type 0 where
-  pub first : RoomForRows image b bases (p .from) (p .before)
-  pub second : RoomForRows image n bases (p .from + p .before) (p .after)
+pub record RecordRows (size : ℕ) (p : Plan) (b n : ℕ) (bases : List ℕ) : Type 0 where
+  pub first : RoomForRows size b bases (p .from) (p .before)
+  pub second : RoomForRows size n bases (p .from + p .before) (p .after)
 
 -- the first n records end with a tree, and its rows have room
 pub record Emits (contract : List ℕ) (n : ℕ) (image : List ℕ) (b S K : ℕ) : Type 0 where

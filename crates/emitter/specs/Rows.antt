@@ -3,7 +3,9 @@ use Prim.Native.Nat.{ℕ, _*_, _/_, _%_}
 use mathlib.Core.List.{List, [], _∷_, _++_, map}
 use lib.ListN.{take, drop, getD}
 use lib.Seq.{sets}
+use Rattle.periods.specs.Periods.{party1}
 use Rattle.layout.specs.Limits.{rowBytes}
+use Rattle.layout.specs.Rows as L
 use Rattle.layout.specs.Rows.{Row, kind, fieldX, fieldY, rowRecord}
 use Rattle.reader.specs.Table.{Kind, duty, ban, power, both, then, repair, repeat, when, until, any, tries, idle, succeeds, fails, seq, or, star}
 use Rattle.image.specs.Widths.{_⊹_}
@@ -83,19 +85,19 @@ abbrev pub row : (kind x y : ℕ) → TableRow
 row k x y = record { kind = k; x = x; y = y }
 
 abbrev attempt : (party : ℕ) → TableRow
-attempt p = row 2 p A
+attempt p = row (kind (L.attempt party1 0)) p A
 
 abbrev negation : (x : ℕ) → TableRow
-negation x = row 3 x ZERO
+negation x = row (kind (L.negation x)) x ZERO
 
 abbrev conjunction : (x y : ℕ) → TableRow
-conjunction x y = row 4 x y
+conjunction x y = row (kind (L.conjunction x y)) x y
 
 abbrev disjunction : (x y : ℕ) → TableRow
-disjunction x y = row 5 x y
+disjunction x y = row (kind (L.disjunction x y)) x y
 
 abbrev previous : (x : ℕ) → TableRow
-previous x = row 6 x ZERO
+previous x = row (kind (L.previous x)) x ZERO
 
 -- a kind's own rows, those before its operands' rows and then those after them
 abbrev pub kindRows : Kind → List TableRow

@@ -213,7 +213,7 @@ fn table_row(table: &[u32], j: u8) -> TableRow
 // ---- the plan of each record
 
 // The bytes of a record after its mark.
-pub struct RecordBytes {
+pub struct RecordBody {
     pub kind: u8,
     pub party: u8,
     pub action: u8,
@@ -221,13 +221,13 @@ pub struct RecordBytes {
 }
 
 // The last of the first n records.
-fn last_record(contract: &[u8], n: usize) -> RecordBytes
+fn last_record(contract: &[u8], n: usize) -> RecordBody
     requires { ⌜ 1 ≤ n ⌝ }
     requires { ⌜ recordBytes * n ≤ length (now contract) ⌝ }
     ensures { λ r. ⌜ r ≡ lastRecord (now (contract .entry)) n ⌝ }
 {
     let at = reader::RECORD_BYTES * (n - 1);
-    RecordBytes {
+    RecordBody {
         kind: contract[at + 2],
         party: contract[at + 3],
         action: contract[at + 4],
@@ -301,7 +301,7 @@ fn named(l: PlanLine) -> Plan
 }
 
 // The plan of a record.
-fn plan_of(r: RecordBytes) -> Plan
+fn plan_of(r: RecordBody) -> Plan
     ensures { λ p. ⌜ ((k : Kind) → kindOf (r .kind) ≡ some k → p ≡ planOf (recordFrom k r)) ⌝ }
 {
     let plans = PLANS;
@@ -392,7 +392,7 @@ fn value_at(bases: &[u32; 16], x: u8) -> u32
 
 // Writes `count` rows of a table, from its row `from` on.
 fn put_from(image: &mut [u8], at: u32, bases: &[u32; 16], table: &[u32], from: u8, count: u8)
-    requires { ⌜ RoomFrom (now image) at (now bases) (length (now table)) from count ⌝ }
+    requires { ⌜ RoomFrom (length (now image)) at (now bases) (length (now table)) from count ⌝ }
     ensures { λ _. ⌜ now (image .exit) ≡ writtenRows (now (image .entry)) at (tableRows (now (bases .entry)) (map unpacked (now (table .entry))) from count) ⌝ }
 {
     let mut j = 0;
@@ -411,7 +411,7 @@ fn put_from(image: &mut [u8], at: u32, bases: &[u32; 16], table: &[u32], from: u
 
 // The same from the first table, and from the second: a function for each, so that only one of the two is laid on the stack.
 fn put_leaf_rows(image: &mut [u8], at: u32, bases: &[u32; 16], from: u8, count: u8)
-    requires { ⌜ RoomFrom (now image) at (now bases) (length leafRows) from count ⌝ }
+    requires { ⌜ RoomFrom (length (now image)) at (now bases) (length leafRows) from count ⌝ }
     ensures { λ _. ⌜ now (image .exit) ≡ writtenRows (now (image .entry)) at (tableRows (now (bases .entry)) leafRows from count) ⌝ }
 {
     let table = LEAF_ROWS;
@@ -419,7 +419,7 @@ fn put_leaf_rows(image: &mut [u8], at: u32, bases: &[u32; 16], from: u8, count: 
 }
 
 fn put_node_rows(image: &mut [u8], at: u32, bases: &[u32; 16], from: u8, count: u8)
-    requires { ⌜ RoomFrom (now image) at (now bases) (length nodeRows) from count ⌝ }
+    requires { ⌜ RoomFrom (length (now image)) at (now bases) (length nodeRows) from count ⌝ }
     ensures { λ _. ⌜ now (image .exit) ≡ writtenRows (now (image .entry)) at (tableRows (now (bases .entry)) nodeRows from count) ⌝ }
 {
     let table = NODE_ROWS;
@@ -428,7 +428,7 @@ fn put_node_rows(image: &mut [u8], at: u32, bases: &[u32; 16], from: u8, count: 
 
 // Writes `count` of a record's own rows, from row `from` on, counted over both tables.
 fn put_rows(image: &mut [u8], at: u32, bases: &[u32; 16], from: u8, count: u8)
-    requires { ⌜ RoomForRows (now image) at (now bases) from count ⌝ }
+    requires { ⌜ RoomForRows (length (now image)) at (now bases) from count ⌝ }
     ensures { λ _. ⌜ now (image .exit) ≡ writtenRows (now (image .entry)) at (tableRows (now (bases .entry)) rowTable from count) ⌝ }
 {
     if count == 0 {
@@ -443,7 +443,7 @@ fn put_rows(image: &mut [u8], at: u32, bases: &[u32; 16], from: u8, count: u8)
 
 // Writes a record's own rows: those from row `at` on, and those from row `next` on, after the operands' rows.
 fn put_own(image: &mut [u8], plan: Plan, at: u32, next: u32, bases: &[u32; 16])
-    requires { ⌜ RecordRows (now image) plan at next (now bases) ⌝ }
+    requires { ⌜ RecordRows (length (now image)) plan at next (now bases) ⌝ }
     ensures { λ _. ⌜ now (image .exit) ≡ recordWritten (now (image .entry)) (now (bases .entry)) plan at next ⌝ }
 {
     put_rows(image, at, bases, plan.from, plan.before);
@@ -451,7 +451,7 @@ fn put_own(image: &mut [u8], plan: Plan, at: u32, next: u32, bases: &[u32; 16])
 }
 
 // The block of a record and its operands.
-fn block_of(bases: &[u32; 16], plan: Plan, r: RecordBytes, left: Block, right: Block) -> Block
+fn block_of(bases: &[u32; 16], plan: Plan, r: RecordBody, left: Block, right: Block) -> Block
     requires { ⌜ Small (now bases) ⌝ }
     requires { ⌜ left .next + plan .after ≤ maxRows ⌝ }
     ensures { λ b. ⌜ b ≡ recordBlock (now (bases .entry)) plan (r .kind) (r .party) left right ⌝ }
@@ -476,14 +476,14 @@ fn block_of(bases: &[u32; 16], plan: Plan, r: RecordBytes, left: Block, right: B
 fn put_record(
     image: &mut [u8],
     plan: Plan,
-    r: RecordBytes,
+    r: RecordBody,
     at: u32,
     s: u32,
     k: u32,
     left: Block,
     right: Block,
 ) -> Block
-    requires { ⌜ RecordRows (now image) plan at (left .next) (basesOf at s k left right (r .party) (r .action)) ⌝ }
+    requires { ⌜ RecordRows (length (now image)) plan at (left .next) (basesOf at s k left right (r .party) (r .action)) ⌝ }
     ensures written { λ _. ⌜ now (image .exit) ≡ recordWritten (now (image .entry)) (basesOf at s k left right (r .party) (r .action)) plan at (left .next) ⌝ }
     ensures gives { λ b. ⌜ b ≡ recordBlock (basesOf at s k left right (r .party) (r .action)) plan (r .kind) (r .party) left right ⌝ }
 {

@@ -16,7 +16,7 @@ use Rattle.runner.specs.Refusals.{beginTest, readyTest, stepTest}
 use Rattle.records.specs.Replies.{fieldsBytes, call}
 use Rattle.runner.specs.Calls.{begin, step}
 use Rattle.contract.specs.Expressions.{holdsEmpty}
-use Rattle.reader.specs.Table.{numbered, kindOf}
+use Rattle.reader.specs.Table.{firstNumbered, kindOf}
 use Rattle.reader.specs.Trees.{goodFields, node}
 use Rattle.reader.specs.Reader as Reader
 use Rattle.reader.specs.Reader.{operandsOf, readRecord, readRecords, read}
@@ -48,7 +48,7 @@ kind-vectors =
 
 pub watch-vector : WatchVector
 unfolding
-    replies repliesFrom read Reader.goodContractLength Reader.contractRecords readRecords readRecord numbered kindOf goodFields operandsOf node imageFor image
+    replies repliesFrom read Reader.goodContractLength Reader.contractRecords readRecords readRecord firstNumbered kindOf goodFields operandsOf node imageFor image
     rowsFor clauseRows outputsOf afterClause imageBytes rowsBytes endBytes encode begin step call beginTest stepTest readyTest fieldsBytes
     imageTest goodImageLength rowCount firstFailing goodRowAt goodEnd decode rowOf imageOf rowsOf stateTest stateOf stateBytes sound allAtMost allZero
     periodTest marksTest formOf wholePeriods markedAs countTest afterPeriod valuesAfter newValues computed counted periodAt periodFrom tries bit marked bytes field value

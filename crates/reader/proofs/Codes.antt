@@ -9,29 +9,29 @@ use mathlib.Core.List.{List, [], _∷_, map}
 use mathlib.Core.Option.{Option, none, some}
 use lib.Dec.{eqb, leb}
 use lib.ListN.{length, drop, getD}
-use lib.Seq.{drop-drop}
-use borrow.Author.Tests.{leb-true}
+use lib.Seq.{drop-drop, getD-drop}
+use borrow.Author.Tests.{ne-eqb, leb-true}
 use Rattle.records.specs.Marks.{contractMark, marked}
+use Rattle.records.proofs.Marks.{marked-drop}
 use Rattle.contract.specs.Expressions.{holdsEmpty}
 use Rattle.records.specs.declared.Fault.{Fault}
 use Rattle.records.specs.Refusals.{require}
 use Rattle.records.specs.declared.Fault.the-variants.{BadMark, UnknownKind, BadField, BadOperands, NotOneClause, EmptyList}
 use Rattle.reader.specs.declared.Lookup.the-variants.{Found}
 use Rattle.reader.specs.declared.Step.{Step}
-use Rattle.reader.specs.declared.Step.the-variants.{Bad, Completed}
-use Rattle.records.specs.declared.Test.the-variants.{Passed, Refused}
+use Rattle.reader.specs.declared.Step.the-variants.{Refused, Completed}
 use Rattle.reader.specs.Table.{Sort, clause, expression, Kind, kindOf, line, duty, ban, power, both, then, repair, repeat, when, until, any, tries, idle, succeeds, fails, seq, or, star}
 use Rattle.reader.specs.Trees.{Trees, Fields, goodFields, node}
-use Rattle.reader.specs.Reader.{Result, refused, taken, provided, demand, fieldsIn, Operand, operand, oneMore, below, operandsOf, holdsEmptyUnder, push, readRecord, justOne, testOf}
+use Rattle.reader.specs.Reader.{Result, refused, taken, provided, demand, kindAt, fieldsAt, Operand, operand, oneMore, below, operandsOf, holdsEmptyUnder, push, readRecord, justOne, testOf}
 use Rattle.reader.specs.Codes.{sortNumber, entryOf, lookupOf, operandCount, inRanges, emptyCode, expressionCode, codeOf, codeAt, sortOf, goodOperands, emptyUnder, completed, stepFound, stepOf}
 use Rattle.reader.proofs.Table.{number-kind, of-all}
 use Rattle.reader.proofs.Nodes.{onto, onto-operands}
 
 -- ---- 4: the fields
 
-same-ranges : (K : Kind) (l : List ℕ) → inRanges (entryOf K) (getD l 3 0) (getD l 4 0) (getD l 5 0) ≡ goodFields (line K) (fieldsIn l)
+same-ranges : (K : Kind) (f : Fields) → inRanges (entryOf K) f ≡ goodFields (line K) f
 unfolding inRanges goodFields
-same-ranges K l = refl
+same-ranges K f = refl
 
 -- ---- 5: the operands
 
@@ -136,36 +136,36 @@ Pushed k st l m c = Replaced st (readRecord k st l) m c
 
 -- a result on trees at record k is that of a step on codes
 abbrev Agrees : ℕ → List Operand → Result (List Operand) → Step → Type 0
-Agrees k st r (Bad f) = r ≡ refused f k
+Agrees k st r (Refused f) = r ≡ refused f k
 Agrees k st r (Completed m c) = Replaced st r m c
 
 module _ (k : ℕ) (st : List Operand) where
   agrees-require : (ok : Bool) (f : Fault) (r : Result (List Operand)) (s : Step) → Agrees k st r s
-      → Agrees k st (provided (require ok f k) r) (cond ok s (Bad f))
+      → Agrees k st (provided (require ok f k) r) (cond ok s (Refused f))
   agrees-require true f r s h = h
   agrees-require false f r s h = refl
 
   agrees-unless : (t : Bool) (f : Fault) (r : Result (List Operand)) (s : Step) → Agrees k st r s
-      → Agrees k st (provided (require (not t) f k) r) (cond t (Bad f) s)
+      → Agrees k st (provided (require (not t) f k) r) (cond t (Refused f) s)
   agrees-unless true f r s h = refl
   agrees-unless false f r s h = h
 
   agrees-demand : {A : Type 0} (o : Option A) (f : Fault) (g : A → Result (List Operand)) (s : Step)
-      → ((x : A) → o ≡ some x → Agrees k st (g x) s) → Agrees k st (demand o f k g) (cond (present o) s (Bad f))
+      → ((x : A) → o ≡ some x → Agrees k st (g x) s) → Agrees k st (demand o f k g) (cond (present o) s (Refused f))
   agrees-demand none f g s each = refl
   agrees-demand (some x) f g s each = each x refl
 
-  agrees-kind : (o : Option Kind) (g : Kind → Result (List Operand)) (l : List ℕ) (b t : ℕ)
-      → ((K : Kind) → o ≡ some K → Agrees k st (g K) (stepFound (Found (entryOf K)) l b t))
-      → Agrees k st (demand o UnknownKind k g) (stepFound (lookupOf o) l b t)
-  agrees-kind none g l b t each = refl
-  agrees-kind (some K) g l b t each = each K refl
+  agrees-kind : (o : Option Kind) (g : Kind → Result (List Operand)) (n : ℕ) (f : Fields) (b t : ℕ)
+      → ((K : Kind) → o ≡ some K → Agrees k st (g K) (stepFound (Found (entryOf K)) n f b t))
+      → Agrees k st (demand o UnknownKind k g) (stepFound (lookupOf o) n f b t)
+  agrees-kind none g n f b t each = refl
+  agrees-kind (some K) g n f b t each = each K refl
 
 -- where the operands are there: the tree is pushed or refused as the codes say
 agrees-push : (k : ℕ) (K : Kind) (f : Fields) (ts : Trees (line K .operands)) (rest : List Operand)
     → let st = onto (line K .operands) ts rest in
     Agrees k st (push k (line K .completes) (node K f ts) rest)
-    (cond (emptyUnder (line K .number) (codeAt st 1) (codeAt st 0)) (Bad EmptyList)
+    (cond (emptyUnder (line K .number) (codeAt st 1) (codeAt st 0)) (Refused EmptyList)
     (Completed (length (line K .operands)) (completed (line K .number) (codeAt st 1) (codeAt st 0))))
 agrees-push k K f ts rest =
     let st = onto (line K .operands) ts rest in
@@ -180,43 +180,39 @@ agrees-push k K f ts rest =
     })
 
 -- the tests of a record, in their order
-agrees : (k : ℕ) (st : List Operand) (l : List ℕ) → Agrees k st (readRecord k st l) (stepOf l (codeAt st 1) (codeAt st 0))
+agrees : (k : ℕ) (st : List Operand) (l : List ℕ) → Agrees k st (readRecord k st l) (stepOf l 0 (codeAt st 1) (codeAt st 0))
 unfolding readRecord stepOf
 agrees k st l =
-    let n = getD l 2 0 in
+    let n = kindAt l 0 in
+    let f = fieldsAt l 0 in
     agrees-require k st (marked l 0 contractMark) BadMark _ _
-    (agrees-kind k st (kindOf n) _ l (codeAt st 1) (codeAt st 0)
-    (λ K e. rw (same-ranges K l)
-    (agrees-require k st (goodFields (line K) (fieldsIn l)) BadField _ _
+    (agrees-kind k st (kindOf n) _ n f (codeAt st 1) (codeAt st 0)
+    (λ K e. rw (same-ranges K f)
+    (agrees-require k st (goodFields (line K) f) BadField _ _
     (rw (operands-present (line K .operands) st (few-operands K))
     (agrees-demand k st (operandsOf (line K .operands) st) BadOperands _ _
-    (λ os e₂. rw (onto-operands (line K .operands) st os e₂, ← number-kind n K e) (agrees-push k K (fieldsIn l) (os .trees) (os .rest))))))))
+    (λ os e₂. rw (onto-operands (line K .operands) st os e₂, ← number-kind n K e) (agrees-push k K f (os .trees) (os .rest))))))))
 
-pub step-bad : (k : ℕ) (st : List Operand) (l : List ℕ) (f : Fault) → stepOf l (codeAt st 1) (codeAt st 0) ≡ Bad f → readRecord k st l ≡ refused f k
-step-bad k st l f e = subst (Agrees k st (readRecord k st l)) e (agrees k st l)
+-- the record from byte `at` on stands first in the bytes from there on
+pub step-drop : (l : List ℕ) (at b t : ℕ) → stepOf l at b t ≡ stepOf (drop at l) 0 b t
+unfolding stepOf
+step-drop l at b t = rw (marked-drop l at contractMark) (simp getD-drop)
 
-pub step-completed : (k : ℕ) (st : List Operand) (l : List ℕ) (m c : ℕ) → stepOf l (codeAt st 1) (codeAt st 0) ≡ Completed m c → Pushed k st l m c
+pub step-refused : (k : ℕ) (st : List Operand) (l : List ℕ) (f : Fault) → stepOf l 0 (codeAt st 1) (codeAt st 0) ≡ Refused f → readRecord k st l ≡ refused f k
+step-refused k st l f e = subst (Agrees k st (readRecord k st l)) e (agrees k st l)
+
+pub step-completed : (k : ℕ) (st : List Operand) (l : List ℕ) (m c : ℕ) → stepOf l 0 (codeAt st 1) (codeAt st 0) ≡ Completed m c → Pushed k st l m c
 step-completed k st l m c e = subst (Agrees k st (readRecord k st l)) e (agrees k st l)
 
 -- ---- 6
 
-not-clause-code : (empty : Bool) → ¬ (expressionCode empty ≡ sortNumber clause)
-not-clause-code true e = omega arith
-not-clause-code false e = omega arith
+expression-code : (empty : Bool) → eqb (expressionCode empty) (sortNumber clause) ≡ false
+expression-code true = refl
+expression-code false = refl
 
-pub just-one : (n : ℕ) (st : List Operand) → length st ≡ 1 → codeAt st 0 ≡ sortNumber clause → testOf (justOne n st) ≡ Passed
-just-one n [] h i = absurd (omega arith)
-just-one n (operand clause c ∷ []) h i = refl
-just-one n (operand expression e ∷ []) h i = absurd (not-clause-code (holdsEmpty e) i)
-just-one n (o ∷ p ∷ st) h i = absurd (omega arith)
-
-pub not-one : (n : ℕ) (st : List Operand) → ¬ (length st ≡ 1) → testOf (justOne n st) ≡ Refused NotOneClause n
-not-one n [] h = refl
-not-one n (o ∷ []) h = absurd (h refl)
-not-one n (o ∷ p ∷ st) h = refl
-
-pub not-clause : (n : ℕ) (st : List Operand) → length st ≡ 1 → ¬ (codeAt st 0 ≡ sortNumber clause) → testOf (justOne n st) ≡ Refused NotOneClause n
-not-clause n [] h i = absurd (omega arith)
-not-clause n (operand clause c ∷ []) h i = absurd (i refl)
-not-clause n (operand expression e ∷ []) h i = refl
-not-clause n (o ∷ p ∷ st) h i = absurd (omega arith)
+pub end-test : (n : ℕ) (st : List Operand)
+    → testOf (justOne n st) ≡ require (eqb (length st) 1 && eqb (codeAt st 0) (sortNumber clause)) NotOneClause n
+end-test n [] = refl
+end-test n (operand clause c ∷ []) = refl
+end-test n (operand expression e ∷ []) = rw (expression-code (holdsEmpty e))
+end-test n (o ∷ p ∷ st) = rw (ne-eqb (length (o ∷ p ∷ st)) 1 (λ e. omega arith))

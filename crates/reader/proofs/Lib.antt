@@ -4,8 +4,7 @@ pub mod Fields
 pub mod Spelling
 pub mod Nodes
 pub mod Reader
-pub mod Answers
 pub mod Places
+pub mod Answers
 pub mod Codes
-pub mod Tests
 pub mod Stack

@@ -23,7 +23,7 @@ use Rattle.reader.specs.Limits.{recordBytes}
 use Rattle.reader.specs.Table.{Sort, clause, expression, Kind, duty, ban, power, both, then, repair, repeat, when, until, any, tries, idle, succeeds, fails, seq, or, star, kindOf, line}
 use Rattle.reader.specs.Trees.{Tree, Trees, Fields, goodFields, node}
 use Rattle.reader.specs.Spelling.{spellRecord, Allowed, ExpressionInRange, InRange}
-use Rattle.reader.specs.Reader.{Result, refused, taken, next, provided, demand, fieldsIn, Operand, operand, Operands, oneMore, operandsOf, holdsEmptyUnder, push, readRecord}
+use Rattle.reader.specs.Reader.{Result, refused, taken, next, provided, demand, kindAt, fieldsAt, Operand, operand, Operands, oneMore, operandsOf, holdsEmptyUnder, push, readRecord}
 use Rattle.reader.proofs.Table.{kind-number, number-kind}
 use Rattle.reader.proofs.Fields.{recordOf, used-same}
 use Rattle.reader.proofs.Spelling.{All}
@@ -35,7 +35,7 @@ abbrev pub Good : (s : Sort) → Tree s → Type 0
 Good clause c = InRange c × EmptyFree c
 Good expression e = ExpressionInRange e
 
-pub not-held : (e : Expression) → holdsEmpty e ≡ false ↔ (¬ Holds e [])
+not-held : (e : Expression) → holdsEmpty e ≡ false ↔ (¬ Holds e [])
 not-held e = (λ h p. false≢true (sym h ∙ empty-iff e .1 p), λ n. go (holdsEmpty e) refl n)
   where
     go : (t : Bool) → holdsEmpty e ≡ t → (¬ Holds e []) → t ≡ false
@@ -82,7 +82,7 @@ abbrev pub onto : (ss : List Sort) → Trees ss → List Operand → List Operan
 onto [] ts st = st
 onto (s ∷ ss) ts st = onto ss (ts .1) (operand s (ts .0) ∷ st)
 
-pub operands-onto : (ss : List Sort) (ts : Trees ss) (st : List Operand) → operandsOf ss (onto ss ts st) ≡ some record { trees = ts; rest = st }
+operands-onto : (ss : List Sort) (ts : Trees ss) (st : List Operand) → operandsOf ss (onto ss ts st) ≡ some record { trees = ts; rest = st }
 unfolding operandsOf
 operands-onto [] ts st = refl
 operands-onto (clause ∷ ss) ts st = rw (operands-onto ss (ts .1) (operand clause (ts .0) ∷ st))
@@ -122,8 +122,8 @@ pub read-node : (k : ℕ) (kind : Kind) (f : Fields) (ts : Trees (line kind .ope
 unfolding readRecord marked spellRecord
 read-node k kind f ts st rest h = rw (kind-number kind, h, operands-onto (line kind .operands) ts st)
 
--- the record at the front of the bytes completes a node, pushed in place of its operands
-pub record Completed (st : List Operand) (l : List ℕ) (st′ : List Operand) : Type 0 where
+-- the record at the front of the bytes makes a node, pushed in place of its operands
+pub record MakesNode (st : List Operand) (l : List ℕ) (st′ : List Operand) : Type 0 where
   pub kind : Kind
   pub fields : Fields
   pub trees : Trees (line kind .operands)
@@ -134,12 +134,12 @@ pub record Completed (st : List Operand) (l : List ℕ) (st′ : List Operand) :
   pub after : st′ ≡ operand (line kind .completes) (node kind fields trees) ∷ rest
   pub not-empty : holdsEmptyUnder (line kind .completes) (node kind fields trees) ≡ false
 
-front-bytes : (l : List ℕ) (kind : Kind) → recordBytes ≤ length l → marked l 0 contractMark ≡ true → kindOf (getD l 2 0) ≡ some kind
-    → take recordBytes l ≡ spellRecord record { kind = kind; fields = fieldsIn l }
+front-bytes : (l : List ℕ) (kind : Kind) → recordBytes ≤ length l → marked l 0 contractMark ≡ true → kindOf (kindAt l 0) ≡ some kind
+    → take recordBytes l ≡ spellRecord record { kind = kind; fields = fieldsAt l 0 }
 unfolding spellRecord
 front-bytes l kind n m j =
     let at : (i : ℕ) → i < recordBytes → drop i l ≡ getD l i 0 ∷ drop (suc i) l = λ i b. drop-cons l i 0 (omega arith) in
-    rw (take-add 2 4 l, of-marked l 0 _ _ (omega arith) m, at 2 (lit< tt), at 3 (lit< tt), at 4 (lit< tt), at 5 (lit< tt), number-kind (getD l 2 0) kind j)
+    rw (take-add 2 4 l, of-marked l 0 _ _ (omega arith) m, at 2 (lit< tt), at 3 (lit< tt), at 4 (lit< tt), at 5 (lit< tt), number-kind (kindAt l 0) kind j)
 
 pub refused-taken : {A : Type 0} {f : Fault} {k : ℕ} {x : A} → refused f k ≡ taken x → ⊥
 refused-taken h = let z : _≡_ {A = ℕ} 0 1 = cc in omega arith
@@ -150,7 +150,7 @@ pub required : {A C : Type 0} (t : Bool) (f : Fault) (k : ℕ) {r : Result A} {x
 required true f k h go = go refl h
 required false f k h go = absurd (refused-taken h)
 
-pub demanded : {A B C : Type 0} (o : Option A) (f : Fault) (k : ℕ) {g : A → Result B} {x : B} → demand o f k g ≡ taken x
+demanded : {A B C : Type 0} (o : Option A) (f : Fault) (k : ℕ) {g : A → Result B} {x : B} → demand o f k g ≡ taken x
     → ((y : A) → o ≡ some y → g y ≡ taken x → C) → C
 demanded none f k h go = absurd (refused-taken h)
 demanded (some y) f k h go = go y refl h
@@ -160,19 +160,19 @@ pub followed : {A B C : Type 0} (r : Result A) {g : A → Result B} {x : B} → 
 followed (refused f k) h go = absurd (refused-taken h)
 followed (taken y) h go = go y refl h
 
-pub completed : (k : ℕ) (st : List Operand) (l : List ℕ) (st′ : List Operand) → recordBytes ≤ length l → readRecord k st l ≡ taken st′
-    → Completed st l st′
+pub makes-node : (k : ℕ) (st : List Operand) (l : List ℕ) (st′ : List Operand) → recordBytes ≤ length l → readRecord k st l ≡ taken st′
+    → MakesNode st l st′
 unfolding readRecord
-completed k st l st′ n h =
+makes-node k st l st′ n h =
     required (marked l 0 contractMark) BadMark k h λ m h₂.
-    demanded (kindOf (getD l 2 0)) UnknownKind k h₂ λ kind j h₃.
-    required (goodFields (line kind) (fieldsIn l)) BadField k h₃ λ b h₄.
+    demanded (kindOf (kindAt l 0)) UnknownKind k h₂ λ kind j h₃.
+    required (goodFields (line kind) (fieldsAt l 0)) BadField k h₃ λ b h₄.
     demanded (operandsOf (line kind .operands) st) BadOperands k h₄ λ os o h₅.
-    required (not (holdsEmptyUnder (line kind .completes) (node kind (fieldsIn l) (os .trees)))) EmptyList k h₅ λ e h₆.
-    let u = used-same kind (fieldsIn l) b in
+    required (not (holdsEmptyUnder (line kind .completes) (node kind (fieldsAt l 0) (os .trees)))) EmptyList k h₅ λ e h₆.
+    let u = used-same kind (fieldsAt l 0) b in
     record {
       kind = kind;
-      fields = fieldsIn l;
+      fields = fieldsAt l 0;
       trees = os .trees;
       rest = os .rest;
       bytes = front-bytes l kind n m j ∙ ap (λ (f : Fields). spellRecord record { kind = kind; fields = f }) (sym u);

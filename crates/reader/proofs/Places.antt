@@ -2,93 +2,86 @@
 use Prim.Native.Nat.{ℕ, zero, suc, _+_, _*_, _-_, _≤_, _<_}
 use native.Mathlib.Nat.{le-of-suc-le-suc, not-suc-le-zero, le-refl}
 use native.Mathlib.Omega.{arith}
-use mathlib.Core.Bool.{Bool, true, false, not, or-true, false≢true}
+use mathlib.Core.Bool.{Bool, true, false, not, false≢true}
 use mathlib.Core.List.{List, [], _∷_}
 use mathlib.Core.Option.{Option, none, some}
 use mathlib.Core.Path.{_≡_, refl, sym, _∙_}
-use lib.Dec.{eqb, lit<}
+use lib.Dec.{lit<}
 use lib.ListN.{length, take, drop, getD}
 use lib.Seq.{getD-take, length-take-le}
 use Rattle.records.specs.Marks.{contractMark, marked}
 use Rattle.records.proofs.Written.{drop-take}
-use Rattle.records.proofs.Refusals.{onlyFor}
 use Rattle.records.specs.declared.Fault.{Fault}
-use Rattle.records.specs.Refusals.{faultNumber, require, among}
+use Rattle.records.specs.Refusals.{require, among}
 use Rattle.records.specs.declared.Fault.the-variants.{BadLength, BadMark, UnknownKind, BadField, BadOperands, NotOneClause, EmptyList}
-use Rattle.contract.specs.Meaning.{Clause}
 use Rattle.reader.specs.Limits.{maxRecords, recordBytes}
 use Rattle.reader.specs.Table.{clause, expression, kindOf, line}
 use Rattle.reader.specs.Trees.{goodFields, node}
-use Rattle.reader.specs.Reader.{Result, refused, taken, next, provided, demand, fieldsIn, Operand, operand, operandsOf, holdsEmptyUnder, readRecord, readRecords, justOne, contractRecords, goodContractLength, read, recordFaults, testOf, readTest, Faultless, FirstFault}
+use Rattle.reader.specs.Reader.{Result, refused, taken, next, provided, demand, kindAt, fieldsAt, Operand, operand, operandsOf, holdsEmptyUnder, readRecord, readRecords, justOne, contractRecords, goodContractLength, read, recordFaults, Faultless, FirstFault}
 use Rattle.reader.proofs.Nodes.{refused-taken, followed}
 use Rattle.reader.proofs.Reader.{WholeRecords, good-length}
 
 -- ---- one record is refused at its own place, for a fault of a record
 
-AtRecord : {A : Type 0} → ℕ → Result A → Type 0
-AtRecord k r = (f : Fault) (j : ℕ) → r ≡ refused f j → (j ≡ k) × (among recordFaults f ≡ true)
+abbrev AtRecord : {A : Type 0} → ℕ → Result A → Type 0
+AtRecord k (refused f j) = (j ≡ k) × (among recordFaults f ≡ true)
+AtRecord k (taken x) = Unit {0}
 
 require-at : {A : Type 0} (t : Bool) (f : Fault) (k : ℕ) (r : Result A) → among recordFaults f ≡ true → AtRecord k r → AtRecord k (provided (require t f k) r)
-unfolding AtRecord
 require-at true f k r h a = a
-require-at false f k r h a = λ g j e. let i : f ≡ g = cc in (cc, rw (← i) h)
+require-at false f k r h a = (refl, h)
 
 demand-at : {A B : Type 0} (o : Option A) (f : Fault) (k : ℕ) (g : A → Result B) → among recordFaults f ≡ true → ((x : A) → AtRecord k (g x))
     → AtRecord k (demand o f k g)
-unfolding AtRecord
-demand-at none f k g h a = λ d j e. let i : f ≡ d = cc in (cc, rw (← i) h)
+demand-at none f k g h a = (refl, h)
 demand-at (some x) f k g h a = a x
-
-taken-at : {A : Type 0} (k : ℕ) (x : A) → AtRecord k (taken x)
-unfolding AtRecord
-taken-at k x f j e = (cc, cc)
 
 record-at : (k : ℕ) (st : List Operand) (l : List ℕ) → AtRecord k (readRecord k st l)
 unfolding readRecord
 record-at k st l =
     require-at (marked l 0 contractMark) BadMark k _ refl
-    (demand-at (kindOf (getD l 2 0)) UnknownKind k _ refl
-    (λ kind. require-at (goodFields (line kind) (fieldsIn l)) BadField k _ refl
+    (demand-at (kindOf (kindAt l 0)) UnknownKind k _ refl
+    (λ kind. require-at (goodFields (line kind) (fieldsAt l 0)) BadField k _ refl
     (demand-at (operandsOf (line kind .operands) st) BadOperands k _ refl
-    (λ os. require-at (not (holdsEmptyUnder (line kind .completes) (node kind (fieldsIn l) (os .trees)))) EmptyList k _ refl (taken-at k _)))))
+    (λ os. require-at (not (holdsEmptyUnder (line kind .completes) (node kind (fieldsAt l 0) (os .trees)))) EmptyList k _ refl tt))))
 
 -- ---- the first record that is refused
 
--- of the n records from k on, so many are passed and the next one is refused
+-- of the n records from k on, `count` are passed and the next one is refused
 record Stopped (k n : ℕ) (st : List Operand) (l : List ℕ) (f : Fault) (j : ℕ) : Type 0 where
-  passed : ℕ
-  place : j ≡ k + passed
-  within : passed < n
+  count : ℕ
+  place : j ≡ k + count
+  within : count < n
   of-record : among recordFaults f ≡ true
   stack : List Operand
-  before : readRecords k passed st l ≡ taken stack
-  here : readRecords k (suc passed) st l ≡ refused f j
+  before : readRecords k count st l ≡ taken stack
+  here : readRecords k (suc count) st l ≡ refused f j
+
+-- what is refused is refused at once, or later
+refused-next : {A B C : Type 0} (r : Result A) {g : A → Result B} {f : Fault} {j : ℕ} → next r g ≡ refused f j → (r ≡ refused f j → C)
+    → ((x : A) → r ≡ taken x → g x ≡ refused f j → C) → C
+refused-next (refused d i) h now later = now (cc)
+refused-next (taken x) h now later = later x refl h
 
 stopped : (k n : ℕ) (st : List Operand) (l : List ℕ) (f : Fault) (j : ℕ) → readRecords k n st l ≡ refused f j → Stopped k n st l f j
-unfolding readRecords AtRecord
+unfolding readRecords
 stopped k zero st l f j h = absurd (refused-taken (sym h))
-stopped k (suc n) st l f j h = go (readRecord k st l) refl (λ st′. stopped (suc k) n st′ (drop recordBytes l) f j)
-  where
-    go : (r : Result (List Operand)) → readRecord k st l ≡ r
-        → ((st′ : List Operand) → readRecords (suc k) n st′ (drop recordBytes l) ≡ refused f j
-        → Stopped (suc k) n st′ (drop recordBytes l) f j) → Stopped k (suc n) st l f j
-    go (refused g i) e further =
-        let h′ = rw e at h in
-        let m : g ≡ f = cc in
-        let p : i ≡ j = cc in
-        let a = record-at k st l f j (rw (m, p) at e) in
-        record { passed = 0; place = omega (arith, a .0); within = omega arith; of-record = a .1; stack = st; before = refl; here = rw e h′ }
-    go (taken st′) e further =
-        let s = further st′ (rw e at h) in
-        record {
-          passed = suc (s .passed);
-          place = omega (arith, s .place);
-          within = omega (arith, s .within);
-          of-record = s .of-record;
-          stack = s .stack;
-          before = rw e (s .before);
-          here = rw e (s .here);
-        }
+stopped k (suc n) st l f j h =
+    refused-next (readRecord k st l) h
+    (λ e.
+    let a = rw e at (record-at k st l) in
+    record { count = 0; place = omega (arith, a .0); within = omega arith; of-record = a .1; stack = st; before = refl; here = rw e })
+    (λ st′ e h₂.
+    let s = stopped (suc k) n st′ (drop recordBytes l) f j h₂ in
+    record {
+      count = suc (s .count);
+      place = omega (arith, s .place);
+      within = omega (arith, s .within);
+      of-record = s .of-record;
+      stack = s .stack;
+      before = rw e (s .before);
+      here = rw e (s .here);
+    })
 
 -- where n records are passed, so are fewer
 fewer-passed : (k m n : ℕ) (st : List Operand) (l : List ℕ) (st′ : List Operand) → m ≤ n → readRecords k n st l ≡ taken st′
@@ -105,14 +98,9 @@ still-refused : (k m n : ℕ) (st : List Operand) (l : List ℕ) (f : Fault) (j 
 unfolding readRecords
 still-refused k zero n st l f j b h = absurd (refused-taken (sym h))
 still-refused k (suc m) zero st l f j b h = absurd (not-suc-le-zero b)
-still-refused k (suc m) (suc n) st l f j b h = go (readRecord k st l) refl (λ st′. still-refused (suc k) m n st′ (drop recordBytes l) f j (le-of-suc-le-suc b))
-  where
-    go : (r : Result (List Operand)) → readRecord k st l ≡ r
-        → ((st′ : List Operand) → readRecords (suc k) m st′ (drop recordBytes l) ≡ refused f j
-        → readRecords (suc k) n st′ (drop recordBytes l) ≡ refused f j)
-        → readRecords k (suc n) st l ≡ refused f j
-    go (refused g i) e further = rw e (rw e at h)
-    go (taken st′) e further = rw e (further st′ (rw e at h))
+still-refused k (suc m) (suc n) st l f j b h =
+    refused-next (readRecord k st l) h (λ e. rw e)
+    (λ st′ e h₂. rw e (still-refused (suc k) m n st′ (drop recordBytes l) f j (le-of-suc-le-suc b) h₂))
 
 -- ---- a beginning of the bytes
 
@@ -163,30 +151,30 @@ end-refused n (operand clause d ∷ p ∷ st) f k h = (cc, cc)
 end-refused n (operand expression e ∷ p ∷ st) f k h = (cc, cc)
 
 -- how a contract is refused
-data Refusal (l : List ℕ) (f : Fault) (k : ℕ) : Type 0 where
+pub data Refusal (l : List ℕ) (f : Fault) (k : ℕ) : Type 0 where
   at-length : goodContractLength l ≡ false → BadLength ≡ f → 0 ≡ k → Refusal l f k
-  at-record : WholeRecords l → readRecords 0 (contractRecords l) [] l ≡ refused f k → Refusal l f k
+  at-record : WholeRecords l → readRecords 0 (contractRecords l) [] l ≡ refused f k → among recordFaults f ≡ true → Refusal l f k
   at-end : WholeRecords l → (st : List Operand) → readRecords 0 (contractRecords l) [] l ≡ taken st → NotOneClause ≡ f → contractRecords l ≡ k → Refusal l f k
 
-refusal : (l : List ℕ) (f : Fault) (k : ℕ) → read l ≡ refused f k → Refusal l f k
+pub refusal : (l : List ℕ) (f : Fault) (k : ℕ) → read l ≡ refused f k → Refusal l f k
 unfolding read
-refusal l f k h = go (goodContractLength l) refl (readRecords 0 (contractRecords l) [] l) refl
+refusal l f k h = go (goodContractLength l) refl
   where
-    go : (t : Bool) → goodContractLength l ≡ t → (r : Result (List Operand)) → readRecords 0 (contractRecords l) [] l ≡ r → Refusal l f k
-    go false e r i = let h′ = rw e at h in at-length e (cc) (cc)
-    go true e (refused g j) i =
-        let h′ = rw (e, i) at h in
-        let m : g ≡ f = cc in
-        let p : j ≡ k = cc in
-        at-record (good-length l .0 e) (rw (m, p) at i)
-    go true e (taken st) i = let d = end-refused (contractRecords l) st f k (rw (e, i) at h) in at-end (good-length l .0 e) st i (d .0) (d .1)
+    n : ℕ
+    n = contractRecords l
+
+    go : (t : Bool) → goodContractLength l ≡ t → Refusal l f k
+    go false e = let h′ = rw e at h in at-length e (cc) (cc)
+    go true e =
+        refused-next (readRecords 0 n [] l) (rw e at h) (λ r. at-record (good-length l .0 e) r (stopped 0 n [] l f k r .of-record))
+        (λ st r h₂. let d = end-refused n st f k h₂ in at-end (good-length l .0 e) st r (d .0) (d .1))
 
 faultless : (l : List ℕ) (st : List Operand) → readRecords 0 (contractRecords l) [] l ≡ taken st → Faultless l
 faultless l st h = record { none-met = λ f k e. go f k (refusal l f k e) }
   where
     go : (f : Fault) (k : ℕ) → Refusal l f k → among recordFaults f ≡ false
     go f k (at-length g e i) = rw (← e)
-    go f k (at-record w s) = absurd (refused-taken (sym s ∙ h))
+    go f k (at-record w r o) = absurd (refused-taken (sym r ∙ h))
     go f k (at-end w st′ g e i) = rw (← e)
 
 -- where the first m records are passed, no beginning of them meets a fault of a record
@@ -204,9 +192,9 @@ first-fault l f k h o = go (refusal l f k h)
     go : Refusal l f k → FirstFault l f k
     go (at-length g e i) = absurd (false≢true (rw (← e) at o))
     go (at-end w st g e i) = absurd (false≢true (rw (← e) at o))
-    go (at-record w r) =
+    go (at-record w r o) =
         let s = stopped 0 (contractRecords l) [] l f k r in
-        let p : s .passed ≡ k = omega (arith, s .place) in
+        let p : s .count ≡ k = omega (arith, s .place) in
         let c : suc k ≤ contractRecords l = omega (arith, s .within) in
         let here : readRecords 0 (suc k) [] l ≡ refused f k = rw p at (s .here) in
         record {
@@ -223,7 +211,7 @@ fault-stays l f k g c o h = go (refusal (take (recordBytes * suc k) l) f k h)
     go : Refusal (take (recordBytes * suc k) l) f k → read l ≡ refused f k
     go (at-length e b i) = absurd (false≢true (rw (← b) at o))
     go (at-end w st e b i) = absurd (false≢true (rw (← b) at o))
-    go (at-record w r) =
+    go (at-record w r o) =
         let here : readRecords 0 (suc k) [] l ≡ refused f k =
         rw (count-front l (suc k) c, records-take 0 (suc k) (suc k) [] l (le-refl (suc k))) at r in
         rw (g, still-refused 0 (suc k) (contractRecords l) [] l f k c here)
@@ -233,7 +221,7 @@ refused-length l k h = go (refusal l BadLength k h)
   where
     go : Refusal l BadLength k → (goodContractLength l ≡ false) × (k ≡ 0)
     go (at-length g e i) = (g, sym i)
-    go (at-record w r) = absurd (false≢true (stopped 0 (contractRecords l) [] l BadLength k r .of-record))
+    go (at-record w r o) = absurd (false≢true o)
     go (at-end w st g e i) = (cc, cc)
 
 pub refused-end : (l : List ℕ) (k : ℕ) → read l ≡ refused NotOneClause k
@@ -242,7 +230,7 @@ refused-end l k h = go (refusal l NotOneClause k h)
   where
     go : Refusal l NotOneClause k → (k ≡ contractRecords l) × ((n : ℕ) → n ≤ contractRecords l → Faultless (take (recordBytes * n) l))
     go (at-length g e i) = let z : _≡_ {A = ℕ} 0 1 = cc in absurd (omega arith)
-    go (at-record w r) = absurd (false≢true (stopped 0 (contractRecords l) [] l NotOneClause k r .of-record))
+    go (at-record w r o) = absurd (false≢true o)
     go (at-end w st g e i) = (sym i, faultless-fronts l (contractRecords l) st (le-refl (contractRecords l)) g)
 
 -- a place is never above the most records
@@ -251,26 +239,5 @@ place-max l f k h = go (refusal l f k h)
   where
     go : Refusal l f k → k ≤ maxRecords
     go (at-length g e i) = omega arith
-    go (at-record w r) = let s = stopped 0 (contractRecords l) [] l f k r in omega (arith, s .place, s .within, w .few-records)
+    go (at-record w r o) = let s = stopped 0 (contractRecords l) [] l f k r in omega (arith, s .place, s .within, w .few-records)
     go (at-end w st g e i) = omega (arith, w .few-records)
-
--- ---- no fault but those of reading
-
-abbrev pub readFaults : List Fault
-readFaults = BadLength ∷ NotOneClause ∷ recordFaults
-
-among-more : (f : Fault) → among recordFaults f ≡ true → among readFaults f ≡ true
-among-more f h = rw (h, or-true (eqb (faultNumber f) 6), or-true (eqb (faultNumber f) 1))
-
-pub read-only : (l : List ℕ) → onlyFor readFaults (readTest l) ≡ true
-unfolding readTest
-read-only l = go (read l) refl
-  where
-    go : (r : Result Clause) → read l ≡ r → onlyFor readFaults (testOf r) ≡ true
-    go (taken c) e = refl
-    go (refused f k) e = found (refusal l f k e)
-      where
-        found : Refusal l f k → among readFaults f ≡ true
-        found (at-length g b i) = rw (← b)
-        found (at-record w r) = among-more f (stopped 0 (contractRecords l) [] l f k r .of-record)
-        found (at-end w st g b i) = rw (← b)

@@ -2,7 +2,7 @@
 use Prim.Native.Nat.{ℕ, zero, suc, _+_, _*_, _/_, _%_, _≤_}
 use native.Mathlib.Nat.{add-zero, add-assoc, zero-add}
 use native.Mathlib.Omega.{arith}
-use mathlib.Core.Bool.{Bool, true, false, _&&_, and-eq-true-iff}
+use mathlib.Core.Bool.{true, false, _&&_, and-eq-true-iff}
 use mathlib.Core.List.{List, [], _∷_, _++_, append-nil, append-assoc}
 use mathlib.Core.Logic.{_↔_}
 use mathlib.Core.Path.{_≡_, refl, sym, ap, _∙_}
@@ -10,16 +10,16 @@ use lib.Dec.{eqb, ltb, leb}
 use lib.ListN.{length, take, drop, length-drop}
 use lib.Seq.{take-add, take-all}
 use borrow.Author.Tests.{eqb-true, eq-eqb, ltb-true, lt-ltb, leb-true, le-leb}
-use Rattle.contract.specs.Meaning.{Clause, EmptyFree}
+use Rattle.contract.specs.Meaning.{Clause}
 use Rattle.records.specs.declared.Fault.the-variants.{BadLength}
 use Rattle.reader.specs.Limits.{maxRecords, recordBytes}
 use Rattle.reader.specs.Table.{Sort, clause, expression, Kind, line}
 use Rattle.reader.specs.Trees.{Tree, Trees, Fields, goodFields, node}
-use Rattle.reader.specs.Spelling.{spellRecord, spell, records, InRange, Spells, spellTree, treeRecords}
+use Rattle.reader.specs.Spelling.{spellRecord, spell, records, Spells, spellTree, treeRecords}
 use Rattle.reader.specs.Reader.{taken, Operand, operand, holdsEmptyUnder, readRecord, readRecords, justOne, contractRecords, goodContractLength, read}
 use Rattle.reader.proofs.Fields.{used, recordOf}
 use Rattle.reader.proofs.Spelling.{spellTrees, treesRecords, All, on-tree, spell-node, records-node, length-spell, some-records}
-use Rattle.reader.proofs.Nodes.{Good, good-node, onto, read-node, Completed, required, followed, completed}
+use Rattle.reader.proofs.Nodes.{Good, good-node, onto, read-node, MakesNode, required, followed, makes-node}
 
 -- ---- what has been read is what the stack spells
 
@@ -41,14 +41,14 @@ good-onto : (ss : List Sort) (ts : Trees ss) (st : List Operand) → GoodStack (
 good-onto [] ts st g = (tt, g)
 good-onto (s ∷ ss) ts st g = let h = good-onto ss (ts .1) (operand s (ts .0) ∷ st) g in ((h .1 .0, h .0), h .1 .1)
 
-completed-spells : (st : List Operand) (l : List ℕ) (st′ : List Operand) → Completed st l st′
+spell-made : (st : List Operand) (l : List ℕ) (st′ : List Operand) → MakesNode st l st′
     → spellStack st′ ≡ spellStack st ++ take recordBytes l
-completed-spells st l st′ c =
+spell-made st l st′ c =
     rw (c .after, c .before, c .bytes, spell-node (c .kind) (c .fields) (c .trees), spell-onto (line (c .kind) .operands) (c .trees) (c .rest))
     (sym (append-assoc (spellStack (c .rest)) (spellTrees (line (c .kind) .operands) (c .trees)) (spellRecord (recordOf (c .kind) (c .fields)))))
 
-completed-good : (st : List Operand) (l : List ℕ) (st′ : List Operand) → Completed st l st′ → GoodStack st → GoodStack st′
-completed-good st l st′ c g =
+good-made : (st : List Operand) (l : List ℕ) (st′ : List Operand) → MakesNode st l st′ → GoodStack st → GoodStack st′
+good-made st l st′ c g =
     let h = good-onto (line (c .kind) .operands) (c .trees) (c .rest) (rw (c .before) at g) in
     rw (c .after) (good-node (c .kind) (c .fields) (c .trees) .1 (c .in-range, h .0, c .not-empty), h .1)
 
@@ -58,10 +58,10 @@ records-spell : (k n : ℕ) (st : List Operand) (l : List ℕ) (st′ : List Ope
 unfolding readRecords
 records-spell k zero st l st′ w h g = let e : st ≡ st′ = cc in (rw (← e) (sym (append-nil (spellStack st))), rw e at g)
 records-spell k (suc n) st l st′ w h g = followed (readRecord k st l) h λ st₂ i j.
-    let c = completed k st l st₂ (omega arith) i in
-    let d = records-spell (suc k) n st₂ (drop recordBytes l) st′ (rw length-drop (omega arith)) j (completed-good st l st₂ c g) in
+    let c = makes-node k st l st₂ (omega arith) i in
+    let d = records-spell (suc k) n st₂ (drop recordBytes l) st′ (rw length-drop (omega arith)) j (good-made st l st₂ c g) in
     let s : recordBytes * suc n ≡ recordBytes + recordBytes * n = omega arith in
-    let e = rw (completed-spells st l st₂ c, append-assoc (spellStack st)) at (d .0) in
+    let e = rw (spell-made st l st₂ c, append-assoc (spellStack st)) at (d .0) in
     (rw (s, take-add recordBytes (recordBytes * n) l) e, d .1)
 
 -- ---- the length
@@ -90,13 +90,6 @@ good-length l = (there, back)
         let f = le-leb (length l) (recordBytes * maxRecords) (omega (arith, w .few-records)) in
         rw (lt-ltb 0 (length l) (omega (arith, w .some-records)), eq-eqb (length l % recordBytes) 0 (omega arith), f)
 
-pub not-whole : (l : List ℕ) → ¬ WholeRecords l → goodContractLength l ≡ false
-not-whole l n = go (goodContractLength l) refl
-  where
-    go : (t : Bool) → goodContractLength l ≡ t → t ≡ false
-    go true e = absurd (n (good-length l .0 e))
-    go false e = refl
-
 -- ---- what is taken spells its clause
 
 just-one : (n : ℕ) (st : List Operand) (c : Clause) → justOne n st ≡ taken c → st ≡ operand clause c ∷ []
@@ -113,9 +106,6 @@ module _ (l : List ℕ) (c : Clause) (h : read l ≡ taken c) where
       required (goodContractLength l) BadLength 0 h λ g h₂.
       followed (readRecords 0 (contractRecords l) [] l) h₂ λ st h₃ h₄.
       (good-length l .0 g, rw (just-one (contractRecords l) st c h₄) at h₃)
-
-  pub taken-length : goodContractLength l ≡ true
-  taken-length = good-length l .1 (read-taken .0)
 
   taken-stack : (l ≡ spell c) × Good clause c
   taken-stack =
@@ -174,18 +164,15 @@ reads-node kind f u ts h good k n st rest =
 reads-tree : (s : Sort) (t : Tree s) → ReadsTree s t
 reads-tree = on-tree ReadsTree reads-node
 
-pub spelled-taken : (c : Clause) → records c ≤ maxRecords → InRange c → EmptyFree c → read (spell c) ≡ taken c
+pub spells-taken : (l : List ℕ) (c : Clause) → Spells l c → read l ≡ taken c
 unfolding read readRecords ReadsTree
-spelled-taken c n r e =
+spells-taken l c s =
     let count : contractRecords (spell c) ≡ records c = unfold contractRecords in rw length-spell (omega arith) in
     let w : WholeRecords (spell c) =
-    record { some-records = rw count (some-records c); few-records = rw count n; whole = rw count (length-spell c) } in
-    let s : readRecords 0 (records c) [] (spell c) ≡ taken (operand clause c ∷ []) =
-    rw (add-zero, append-nil) at (reads-tree clause c (r, e) 0 0 [] []) in
-    rw (good-length (spell c) .1 w, count, s)
-
-pub spells-taken : (l : List ℕ) (c : Clause) → Spells l c → read l ≡ taken c
-spells-taken l c s = rw (s .bytes) (spelled-taken c (s .few-records) (s .in-range) (s .empty-free))
+    record { some-records = rw count (s .some-records); few-records = rw count (s .few-records); whole = rw count (length-spell c) } in
+    let stack : readRecords 0 (records c) [] (spell c) ≡ taken (operand clause c ∷ []) =
+    rw (add-zero, append-nil) at (reads-tree clause c (s .in-range, s .empty-free) 0 0 [] []) in
+    rw (s .bytes, good-length (spell c) .1 w, count, stack)
 
 pub taken-iff : (l : List ℕ) (c : Clause) → (read l ≡ taken c) ↔ Spells l c
 taken-iff l c = (taken-spells l c, spells-taken l c)

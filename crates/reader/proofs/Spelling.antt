@@ -33,14 +33,11 @@ All P (s ∷ ss) ts = P s (ts .0) × All P ss (ts .1)
 
 -- ---- a record
 
-pub length-record : (r : Record) → length (spellRecord r) ≡ recordBytes
+length-record : (r : Record) → length (spellRecord r) ≡ recordBytes
 unfolding spellRecord
 length-record r = refl
 
 -- ---- every tree is a node, of fields that its kind uses
-
-abbrev none : Fields
-none = record { party = 0; action = 0; last = 0 }
 
 abbrev of : (party action : ℕ) → Fields
 of p a = record { party = p; action = a; last = 0 }
@@ -50,7 +47,7 @@ module _ (P : (s : Sort) → Tree s → Type 0)
     → P (line k .completes) (node k f ts)) where
   on-atom : (x : E.Atom) → P expression (E.atom x)
   unfolding node
-  on-atom E.any = step any none refl tt tt
+  on-atom E.any = step any (of 0 0) refl tt tt
   on-atom (E.tries party1 a) = step tries (of 1 a) refl tt tt
   on-atom (E.tries party2 a) = step tries (of 2 a) refl tt tt
   on-atom (E.idle party1 a) = step idle (of 1 a) refl tt tt
@@ -61,9 +58,9 @@ module _ (P : (s : Sort) → Tree s → Type 0)
   on-expression : (e : Expression) → P expression e
   unfolding node
   on-expression (E.atom x) = on-atom x
-  on-expression (E.seq l r) = step seq none refl (l, (r, tt)) (on-expression l, (on-expression r, tt))
-  on-expression (E.or l r) = step or none refl (l, (r, tt)) (on-expression l, (on-expression r, tt))
-  on-expression (E.star e) = step star none refl (e, tt) (on-expression e, tt)
+  on-expression (E.seq l r) = step seq (of 0 0) refl (l, (r, tt)) (on-expression l, (on-expression r, tt))
+  on-expression (E.or l r) = step or (of 0 0) refl (l, (r, tt)) (on-expression l, (on-expression r, tt))
+  on-expression (E.star e) = step star (of 0 0) refl (e, tt) (on-expression e, tt)
 
   on-literal : (l : M.Literal) (p : Party) (a : ℕ) → P clause (M.literal l p a)
   unfolding node
@@ -77,12 +74,12 @@ module _ (P : (s : Sort) → Tree s → Type 0)
   on-clause : (c : Clause) → P clause c
   unfolding node
   on-clause (M.literal l p a) = on-literal l p a
-  on-clause (M.both l r) = step both none refl (l, (r, tt)) (on-clause l, (on-clause r, tt))
-  on-clause (M.then l r) = step then none refl (l, (r, tt)) (on-clause l, (on-clause r, tt))
-  on-clause (M.repair l r) = step repair none refl (l, (r, tt)) (on-clause l, (on-clause r, tt))
-  on-clause (M.repeat c) = step repeat none refl (c, tt) (on-clause c, tt)
-  on-clause (M.when e c) = step when none refl (e, (c, tt)) (on-expression e, (on-clause c, tt))
-  on-clause (M.until c e) = step until none refl (c, (e, tt)) (on-clause c, (on-expression e, tt))
+  on-clause (M.both l r) = step both (of 0 0) refl (l, (r, tt)) (on-clause l, (on-clause r, tt))
+  on-clause (M.then l r) = step then (of 0 0) refl (l, (r, tt)) (on-clause l, (on-clause r, tt))
+  on-clause (M.repair l r) = step repair (of 0 0) refl (l, (r, tt)) (on-clause l, (on-clause r, tt))
+  on-clause (M.repeat c) = step repeat (of 0 0) refl (c, tt) (on-clause c, tt)
+  on-clause (M.when e c) = step when (of 0 0) refl (e, (c, tt)) (on-expression e, (on-clause c, tt))
+  on-clause (M.until c e) = step until (of 0 0) refl (c, (e, tt)) (on-clause c, (on-expression e, tt))
 
   pub on-tree : (s : Sort) (t : Tree s) → P s t
   on-tree clause c = on-clause c
@@ -153,9 +150,6 @@ length-spellTrees (s ∷ ss) ts = rw (length-append, length-tree, length-spellTr
 
 pub length-spell : (c : Clause) → length (spell c) ≡ recordBytes * records c
 length-spell = length-tree clause
-
-pub length-expression : (e : Expression) → length (spellExpression e) ≡ recordBytes * expressionRecords e
-length-expression = length-tree expression
 
 pub some-records : (c : Clause) → 1 ≤ records c
 some-records = on-tree (λ s t. 1 ≤ treeRecords s t) (λ k f u ts h. rw records-node (omega arith)) clause

@@ -4,26 +4,25 @@ use Prim.Native.Nat.{ℕ, suc, _+_, _*_, _-_, _≤_, _<_}
 use native.Mathlib.Nat.{add-zero, sub-zero}
 use native.Mathlib.Numerals.{add-one}
 use native.Mathlib.Omega.{arith}
-use mathlib.Core.Bool.{true, false, not}
+use mathlib.Core.Bool.{_&&_}
 use mathlib.Core.List.{List, [], _∷_, _++_, map}
 use mathlib.Core.Path.{_≡_, refl, sym, ap, _∙_}
-use borrow.Author.Tests.{not-true, not-false, eqb-true, eqb-false}
 use lib.Dec.{eqb}
 use lib.ListN.{length, take, drop, getD, set, replicate, length-set, length-drop, length-map}
 use lib.Seq.{getD-drop, drop-drop, drop-at, set-split, length-take-le}
 use Rattle.records.specs.declared.Fault.{Fault}
-use Rattle.records.specs.declared.Test.the-variants.{Passed, Refused}
+use Rattle.records.specs.Refusals.{require}
 use Rattle.records.specs.declared.Fault.the-variants.{NotOneClause}
 use Rattle.reader.specs.declared.Step.{Step}
-use Rattle.reader.specs.declared.Step.the-variants.{Bad, Completed}
+use Rattle.reader.specs.declared.Step.the-variants.{Refused, Completed}
 use Rattle.reader.specs.Limits.{maxRecords, recordBytes}
 use Rattle.reader.specs.Table.{clause}
 use Rattle.reader.specs.Reader.{Operand, refused, taken, next, readRecord, readRecords, justOne, testOf}
 use Rattle.reader.specs.Codes.{sortNumber, codeOf, codeAt, stepOf}
-use Rattle.reader.proofs.Codes.{Pushed, step-bad, step-completed, just-one, not-one, not-clause}
+use Rattle.reader.proofs.Codes.{Pushed, step-drop, step-refused, step-completed, end-test}
 
 -- after k of n records
-pub record Read (l : List ℕ) (n : ℕ) (stack : List ℕ) (top k : ℕ) : Type 0 where
+pub record StackAfter (l : List ℕ) (n : ℕ) (stack : List ℕ) (top k : ℕ) : Type 0 where
   pub operands : List Operand
   pub codes : drop top stack ≡ map codeOf operands
   pub sized : maxRecords ≡ length stack
@@ -33,8 +32,8 @@ pub record Read (l : List ℕ) (n : ℕ) (stack : List ℕ) (top k : ℕ) : Type
   pub few : n ≤ maxRecords
   pub same : readRecords k (n - k) operands (drop (recordBytes * k) l) ≡ readRecords 0 n [] l
 
-pub read-none : (l : List ℕ) (n : ℕ) → n ≤ maxRecords → Read l n (replicate maxRecords 0) maxRecords 0
-read-none l n h =
+pub after-none : (l : List ℕ) (n : ℕ) → n ≤ maxRecords → StackAfter l n (replicate maxRecords 0) maxRecords 0
+after-none l n h =
     record {
       operands = [];
       codes = refl;
@@ -46,8 +45,8 @@ read-none l n h =
       same = rw sub-zero;
     }
 
--- a code written under those that stay
-pub replaced : (stack : List ℕ) (top m c : ℕ) → 1 ≤ top + m → top + m ≤ length stack
+-- a code written in place of the m on top
+replaced : (stack : List ℕ) (top m c : ℕ) → 1 ≤ top + m → top + m ≤ length stack
     → drop (top + m - 1) (set stack (top + m - 1) c) ≡ c ∷ drop m (drop top stack)
 replaced stack top m c h i =
     let at : ℕ = top + m - 1 in
@@ -55,11 +54,11 @@ replaced stack top m c h i =
     let split : set stack at c ≡ take at stack ++ (c ∷ drop (suc at) stack) = set-split stack at c (omega arith) in
     rw (split, drop-at (take at stack) (c ∷ drop (suc at) stack) at (length-take-le at stack (omega arith)), e, drop-drop)
 
-module _ {l : List ℕ} {n : ℕ} {stack : List ℕ} {top k : ℕ} (r : Read l n stack top k) where
-  pub code-at : (i : ℕ) → getD stack (top + i) 0 ≡ codeAt (r .operands) i
+module _ {l : List ℕ} {n : ℕ} {stack : List ℕ} {top k : ℕ} (r : StackAfter l n stack top k) where
+  code-at : (i : ℕ) → getD stack (top + i) 0 ≡ codeAt (r .operands) i
   code-at i = sym (getD-drop top stack i 0) ∙ ap (λ (cs : List ℕ). getD cs i 0) (r .codes)
 
-  pub operand-count : length (r .operands) ≡ maxRecords - top
+  operand-count : length (r .operands) ≡ maxRecords - top
   operand-count = sym (length-map (r .operands) codeOf) ∙ ap length (sym (r .codes)) ∙ length-drop top stack ∙ ap (λ (m : ℕ). m - top) (sym (r .sized))
 
   module _ (h : k < n) where
@@ -74,17 +73,17 @@ module _ {l : List ℕ} {n : ℕ} {stack : List ℕ} {top k : ℕ} (r : Read l n
         rw e
 
     -- the two codes on top are those of the two operands on top
-    step : {s : Step} → stepOf here (getD stack (top + 1) 0) (getD stack top 0) ≡ s
-        → stepOf here (codeAt (r .operands) 1) (codeAt (r .operands) 0) ≡ s
-    step e = rw (← code-at 1, ← code-at 0, add-zero) e
+    step : {s : Step} → stepOf l (recordBytes * k) (getD stack (top + 1) 0) (getD stack top 0) ≡ s
+        → stepOf here 0 (codeAt (r .operands) 1) (codeAt (r .operands) 0) ≡ s
+    step e = rw (← code-at 1, ← code-at 0, add-zero, ← step-drop) e
 
-    pub read-bad : (f : Fault) → stepOf here (getD stack (top + 1) 0) (getD stack top 0) ≡ Bad f → readRecords 0 n [] l ≡ refused f k
-    read-bad f e =
-        let bad : readRecord k (r .operands) here ≡ refused f k = step-bad k (r .operands) here f (step e) in
+    pub read-refused : (f : Fault) → stepOf l (recordBytes * k) (getD stack (top + 1) 0) (getD stack top 0) ≡ Refused f → readRecords 0 n [] l ≡ refused f k
+    read-refused f e =
+        let bad : readRecord k (r .operands) here ≡ refused f k = step-refused k (r .operands) here f (step e) in
         sym (r .same) ∙ unrolled ∙ ap (λ x. next x (λ st. readRecords (suc k) (n - suc k) st (drop recordBytes here))) bad
 
-    pub read-pushed : (m c : ℕ) → stepOf here (getD stack (top + 1) 0) (getD stack top 0) ≡ Completed m c
-        → (1 ≤ top + m) × (top + m ≤ maxRecords) × Read l n (set stack (top + m - 1) c) (top + m - 1) (k + 1)
+    pub read-pushed : (m c : ℕ) → stepOf l (recordBytes * k) (getD stack (top + 1) 0) (getD stack top 0) ≡ Completed m c
+        → (1 ≤ top + m) × (top + m ≤ maxRecords) × StackAfter l n (set stack (top + m - 1) c) (top + m - 1) (k + 1)
     read-pushed m c e =
         let p : Pushed k (r .operands) here m c = step-completed k (r .operands) here m c (step e) in
         let count : length (r .operands) ≡ maxRecords - top = operand-count in
@@ -109,32 +108,15 @@ module _ {l : List ℕ} {n : ℕ} {stack : List ℕ} {top k : ℕ} (r : Read l n
         )
 
   module _ (h : n ≤ k) where
-    pub read-all : readRecords 0 n [] l ≡ taken (r .operands)
+    read-all : readRecords 0 n [] l ≡ taken (r .operands)
     unfolding readRecords
     read-all =
         let e : n - k ≡ 0 = omega arith in
         sym (r .same) ∙ ap (λ m. readRecords k m (r .operands) (drop (recordBytes * k) l)) e
 
     -- 6, by the codes
-    ended : testOf (next (readRecords 0 n [] l) (justOne n)) ≡ testOf (justOne n (r .operands))
-    ended = rw read-all
-
-    one : top ≡ maxRecords - 1 → length (r .operands) ≡ 1
-    one e = operand-count ∙ ap (λ (t : ℕ). maxRecords - t) e
-
-    code : getD stack top 0 ≡ codeAt (r .operands) 0
-    code = rw add-zero at (code-at 0)
-
-    pub ends-taken : top ≡ maxRecords - 1 → not (eqb (getD stack top 0) (sortNumber clause)) ≡ false → testOf (next (readRecords 0 n [] l) (justOne n)) ≡ Passed
-    ends-taken e c =
-        ended ∙ just-one n (r .operands) (one e) (sym code ∙ eqb-true (getD stack top 0) (sortNumber clause) (not-false _ c))
-
-    pub ends-many : ¬ (top ≡ maxRecords - 1) → testOf (next (readRecords 0 n [] l) (justOne n)) ≡ Refused NotOneClause n
-    ends-many e =
-        let count : length (r .operands) ≡ maxRecords - top = operand-count in
-        ended ∙ not-one n (r .operands) (λ i. e (omega (arith, r .inside)))
-
-    pub ends-unmet : top ≡ maxRecords - 1 → not (eqb (getD stack top 0) (sortNumber clause)) ≡ true
-        → testOf (next (readRecords 0 n [] l) (justOne n)) ≡ Refused NotOneClause n
-    ends-unmet e c =
-        ended ∙ not-clause n (r .operands) (one e) (λ i. eqb-false (getD stack top 0) (sortNumber clause) (not-true _ c) (code ∙ i))
+    pub ended : testOf (next (readRecords 0 n [] l) (justOne n))
+        ≡ require (eqb (maxRecords - top) 1 && eqb (getD stack top 0) (sortNumber clause)) NotOneClause n
+    ended =
+        let code : getD stack top 0 ≡ codeAt (r .operands) 0 = rw add-zero at (code-at 0) in
+        rw (read-all, end-test n (r .operands), operand-count, code)

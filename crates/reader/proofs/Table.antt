@@ -1,22 +1,25 @@
 -- The table by its numbers: each kind is the kind of its own number, which numbers are a kind's, and what the program's table has at each.
-use Prim.Native.Nat.{ℕ, zero, suc, _+_, _-_, _≤_, _<_}
+use Prim.Native.Nat.{ℕ, zero, suc, _-_, _≤_, _<_}
 use native.Mathlib.Omega.{arith}
-use mathlib.Core.Path.{_≡_, refl, subst}
+use mathlib.Core.Path.{_≡_, refl, sym, ap, _∙_, subst}
 use mathlib.Core.Logic.{⊎-elim}
 use mathlib.Core.Bool.{Bool, true, false, _&&_, not, cond, and-eq-true-iff, false≢true}
 use mathlib.Core.List.{List, [], _∷_, map}
 use mathlib.Core.Option.{Option, none, some}
 use lib.Dec.{eqb, ltb, leb}
-use lib.ListN.{length, getD}
+use lib.ListN.{length, getD, List·getD-map}
 use borrow.Author.Tests.{eqb-true, lt-ltb, le-leb}
+use Rattle.records.specs.Refusals.{firstFailing}
 use Rattle.records.proofs.Cases.{lt-or-le}
+use Rattle.records.proofs.Searches.{failing-below}
+use Rattle.reader.specs.declared.Entry.{Entry}
 use Rattle.reader.specs.declared.Lookup.the-variants.{Found, Unknown}
-use Rattle.reader.specs.Table.{Kind, kinds, numbered, kindOf, line, duty, ban, power, both, then, repair, repeat, when, until, any, tries, idle, succeeds, fails, seq, or, star}
+use Rattle.reader.specs.Table.{Kind, kinds, firstNumbered, kindOf, line, duty, ban, power, both, then, repair, repeat, when, until, any, tries, idle, succeeds, fails, seq, or, star}
 use Rattle.reader.specs.Trees.{Fields, Record}
 use Rattle.reader.specs.Codes.{entryOf, packedLine, unpackedLine, lookupOf}
 
 pub kind-number : (k : Kind) → kindOf (line k .number) ≡ some k
-unfolding kindOf numbered
+unfolding kindOf firstNumbered
 kind-number duty = refl
 kind-number ban = refl
 kind-number power = refl
@@ -40,24 +43,24 @@ every f [] = true
 every f (K ∷ Ks) = f K && every f Ks
 
 -- the kind has this number and passes this test
-abbrev Listed : (Kind → Bool) → ℕ → Option Kind → Type 0
-Listed f n none = Unit {0}
-Listed f n (some K) = (line K .number ≡ n) × (f K ≡ true)
+abbrev Passes : (Kind → Bool) → ℕ → Option Kind → Type 0
+Passes f n none = Unit {0}
+Passes f n (some K) = (line K .number ≡ n) × (f K ≡ true)
 
 -- a kind found by its number passes the test that all do
-listed : (f : Kind → Bool) (n : ℕ) (Ks : List Kind) → every f Ks ≡ true → Listed f n (numbered n Ks)
-unfolding numbered
-listed f n [] h = tt
-listed f n (K ∷ Ks) h = go (eqb (line K .number) n) refl (listed f n Ks (and-eq-true-iff (f K) (every f Ks) .0 h .1))
+first-passes : (f : Kind → Bool) (n : ℕ) (Ks : List Kind) → every f Ks ≡ true → Passes f n (firstNumbered n Ks)
+unfolding firstNumbered
+first-passes f n [] h = tt
+first-passes f n (K ∷ Ks) h = go (eqb (line K .number) n) refl (first-passes f n Ks (and-eq-true-iff (f K) (every f Ks) .0 h .1))
   where
-    go : (t : Bool) → eqb (line K .number) n ≡ t → Listed f n (numbered n Ks) → Listed f n (cond t (some K) (numbered n Ks))
+    go : (t : Bool) → eqb (line K .number) n ≡ t → Passes f n (firstNumbered n Ks) → Passes f n (cond t (some K) (firstNumbered n Ks))
     go true e rest = (eqb-true (line K .number) n e, and-eq-true-iff (f K) (every f Ks) .0 h .0)
     go false e rest = rest
 
 -- a test that all kinds of the table pass is passed by every kind
 pub of-all : (f : Kind → Bool) → every f kinds ≡ true → (k : Kind) → f k ≡ true
 unfolding kindOf
-of-all f h k = subst (Listed f (line k .number)) (kind-number k) (listed f (line k .number) kinds h) .1
+of-all f h k = subst (Passes f (line k .number)) (kind-number k) (first-passes f (line k .number) kinds h) .1
 
 -- and one that they pass whatever the fields are, by every record
 pub of-records : (f : Record → Bool) → ((fs : Fields) → every (λ k. f record { kind = k; fields = fs }) kinds ≡ true) → (r : Record) → f r ≡ true
@@ -65,23 +68,9 @@ of-records f h r = of-all (λ k. f record { kind = k; fields = r .fields }) (h (
 
 pub number-kind : (n : ℕ) (k : Kind) → kindOf n ≡ some k → line k .number ≡ n
 unfolding kindOf
-number-kind n k h = subst (Listed (λ j. true) n) h (listed (λ j. true) n kinds refl) .0
+number-kind n k h = subst (Passes (λ j. true) n) h (first-passes (λ j. true) n kinds refl) .0
 
 -- ---- the kinds of the numbers
-
--- true of each of so many numbers from i on
-abbrev From : (ℕ → Type 0) → (i count : ℕ) → Type 0
-From P i zero = Unit {0}
-From P i (suc m) = P i × From P (suc i) m
-
-infixr 5 _and_
-abbrev _and_ : {A B : Type 0} → A → B → A × B
-a and b = (a, b)
-
-at : (P : ℕ → Type 0) (i m : ℕ) → From P i m → (n : ℕ) → i ≤ n → n < i + m → P n
-at P i zero all n h l = absurd (omega arith)
-at P i (suc m) all n h l =
-    ⊎-elim (λ s. let e : i ≡ n = omega arith in subst P e (all .0)) (λ s. at P (suc i) m (all .1) n s (omega arith)) (lt-or-le n (suc i))
 
 -- the numbers that are a kind's, and its place among the kinds
 abbrev pub OfClause : ℕ → Type 0
@@ -96,19 +85,20 @@ clausePlace n = n - line duty .number
 abbrev pub expressionPlace : ℕ → ℕ
 expressionPlace n = n - (line any .number - line until .number)
 
+abbrev hasNumber : (place : ℕ → ℕ) → ℕ → Bool
+hasNumber place n = eqb (line (getD kinds (place n) duty) .number) n
+
+kind-at : (place : ℕ → ℕ) (a count n : ℕ) → a ≤ n → n < firstFailing (hasNumber place) a count → kindOf n ≡ some (getD kinds (place n) duty)
+kind-at place a count n h l =
+    ap kindOf (sym (eqb-true _ n (failing-below (hasNumber place) a count n h l))) ∙ kind-number (getD kinds (place n) duty)
+
 pub clause-kind : (n : ℕ) → OfClause n → kindOf n ≡ some (getD kinds (clausePlace n) duty)
-unfolding kindOf numbered
-clause-kind n h =
-    at (λ n. kindOf n ≡ some (getD kinds (clausePlace n) duty)) (line duty .number) 9
-    (refl and refl and refl and refl and refl and refl and refl and refl and refl and tt)
-    n (h .0) (omega arith)
+unfolding firstFailing
+clause-kind n h = kind-at clausePlace (line duty .number) 9 n (h .0) (omega arith)
 
 pub expression-kind : (n : ℕ) → OfExpression n → kindOf n ≡ some (getD kinds (expressionPlace n) duty)
-unfolding kindOf numbered
-expression-kind n h =
-    at (λ n. kindOf n ≡ some (getD kinds (expressionPlace n) duty)) (line any .number) 8
-    (refl and refl and refl and refl and refl and refl and refl and refl and tt)
-    n (h .0) (omega arith)
+unfolding firstFailing
+expression-kind n h = kind-at expressionPlace (line any .number) 8 n (h .0) (omega arith)
 
 -- no kind has a number from a on and below b
 none-between : (a b n : ℕ) → every (λ K. not (leb a (line K .number) && ltb (line K .number) b)) kinds ≡ true → a ≤ n → n < b
@@ -145,36 +135,22 @@ table-at f d i h = go kinds i h
     go (K ∷ Ks) zero h = refl
     go (K ∷ Ks) (suc i) h = go Ks i (omega arith)
 
--- the program's table
--- each line is packedLine and unpackedLine again
-unpacked-line : (k : Kind) → unpackedLine (packedLine (entryOf k)) ≡ entryOf k
-unpacked-line duty = refl
-unpacked-line ban = refl
-unpacked-line power = refl
-unpacked-line both = refl
-unpacked-line then = refl
-unpacked-line repair = refl
-unpacked-line repeat = refl
-unpacked-line when = refl
-unpacked-line until = refl
-unpacked-line any = refl
-unpacked-line tries = refl
-unpacked-line idle = refl
-unpacked-line succeeds = refl
-unpacked-line fails = refl
-unpacked-line seq = refl
-unpacked-line or = refl
-unpacked-line star = refl
-
+-- the program's table, a number for each kind, which unpacked is the kind's entry
 abbrev pub lines : List ℕ
 lines = map (λ (k : Kind). packedLine (entryOf k)) kinds
 
-module _ (d : ℕ) where
-  pub known-clause : (n : ℕ) → OfClause n → lookupOf (kindOf n) ≡ Found (unpackedLine (getD lines (clausePlace n) d))
-  known-clause n h = rw (clause-kind n h, table-at (λ (k : Kind). packedLine (entryOf k)) d (clausePlace n) (omega arith), unpacked-line)
+unpacked-lines : map unpackedLine lines ≡ map entryOf kinds
+unpacked-lines = refl
 
-  pub known-expression : (n : ℕ) → OfExpression n → lookupOf (kindOf n) ≡ Found (unpackedLine (getD lines (expressionPlace n) d))
-  known-expression n h = rw (expression-kind n h, table-at (λ (k : Kind). packedLine (entryOf k)) d (expressionPlace n) (omega arith), unpacked-line)
+line-at : (d i : ℕ) → i < length kinds → unpackedLine (getD lines i d) ≡ entryOf (getD kinds i duty)
+line-at d i h =
+    sym (List·getD-map unpackedLine lines i d) ∙ ap (λ (es : List Entry). getD es i (unpackedLine d)) unpacked-lines ∙ table-at entryOf (unpackedLine d) i h
+
+pub known-clause : (d n : ℕ) → OfClause n → lookupOf (kindOf n) ≡ Found (unpackedLine (getD lines (clausePlace n) d))
+known-clause d n h = rw (clause-kind n h, line-at d (clausePlace n) (omega arith))
+
+pub known-expression : (d n : ℕ) → OfExpression n → lookupOf (kindOf n) ≡ Found (unpackedLine (getD lines (expressionPlace n) d))
+known-expression d n h = rw (expression-kind n h, line-at d (expressionPlace n) (omega arith))
 
 pub unknown : (n : ℕ) → ¬ OfClause n → ¬ OfExpression n → lookupOf (kindOf n) ≡ Unknown
 unknown n no-clause no-expression = rw (no-kind n no-clause no-expression)

@@ -13,10 +13,11 @@ use Rattle.reader.specs.declared.Entry.{Entry}
 use Rattle.reader.specs.declared.Lookup.{Lookup}
 use Rattle.reader.specs.declared.Lookup.the-variants.{Found, Unknown}
 use Rattle.reader.specs.declared.Step.{Step}
-use Rattle.reader.specs.declared.Step.the-variants.{Bad, Completed}
+use Rattle.reader.specs.declared.Step.the-variants.{Refused, Completed}
 use Rattle.reader.specs.Limits.{maxRecords, recordBytes}
 use Rattle.reader.specs.Table.{Sort, clause, expression, Kind, duty, when, until, seq, or, star, range, within, line, kindOf}
-use Rattle.reader.specs.Reader.{Operand, operand}
+use Rattle.reader.specs.Trees.{Fields}
+use Rattle.reader.specs.Reader.{kindAt, fieldsAt, Operand, operand}
 
 -- ---- the table in numbers
 
@@ -68,11 +69,11 @@ operandCount (some k) = length (line k .operands)
 
 -- ---- 4: the fields
 
-unfoldable pub inRanges : Entry → (party action last : ℕ) → Bool
-inRanges e p a z =
-    within (range (e .party .least) (e .party .greatest)) p
-    && within (range (e .action .least) (e .action .greatest)) a
-    && within (range (e .last .least) (e .last .greatest)) z
+unfoldable pub inRanges : Entry → Fields → Bool
+inRanges e f =
+    within (range (e .party .least) (e .party .greatest)) (f .party)
+    && within (range (e .action .least) (e .action .greatest)) (f .action)
+    && within (range (e .last .least) (e .last .greatest)) (f .last)
 
 -- ---- the operands
 
@@ -116,19 +117,19 @@ completed k b t =
 
 -- ---- a record
 
-abbrev pub stepFound : Lookup → List ℕ → (below top : ℕ) → Step
-stepFound Unknown l b t = Bad UnknownKind
-stepFound (Found e) l b t =
-    cond (inRanges e (getD l 3 0) (getD l 4 0) (getD l 5 0))
+abbrev pub stepFound : Lookup → (kind : ℕ) → Fields → (below top : ℕ) → Step
+stepFound Unknown k f b t = Refused UnknownKind
+stepFound (Found e) k f b t =
+    cond (inRanges e f)
     (cond (goodOperands (e .operands) (e .first) (e .second) b t)
-    (cond (emptyUnder (getD l 2 0) b t) (Bad EmptyList) (Completed (e .operands) (completed (getD l 2 0) b t)))
-    (Bad BadOperands))
-    (Bad BadField)
+    (cond (emptyUnder k b t) (Refused EmptyList) (Completed (e .operands) (completed k b t)))
+    (Refused BadOperands))
+    (Refused BadField)
 
--- what the record that stands first in the bytes does to a stack with these two codes on top: a fault, or so many operands replaced by one of
--- this code
-unfoldable pub stepOf : List ℕ → (below top : ℕ) → Step
-stepOf l b t = cond (marked l 0 contractMark) (stepFound (lookupOf (kindOf (getD l 2 0))) l b t) (Bad BadMark)
+-- what the record from byte `at` on does to a stack with these two codes on top: a fault, or so many operands replaced by one of this code
+unfoldable pub stepOf : List ℕ → (at : ℕ) → (below top : ℕ) → Step
+stepOf l at b t =
+    cond (marked l at contractMark) (stepFound (lookupOf (kindOf (kindAt l at))) (kindAt l at) (fieldsAt l at) b t) (Refused BadMark)
 
 -- ---- the premises of the inner functions
 

@@ -1,6 +1,6 @@
 -- How a contract's bytes are read: record by record onto a stack of operands, to a clause or the first refusal.
 -- Document 01, "Records" and, for refusals 1 to 7, "Replies that refuse".
-use Prim.Native.Nat.{ℕ, zero, suc, _*_, _/_, _%_, _≤_}
+use Prim.Native.Nat.{ℕ, zero, suc, _+_, _*_, _/_, _%_, _≤_}
 use mathlib.Core.Bool.{Bool, false, _&&_, not}
 use mathlib.Core.List.{List, [], _∷_}
 use mathlib.Core.Option.{Option, none, some}
@@ -39,11 +39,13 @@ abbrev pub demand : {A B : Type 0} → Option A → Fault → (place : ℕ) → 
 demand none f k g = refused f k
 demand (some x) f k g = g x
 
--- ---- 4: the fields
+-- ---- the record from byte `at` on: its kind's number and its fields
 
--- those of the record that stands first in the bytes
-abbrev pub fieldsIn : List ℕ → Fields
-fieldsIn l = record { party = getD l 3 0; action = getD l 4 0; last = getD l 5 0 }
+abbrev pub kindAt : List ℕ → (at : ℕ) → ℕ
+kindAt l at = getD l (at + 2) 0
+
+abbrev pub fieldsAt : List ℕ → (at : ℕ) → Fields
+fieldsAt l at = record { party = getD l (at + 3) 0; action = getD l (at + 4) 0; last = getD l (at + 5) 0 }
 
 -- ---- 5: the operands
 
@@ -99,10 +101,10 @@ push k s t st = provided (require (not (holdsEmptyUnder s t)) EmptyList k) (take
 unfoldable pub readRecord : (k : ℕ) → List Operand → List ℕ → Result (List Operand)
 readRecord k st l =
     provided (require (marked l 0 contractMark) BadMark k)
-    (demand (kindOf (getD l 2 0)) UnknownKind k
-    (λ kind. provided (require (goodFields (line kind) (fieldsIn l)) BadField k)
+    (demand (kindOf (kindAt l 0)) UnknownKind k
+    (λ kind. provided (require (goodFields (line kind) (fieldsAt l 0)) BadField k)
     (demand (operandsOf (line kind .operands) st) BadOperands k
-    (λ os. push k (line kind .completes) (node kind (fieldsIn l) (os .trees)) (os .rest)))))
+    (λ os. push k (line kind .completes) (node kind (fieldsAt l 0) (os .trees)) (os .rest)))))
 
 -- the stack after n records, the first of which is record k
 unfoldable pub readRecords : (k n : ℕ) → List Operand → List ℕ → Result (List Operand)
@@ -128,8 +130,6 @@ goodContractLength l = ltb 0 (length l) && eqb (length l % recordBytes) 0 && leb
 unfoldable pub read : List ℕ → Result Clause
 read l = provided (require (goodContractLength l) BadLength 0) (next (readRecords 0 (contractRecords l) [] l) (justOne (contractRecords l)))
 
--- ---- refusals 1 to 7
-
 -- what a reading's tests find
 abbrev pub testOf : {A : Type 0} → Result A → Test
 testOf (refused f k) = Refused f k
@@ -138,11 +138,11 @@ testOf (taken x) = Passed
 unfoldable pub readTest : List ℕ → Test
 readTest l = testOf (read l)
 
+-- ---- the place of a refusal
+
 -- the faults of one record
 abbrev pub recordFaults : List Fault
 recordFaults = BadMark ∷ UnknownKind ∷ BadField ∷ BadOperands ∷ EmptyList ∷ []
-
--- ---- the place of a refusal
 
 -- reading the bytes meets no fault of a record
 pub record Faultless (l : List ℕ) : Type 0 where

@@ -75,10 +75,10 @@ kinds =
     duty ∷ ban ∷ power ∷ both ∷ then ∷ repair ∷ repeat ∷ when ∷ until ∷ any ∷ tries ∷ idle ∷ succeeds ∷ fails ∷ seq ∷ or ∷ star ∷ []
 
 -- the first of some kinds that has this number
-unfoldable pub numbered : ℕ → List Kind → Option Kind
-numbered n [] = none
-numbered n (k ∷ ks) = cond (eqb (line k .number) n) (some k) (numbered n ks)
+unfoldable pub firstNumbered : ℕ → List Kind → Option Kind
+firstNumbered n [] = none
+firstNumbered n (k ∷ ks) = cond (eqb (line k .number) n) (some k) (firstNumbered n ks)
 
 -- the kind of a number, if it is one
 unfoldable pub kindOf : ℕ → Option Kind
-kindOf n = numbered n kinds
+kindOf n = firstNumbered n kinds

@@ -7,7 +7,7 @@ use Rattle.periods.specs.Forms.{formOf}
 use Rattle.periods.specs.Periods.{tries, bit, periodFrom}
 use Rattle.periods.specs.Traces.{wholePeriods, markedAs, periodAt, marksTest, traceTest, periodsOf}
 use Rattle.contract.specs.Meaning.{meaning, repeatMeaning}
-use Rattle.reader.specs.Table.{numbered, kindOf}
+use Rattle.reader.specs.Table.{firstNumbered, kindOf}
 use Rattle.reader.specs.Trees.{goodFields, node}
 use Rattle.reader.specs.Reader as Reader
 use Rattle.reader.specs.Reader.{operandsOf, readRecord, readRecords, read}
@@ -19,7 +19,7 @@ use Rattle.report.proofs.Reports.{longer}
 
 pub report-vectors : ReportVectors
 unfolding
-    report contractLength firstPeriod firstFailing formOf wholePeriods markedAs marked read Reader.goodContractLength Reader.contractRecords readRecords readRecord numbered
+    report contractLength firstPeriod firstFailing formOf wholePeriods markedAs marked read Reader.goodContractLength Reader.contractRecords readRecords readRecord firstNumbered
     kindOf goodFields operandsOf node onTrace traceTest marksTest lines periodLines meantLine periodsOf periodAt periodFrom field value meaning repeatMeaning
     tries bit periodLine decidedLine refusedLine decimal digits
 report-vectors =

@@ -62,7 +62,7 @@ module _ (t : ℕ) where
       RecordRead (a .contract .now) (a .n) (p .before .before .before .last-record .result) (p .before .operands .result) (p .before .before .plan-of .result)
   reads p =
       record {
-        bytes-are = p .before .before .before .last-record .ensures;
+        body-is = p .before .before .before .last-record .ensures;
         plan-is = p .before .before .plan-of .ensures;
         count-is = p .before .operands .ensures;
       }
@@ -80,7 +80,7 @@ module _ (t : ℕ) where
       → let a = p .before .before .before .before .before .before .args in
       let r = p .before .before .before .last-record .result in
       length later ≡ length (a .image .now)
-      → RecordRows later (p .before .before .plan-of .result) (a .at) (left .next) (basesOf (a .at) (a .s) (a .k) left right (r .party) (r .action))
+      → RecordRows (length later) (p .before .before .plan-of .result) (a .at) (left .next) (basesOf (a .at) (a .s) (a .k) left right (r .party) (r .action))
   rows-at p w l =
       let bytes = p .before .before .before .last-record .ok in
       record-rows (p .before .before .before .before .before .before .pre .1) (reads p) w l (omega arith, omega arith)

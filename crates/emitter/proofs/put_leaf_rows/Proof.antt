@@ -1,4 +1,5 @@
--- `emitter::put_leaf_rows` meets its contract: the numbers of the program's table hold the definition's rows.
+-- `emitter::put_leaf_rows` meets its contract: the numbers of the program's table hold the definition's rows. Rattle finds this proof by itself,
+-- as that of `put_node_rows`; the file is kept so that a wrong row is refused here.
 use mathlib.Core.Path.{refl}
 use borrow.Author.Needs.{needs}
 use Rattle.emitter.proofs.put_leaf_rows.Statement.{statement}

@@ -13,18 +13,7 @@ add-put-rows c = search needs
 
 put-rows-requires-2 : tie.Need-put-rows-requires-2
 put-rows-requires-2 c κs =
-    let h = c .before .before .before .before .before .before .before .pre .second in
-    let r = h .has-room in
-    record {
-      has-room = record {
-        bases-small = r .bases-small;
-        short = r .short;
-        listed = r .listed;
-        room = rw (c .before .before .before .before .put-rows .ensures, length-written) (r .room);
-        few = r .few;
-      };
-      in-one = h .in-one;
-    }
+    rw (c .before .before .before .before .put-rows .ensures, length-written) (c .before .before .before .before .before .before .before .pre .second)
 
 same-length : tie.Need-same-length
 same-length c = search needs

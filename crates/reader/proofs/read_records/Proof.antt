@@ -1,13 +1,17 @@
 -- `reader::read_records` meets its contract. The loop's invariant: the stack has the codes of the operands that the records so far leave.
 use borrow.Author.Needs.{needs}
+use borrow.Author.Tests.{eq-eqb, ne-eqb, not-true, not-false}
 use Prim.Native.Nat.{_+_, _*_, _≤_, _-_}
 use native.Mathlib.Omega.{arith}
+use mathlib.Core.Bool.{true, false}
 use mathlib.Core.Path.{_≡_, sym, _∙_}
 use mathlib.Core.Logic.{⊎-elim}
-use lib.ListN.{drop, getD, set}
+use lib.Dec.{eqb}
+use lib.ListN.{getD, set}
 use Rattle.reader.specs.Limits.{maxRecords, recordBytes}
-use Rattle.reader.specs.Codes.{stepOf}
-use Rattle.reader.proofs.Stack.{Read, read-none, read-bad, read-pushed, ends-taken, ends-many, ends-unmet}
+use Rattle.reader.specs.Table.{clause}
+use Rattle.reader.specs.Codes.{sortNumber, stepOf}
+use Rattle.reader.proofs.Stack.{StackAfter, after-none, read-refused, read-pushed, ended}
 use Rattle.reader.proofs.read_records.Statement.{statement}
 use Rattle.reader.proofs.read_records.Tie as tie
 use Rattle.reader.proofs.read_records.Reads as reads
@@ -16,7 +20,7 @@ use Rattle.reader.proofs.peek.Reads as peek-reads
 use Rattle.reader.proofs.read_record.Reads as read-record-reads
 
 abbrev Inv-loop : tie.InvT-loop
-Inv-loop contract n stack₀ top₀ k₀ stack top k = Read contract n stack top k
+Inv-loop contract n stack₀ top₀ k₀ stack top k = StackAfter contract n stack top k
 
 abbrev μ-loop : tie.MeasureT-loop
 μ-loop contract n stack₀ top₀ k₀ stack top k = n - k
@@ -25,7 +29,7 @@ abbrev μ-loop : tie.MeasureT-loop
 step : (c : lts.After-read-record (peek-reads.Asked, peek-reads.Learnt, read-record-reads.Asked, read-record-reads.Learnt) reads.Pre reads.Post Inv-loop μ-loop)
     → let d = c .before .before .before .before .before .before in
     let v = d .loop in
-    stepOf (drop (recordBytes * v .k) (d .before .before .args .contract .now)) (getD (v .stack) (v .top + 1) 0) (getD (v .stack) (v .top) 0)
+    stepOf (d .before .before .args .contract .now) (recordBytes * v .k) (getD (v .stack) (v .top + 1) 0) (getD (v .stack) (v .top) 0)
     ≡ c .read-record .result
 step c = rw (← c .before .before .before .peek .ensures, ← c .before .peek2 .ensures) (sym (c .read-record .ensures))
 
@@ -36,14 +40,14 @@ pushed : (c : lts.After-known-told2 (peek-reads.Asked, peek-reads.Learnt, read-r
     let m = c .before .step2 .given .0 .0 in
     (1 ≤ v .top + m)
     × (v .top + m ≤ maxRecords)
-    × Read (d .before .before .args .contract .now) (d .before .before .args .n) (set (v .stack) (v .top + m - 1) (c .before .step2 .given .0 .1 .0)) (v .top + m - 1) (v .k + 1)
+    × StackAfter (d .before .before .args .contract .now) (d .before .before .args .n) (set (v .stack) (v .top + m - 1) (c .before .step2 .given .0 .1 .0)) (v .top + m - 1) (v .k + 1)
 pushed c =
     let r = c .before .before .before in
     let i = r .before .before .before .before .before in
     read-pushed (i .before .loop .inv) (i .loop-test .taken) _ _ (step r ∙ c .before .step2 .given .1)
 
 loop-holds : tie.Need-loop-holds Inv-loop μ-loop
-loop-holds c = read-none (c .before .args .contract .now) (c .before .args .n) (c .before .pre .few)
+loop-holds c = after-none (c .before .args .contract .now) (c .before .args .n) (c .before .pre .few)
 
 mul-read-record : tie.Need-mul-read-record Inv-loop μ-loop
 mul-read-record c =
@@ -82,7 +86,7 @@ returns : tie.Need-returns Inv-loop μ-loop
 returns c =
     let r = c .before .before .before in
     let i = r .before .before .before .before .before in
-    rw (read-bad (i .before .loop .inv) (i .loop-test .taken) _ (step r ∙ c .before .step .given .1))
+    rw (read-refused (i .before .loop .inv) (i .loop-test .taken) _ (step r ∙ c .before .step .given .1))
 
 enum-known-step-2 : tie.Need-enum-known-step-2 Inv-loop μ-loop
 enum-known-step-2 c = search needs
@@ -128,15 +132,24 @@ array-read-if2 c =
 returns-2 : tie.Need-returns-2 Inv-loop μ-loop
 returns-2 c =
     let a = c .before in
-    ⊎-elim
-    (λ w. sym (ends-many (a .before .loop .inv) (a .loop-test .left) (w .taken)))
-    (λ w. sym (ends-unmet (a .before .loop .inv) (a .loop-test .left) (w .0 .left) (w .1 .taken)))
-    (c .if1 .came)
+    let v = a .before .loop in
+    let i = v .inv .inside in
+    rw (ended (v .inv) (a .loop-test .left))
+    (⊎-elim
+    (λ w. rw (ne-eqb (maxRecords - v .top) 1 (λ e. w .taken (omega arith))))
+    (λ w.
+    let e = w .0 .left in
+    let not-clause : eqb (getD (v .stack) (v .top) 0) (sortNumber clause) ≡ false = not-true _ (w .1 .taken) in
+    rw (eq-eqb (maxRecords - v .top) 1 (omega arith), not-clause))
+    (c .if1 .came))
 
 returns-3 : tie.Need-returns-3 Inv-loop μ-loop
 returns-3 c =
     let a = c .before .before in
-    sym (ends-taken (a .before .loop .inv) (a .loop-test .left) (c .before .if1 .left) (c .if2 .left))
+    let v = a .before .loop in
+    let e = c .before .if1 .left in
+    let is-clause : eqb (getD (v .stack) (v .top) 0) (sortNumber clause) ≡ true = not-false _ (c .if2 .left) in
+    rw (ended (v .inv) (a .loop-test .left), eq-eqb (maxRecords - v .top) 1 (omega arith), is-clause)
 
 pub read-records-spec : {M : Type 1} → statement M
 read-records-spec =

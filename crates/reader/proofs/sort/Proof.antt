@@ -1,4 +1,4 @@
--- `reader::sort` meets its contract: 3 is an expression too.
+-- `reader::sort` meets its contract: EMPTY is an expression's code too.
 use borrow.Author.Tests.{eq-eqb, ne-eqb}
 use Rattle.reader.proofs.sort.Statement.{statement}
 use Rattle.reader.proofs.sort.Tie as tie
