@@ -8,12 +8,11 @@ use Rattle.contract.specs.Meaning.{Clause}
 use Rattle.records.specs.declared.Fault.{Fault}
 use Rattle.records.specs.declared.Fault.the-variants.{BadLength, NotOneClause}
 use Rattle.records.specs.declared.Test.the-variants.{Passed}
-use Rattle.records.specs.Refusals.{among}
-use Rattle.records.proofs.Refusals.{refused-passed, onlyFor, among-append}
-use Rattle.reader.specs.Reader.{Result, refused, taken, contractRecords, read, recordFaults, testOf, readTest}
+use Rattle.records.proofs.Refusals.{refused-passed, among, onlyFor, among-append}
+use Rattle.reader.specs.Reader.{Result, refused, taken, contractRecords, read, testOf, readTest}
 use Rattle.reader.specs.Taken.{Contract}
 use Rattle.reader.proofs.Reader.{taken-spells, taken-count}
-use Rattle.reader.proofs.Places.{Refusal, at-length, at-record, at-end, refusal}
+use Rattle.reader.proofs.Places.{recordFaults, Refusal, at-length, at-record, at-end, refusal}
 
 pub test-passed : (l : List ℕ) → readTest l ≡ Passed → Contract l (contractRecords l)
 unfolding readTest

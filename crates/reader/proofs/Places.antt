@@ -12,14 +12,30 @@ use lib.Seq.{getD-take, length-take-le}
 use Rattle.records.specs.Marks.{contractMark, marked}
 use Rattle.records.proofs.Written.{drop-take}
 use Rattle.records.specs.declared.Fault.{Fault}
-use Rattle.records.specs.Refusals.{require, among}
+use Rattle.records.specs.Refusals.{require}
+use Rattle.records.proofs.Refusals.{among}
 use Rattle.records.specs.declared.Fault.the-variants.{BadLength, BadMark, UnknownKind, BadField, BadOperands, NotOneClause, EmptyList}
 use Rattle.reader.specs.Limits.{maxRecords, recordBytes}
 use Rattle.reader.specs.Table.{clause, expression, kindOf, line}
 use Rattle.reader.specs.Trees.{goodFields, node}
-use Rattle.reader.specs.Reader.{Result, refused, taken, next, provided, demand, kindAt, fieldsAt, Operand, operand, operandsOf, holdsEmptyUnder, readRecord, readRecords, justOne, contractRecords, goodContractLength, read, recordFaults, Faultless, FirstFault}
+use Rattle.reader.specs.Reader.{Result, refused, taken, next, provided, demand, kindAt, fieldsAt, Operand, operand, operandsOf, holdsEmptyUnder, readRecord, readRecords, justOne, contractRecords, goodContractLength, read}
 use Rattle.reader.proofs.Nodes.{refused-taken, followed}
 use Rattle.reader.proofs.Reader.{WholeRecords, good-length}
+
+-- ---- what is said of a place
+
+-- the faults of one record
+abbrev pub recordFaults : List Fault
+recordFaults = BadMark ∷ UnknownKind ∷ BadField ∷ BadOperands ∷ EmptyList ∷ []
+
+-- reading the bytes meets no fault of a record
+pub record Faultless (l : List ℕ) : Type 0 where
+  pub none-met : (f : Fault) (k : ℕ) → read l ≡ refused f k → among recordFaults f ≡ false
+
+-- "the first record at fault": the fault is met where the bytes end with record k, and no fault of a record where they end before it
+pub record FirstFault (l : List ℕ) (f : Fault) (k : ℕ) : Type 0 where
+  pub here : read (take (recordBytes * suc k) l) ≡ refused f k
+  pub before : (n : ℕ) → n ≤ k → Faultless (take (recordBytes * n) l)
 
 -- ---- one record is refused at its own place, for a fault of a record
 

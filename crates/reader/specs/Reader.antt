@@ -1,18 +1,17 @@
 -- How a contract's bytes are read: record by record onto a stack of operands, to a clause or the first refusal.
 -- Document 01, "Records" and, for refusals 1 to 7, "Replies that refuse".
-use Prim.Native.Nat.{ℕ, zero, suc, _+_, _*_, _/_, _%_, _≤_}
+use Prim.Native.Nat.{ℕ, zero, suc, _+_, _*_, _/_, _%_}
 use mathlib.Core.Bool.{Bool, false, _&&_, not}
 use mathlib.Core.List.{List, [], _∷_}
 use mathlib.Core.Option.{Option, none, some}
-use mathlib.Core.Path.{_≡_}
 use lib.Dec.{eqb, ltb, leb}
-use lib.ListN.{length, take, drop, getD}
+use lib.ListN.{length, drop, getD}
 use Rattle.records.specs.Marks.{contractMark, marked}
 use Rattle.records.specs.declared.Fault.{Fault}
 use Rattle.records.specs.declared.Fault.the-variants.{BadLength, BadMark, UnknownKind, BadField, BadOperands, NotOneClause, EmptyList}
 use Rattle.records.specs.declared.Test.{Test}
 use Rattle.records.specs.declared.Test.the-variants.{Passed, Refused}
-use Rattle.records.specs.Refusals.{require, among}
+use Rattle.records.specs.Refusals.{require}
 use Rattle.contract.specs.Expressions.{holdsEmpty}
 use Rattle.contract.specs.Meaning.{Clause, literal, both, then, repair, repeat, when, until}
 use Rattle.reader.specs.Limits.{maxRecords, recordBytes}
@@ -137,18 +136,3 @@ testOf (taken x) = Passed
 
 unfoldable pub readTest : List ℕ → Test
 readTest l = testOf (read l)
-
--- ---- the place of a refusal
-
--- the faults of one record
-abbrev pub recordFaults : List Fault
-recordFaults = BadMark ∷ UnknownKind ∷ BadField ∷ BadOperands ∷ EmptyList ∷ []
-
--- reading the bytes meets no fault of a record
-pub record Faultless (l : List ℕ) : Type 0 where
-  pub none-met : (f : Fault) (k : ℕ) → read l ≡ refused f k → among recordFaults f ≡ false
-
--- "the first record at fault": the fault is met where the bytes end with record k, and no fault of a record where they end before it
-pub record FirstFault (l : List ℕ) (f : Fault) (k : ℕ) : Type 0 where
-  pub here : read (take (recordBytes * suc k) l) ≡ refused f k
-  pub before : (n : ℕ) → n ≤ k → Faultless (take (recordBytes * n) l)

@@ -10,9 +10,12 @@ use lib.Dec.{eqb}
 use lib.ListN.{length, take, drop, getD}
 use lib.Seq.{drop-cons, getD-drop}
 use borrow.Author.Tests.{eqb-true}
-use Rattle.records.specs.Marks.{marks, marked}
+use Rattle.records.specs.Marks.{contractMark, periodMark, rowMark, endMark, marked}
 
--- the four marks are pairwise different: each matches itself and no other
+abbrev pub marks : List (List ℕ)
+marks = contractMark ∷ periodMark ∷ rowMark ∷ endMark ∷ []
+
+-- they are pairwise different: each matches itself and no other
 pub marks-differ : map (λ (m : List ℕ). map (marked m 0) marks) marks
     ≡ (true ∷ false ∷ false ∷ false ∷ [])
     ∷ (false ∷ true ∷ false ∷ false ∷ [])

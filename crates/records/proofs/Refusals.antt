@@ -8,7 +8,7 @@ use Rattle.records.specs.declared.Test.{Test}
 use Rattle.records.specs.declared.Test.the-variants.{Passed, Refused}
 use Rattle.records.specs.declared.Fault.{Fault}
 use Rattle.records.specs.declared.Fault.the-variants.{BadLength, BadMark, UnknownKind, BadField, BadOperands, NotOneClause, EmptyList, ShortBuffer, BadImage, BadState, BadPeriod, FullCount, LongInput}
-use Rattle.records.specs.Refusals.{faultNumber, require, firstOf, passed, among}
+use Rattle.records.specs.Refusals.{faultNumber, require, firstOf, passed}
 use lib.Dec.{eqb, leb, ltb}
 use borrow.Author.Tests.{leb-true, ltb-true}
 
@@ -88,6 +88,11 @@ pub passed-not : (t : Test) → passed t ≡ false → ¬ (t ≡ Passed)
 passed-not t h e = false≢true (sym h ∙ ap passed e)
 
 -- ---- which faults a test can give
+
+-- the fault is one of these
+abbrev pub among : List Fault → Fault → Bool
+among [] f = false
+among (g ∷ gs) f = eqb (faultNumber f) (faultNumber g) || among gs f
 
 -- the test is passed, or refused for one of these faults
 abbrev pub onlyFor : List Fault → Test → Bool

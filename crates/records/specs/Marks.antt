@@ -22,9 +22,6 @@ endMark = 0x54 ∷ 0x45 ∷ []
 abbrev pub markBytes : ℕ
 markBytes = 2
 
-abbrev pub marks : List (List ℕ)
-marks = contractMark ∷ periodMark ∷ rowMark ∷ endMark ∷ []
-
 -- the record from byte `at` on starts with this mark
 unfoldable pub marked : List ℕ → ℕ → List ℕ → Bool
 marked l at mark = eqb (getD l at 0) (getD mark 0 0) && eqb (getD l (at + 1) 0) (getD mark 1 0)

@@ -1,9 +1,7 @@
 -- Refusals: the faults of document 01's table and their numbers, and what a call's tests find in their order.
 -- Document 01, "Replies that refuse".
 use Prim.Native.Nat.{ℕ, zero, suc}
-use mathlib.Core.Bool.{Bool, true, false, _||_, cond}
-use mathlib.Core.List.{List, [], _∷_}
-use lib.Dec.{eqb}
+use mathlib.Core.Bool.{Bool, true, false, cond}
 use Rattle.records.specs.declared.Fault.{Fault}
 use Rattle.records.specs.declared.Fault.the-variants.{BadLength, BadMark, UnknownKind, BadField, BadOperands, NotOneClause, EmptyList, ShortBuffer, BadImage, BadState, BadPeriod, FullCount, LongInput}
 use Rattle.records.specs.declared.Test.{Test}
@@ -52,8 +50,3 @@ firstFailing ok k (suc n) = cond (ok k) (firstFailing ok (suc k) n) k
 abbrev pub passed : Test → Bool
 passed Passed = true
 passed (Refused f place) = false
-
--- the fault is one of these
-abbrev pub among : List Fault → Fault → Bool
-among [] f = false
-among (g ∷ gs) f = eqb (faultNumber f) (faultNumber g) || among gs f
