@@ -1,12 +1,14 @@
 -- The fields of a record and of the node that it makes: the node keeps those that the kind uses, and of fields in range all.
 use Prim.Native.Nat.{ℕ, _≤_, _<_}
 use native.Mathlib.Omega.{arith}
-use mathlib.Core.Bool.{Bool, true, false, _&&_, _||_, not, cond, and-eq-true-iff}
-use mathlib.Core.Path.{_≡_, refl, sym}
+use mathlib.Core.Bool.{Bool, true, _&&_, _||_, not, cond, and-eq-true-iff}
+use mathlib.Core.Logic.{⊎-elim}
+use mathlib.Core.Path.{_≡_, refl}
 use lib.Dec.{eqb, ltb, leb}
 use borrow.Author.Tests.{eqb-true, eqb-false, leb-true, le-leb, ltb-true, ltb-false}
+use Rattle.records.proofs.Cases.{true-or-false}
 use Rattle.periods.specs.Limits.{actions}
-use Rattle.periods.specs.Periods.{party1, party2, partyNumber}
+use Rattle.periods.specs.Periods.{partyNumber}
 use Rattle.reader.specs.Table.{Kind, Range, within, partyNumbers, Line, line}
 use Rattle.reader.specs.Trees.{Fields, Record, goodFields, partyNamed}
 use Rattle.reader.specs.Spelling.{Allowed}
@@ -48,34 +50,28 @@ each l f h =
     record { party = i .0; action = i .1; last = g .1 }
 
 used-number : (r : Range) (n : ℕ) → within r n ≡ true → cond (uses r) n 0 ≡ n
-used-number r n h = go (uses r) refl
-  where
-    go : (t : Bool) → uses r ≡ t → cond t n 0 ≡ n
-    go true e = refl
-    go false e = omega (arith, ltb-false 0 (r .greatest) e, inside r n h)
+used-number r n h =
+    ⊎-elim (λ e. rw e) (λ e. rw e (omega (arith, ltb-false 0 (r .greatest) e, inside r n h))) (true-or-false (uses r))
 
 number-named : (n : ℕ) → within partyNumbers n ≡ true → partyNumber (partyNamed n) ≡ n
-number-named n h = go (eqb n 1) refl
-  where
-    go : (t : Bool) → eqb n 1 ≡ t → partyNumber (cond t party1 party2) ≡ n
-    go true e = sym (eqb-true n 1 e)
-    go false e = let d : n ≡ 1 → ⊥ = eqb-false n 1 e in omega (arith, inside partyNumbers n h)
+number-named n h =
+    let i = inside partyNumbers n h in
+    ⊎-elim (λ e. rw (eqb-true n 1 e)) (λ e. let d : n ≡ 1 → ⊥ = eqb-false n 1 e in rw e (omega arith)) (true-or-false (eqb n 1))
 
 -- a range of parties, or of 0 alone
 abbrev ofParties : Range → Bool
 ofParties r = not (uses r) || (leb (partyNumbers .least) (r .least) && leb (r .greatest) (partyNumbers .greatest))
 
 used-party : (r : Range) → ofParties r ≡ true → (n : ℕ) → within r n ≡ true → cond (uses r) (partyNumber (partyNamed n)) 0 ≡ n
-used-party r g n h = go (uses r) refl
+used-party r g n h = ⊎-elim of-party (λ e. rw e (rw e at (used-number r n h))) (true-or-false (uses r))
   where
-    go : (t : Bool) → uses r ≡ t → cond t (partyNumber (partyNamed n)) 0 ≡ n
-    go true e =
+    of-party : uses r ≡ true → cond (uses r) (partyNumber (partyNamed n)) 0 ≡ n
+    of-party e =
         let b = and-eq-true-iff (leb (partyNumbers .least) (r .least)) (leb (r .greatest) (partyNumbers .greatest)) .0 (rw e at g) in
         let l : partyNumbers .least ≤ r .least = leb-true (partyNumbers .least) (r .least) (b .0) in
         let m : r .greatest ≤ partyNumbers .greatest = leb-true (r .greatest) (partyNumbers .greatest) (b .1) in
         let i = inside r n h in
-        number-named n (rw (le-leb (partyNumbers .least) n (omega arith), le-leb n (partyNumbers .greatest) (omega arith)))
-    go false e = rw e at (used-number r n h)
+        rw e (number-named n (rw (le-leb (partyNumbers .least) n (omega arith), le-leb n (partyNumbers .greatest) (omega arith))))
 
 pub used-same : (k : Kind) (f : Fields) → goodFields (line k) f ≡ true → used k f ≡ f
 used-same k f h =

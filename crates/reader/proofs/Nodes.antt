@@ -4,7 +4,7 @@ use Prim.Native.Nat.{ℕ, suc, _≤_, _<_}
 use native.Mathlib.Omega.{arith}
 use mathlib.Core.Bool.{Bool, true, false, not, false≢true}
 use mathlib.Core.List.{List, [], _∷_, _++_}
-use mathlib.Core.Logic.{_↔_}
+use mathlib.Core.Logic.{_↔_, ⊎-elim}
 use mathlib.Core.Option.{Option, none, some}
 use mathlib.Core.Path.{_≡_, refl, sym, ap, _∙_}
 use lib.Dec.{lit<}
@@ -12,6 +12,7 @@ use lib.ListN.{length, take, drop, getD}
 use lib.Seq.{take-add, drop-cons}
 use borrow.Author.Tests.{not-true}
 use Rattle.records.specs.Marks.{contractMark, marked}
+use Rattle.records.proofs.Cases.{true-or-false}
 use Rattle.records.proofs.Marks.{of-marked}
 use Rattle.contract.specs.Expressions.{Expression, Holds, holdsEmpty}
 use Rattle.contract.specs.Meaning.{Clause, EmptyFree}
@@ -36,11 +37,10 @@ Good clause c = InRange c × EmptyFree c
 Good expression e = ExpressionInRange e
 
 not-held : (e : Expression) → holdsEmpty e ≡ false ↔ (¬ Holds e [])
-not-held e = (λ h p. false≢true (sym h ∙ empty-iff e .1 p), λ n. go (holdsEmpty e) refl n)
-  where
-    go : (t : Bool) → holdsEmpty e ≡ t → (¬ Holds e []) → t ≡ false
-    go true h n = absurd (n (empty-iff e .0 h))
-    go false h n = refl
+not-held e = (
+  λ h p. false≢true (sym h ∙ empty-iff e .1 p),
+  λ n. ⊎-elim (λ h. absurd (n (empty-iff e .0 h))) (λ h. h) (true-or-false (holdsEmpty e)),
+)
 
 -- a node may stand where its fields are in range, its operands may stand and no expression under it holds the empty list
 abbrev pub GoodNode : (k : Kind) → Fields → Trees (line k .operands) → Type 0
