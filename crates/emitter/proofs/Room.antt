@@ -1,12 +1,14 @@
 -- What the recursive writer may do: there is room for the rows of a record and of its operands, and every row that they name is a small number.
-use Prim.Native.Nat.{ℕ, zero, suc, _+_, _*_, _-_, _^_, _≤_, _<_}
+use Prim.Native.Nat.{ℕ, _+_, _*_, _-_, _^_, _≤_, _<_}
 use native.Mathlib.Omega.{arith}
 use mathlib.Core.Bool.{Bool, true, false, cond}
 use mathlib.Core.List.{List, [], _∷_}
 use mathlib.Core.Logic.{_⊎_, inl, inr, ⊎-elim}
 use mathlib.Core.Path.{_≡_, refl, sym, _∙_}
 use lib.Dec.{eqb, lit<}
-use lib.ListN.{length, getD}
+use lib.ListN.{length}
+use Rattle.records.specs.Holding.{AllBelow}
+use Rattle.records.proofs.Fields.{allBelow-nil, allBelow-cons}
 use Rattle.periods.specs.Periods.{Party, party1, party2, partyNumber, other}
 use Rattle.layout.specs.Limits.{rowBytes, maxRows}
 use Rattle.reader.specs.Limits.{recordBytes}
@@ -22,7 +24,7 @@ use Rattle.emitter.specs.declared.Plan.{Plan}
 use Rattle.emitter.specs.declared.Wires.{Wires}
 use Rattle.emitter.specs.Rows.{leafRows, rowTable}
 use Rattle.emitter.specs.Blocks.{noBlock, basesOf, wiresOf, afterTree, blockOf, EndsWith, Emitted}
-use Rattle.emitter.specs.Premises.{Small, RecordRows, Emits}
+use Rattle.emitter.specs.Premises.{RecordRows, Emits}
 use Rattle.emitter.proofs.Plans.{leftBlock, rightBlock, after-node}
 use Rattle.emitter.proofs.Tables.{inside-is, end, listed, in-one-table, WiresInside, wires-inside}
 use Rattle.emitter.proofs.Operands.{View, view, seen, ends-last, OperandsEnd, ends-operands}
@@ -43,16 +45,6 @@ block-inside expression e m b S h = let i = inside-expression e b S h in omega a
 
 -- ---- small numbers
 
-small-nil : Small []
-small-nil = record { small = λ i. lit< tt }
-
-small-cons : {x : ℕ} {l : List ℕ} → x < 256 ^ 2 → Small l → Small (x ∷ l)
-small-cons {x} {l} h s = record { small = each }
-  where
-    each : (i : ℕ) → getD (x ∷ l) i 0 < 256 ^ 2
-    each zero = h
-    each (suc i) = s .small i
-
 small-if : (t : Bool) {x y : ℕ} → x < 256 ^ 2 → y < 256 ^ 2 → cond t x y < 256 ^ 2
 small-if true h i = h
 small-if false h i = i
@@ -62,24 +54,24 @@ small-number party1 = lit< tt
 small-number party2 = lit< tt
 
 small-bases : (n b S K : ℕ) (left right : Block) (party action : ℕ) → n ≤ maxRows → b ≤ n → S < b → K < b → left .next ≤ n
-    → Given left n → Given right n → party < 256 → action < 256 → Small (basesOf b S K left right party action)
+    → Given left n → Given right n → party < 256 → action < 256 → AllBelow (256 ^ 2) (basesOf b S K left right party action)
 small-bases n b S K left right party action m h i j e l r p a =
-    small-cons (omega arith)
-    (small-cons (omega arith)
-    (small-cons (omega arith)
-    (small-cons (omega arith)
-    (small-cons (omega arith)
-    (small-cons (omega arith)
-    (small-cons (omega arith)
-    (small-cons (omega arith)
-    (small-cons (omega arith)
-    (small-cons (omega arith)
-    (small-cons (omega arith)
-    (small-cons (small-if (eqb (left .code) emptyCode) (omega arith) (omega arith))
-    (small-cons (small-if (eqb (right .code) emptyCode) (omega arith) (omega arith))
-    (small-cons (omega arith)
-    (small-cons (small-number (other (partyNamed party)))
-    (small-cons (omega arith) small-nil)))))))))))))))
+    allBelow-cons (omega arith)
+    (allBelow-cons (omega arith)
+    (allBelow-cons (omega arith)
+    (allBelow-cons (omega arith)
+    (allBelow-cons (omega arith)
+    (allBelow-cons (omega arith)
+    (allBelow-cons (omega arith)
+    (allBelow-cons (omega arith)
+    (allBelow-cons (omega arith)
+    (allBelow-cons (omega arith)
+    (allBelow-cons (omega arith)
+    (allBelow-cons (small-if (eqb (left .code) emptyCode) (omega arith) (omega arith))
+    (allBelow-cons (small-if (eqb (right .code) emptyCode) (omega arith) (omega arith))
+    (allBelow-cons (omega arith)
+    (allBelow-cons (small-number (other (partyNamed party)))
+    (allBelow-cons (omega arith) (allBelow-nil (lit< tt)))))))))))))))))
 
 -- ---- there is room for the operands' rows
 
@@ -227,7 +219,7 @@ module _ {contract : List ℕ} {n : ℕ} {image : List ℕ} {b S K : ℕ} (e : E
         let i = ordered (o .before) (line (o .k) .operands) (o .ts) (o .operands) in
         omega (arith, o .few, i .not-before)
 
-    pub wires-small : Small (basesOf b S K (noBlock 0 0) (noBlock 0 0) 0 0)
+    pub wires-small : AllBelow (256 ^ 2) (basesOf b S K (noBlock 0 0) (noBlock 0 0) 0 0)
     wires-small =
         let h = few-inside in
         let i = e .begins in

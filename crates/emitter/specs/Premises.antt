@@ -2,9 +2,10 @@
 use Prim.Native.Nat.{ℕ, _+_, _*_, _^_, _≤_, _<_}
 use mathlib.Core.List.{List}
 use mathlib.Core.Logic.{_⊎_}
-use lib.ListN.{length, getD}
+use lib.ListN.{length}
 use Rattle.layout.specs.Limits.{rowBytes, maxRows}
 use Rattle.reader.specs.Table.{Sort}
+use Rattle.records.specs.Holding.{AllBelow}
 use Rattle.reader.specs.Trees.{Tree}
 use Rattle.reader.specs.Taken.{Contract}
 use Rattle.image.specs.Limits.{bufferBytes}
@@ -12,13 +13,9 @@ use Rattle.emitter.specs.declared.Plan.{Plan}
 use Rattle.emitter.specs.Rows.{leafRows, rowTable}
 use Rattle.emitter.specs.Blocks.{afterTree, EndsWith}
 
--- no number needs more than two bytes
-pub record Small (l : List ℕ) : Type 0 where
-  pub small : (i : ℕ) → getD l i 0 < 256 ^ 2
-
 -- an image buffer of so many bytes has room for so many rows from row b on, and a table of so many rows has them
 pub record RoomFrom (size b : ℕ) (bases : List ℕ) (rows from count : ℕ) : Type 0 where
-  pub bases-small : Small bases
+  pub bases-small : AllBelow (256 ^ 2) bases
   pub short : rows < 256
   pub listed : from + count ≤ rows
   pub room : rowBytes * (b + count) ≤ size

@@ -3,15 +3,16 @@ ghost use mathlib.Core.Path.{_≡_};
 ghost use mathlib.Core.Bool.{cond};
 ghost use mathlib.Core.List.{map};
 ghost use mathlib.Core.Option.{some};
-ghost use Prim.Native.Nat.{_+_, _*_, _<_, _≤_};
+ghost use Prim.Native.Nat.{_+_, _*_, _^_, _<_, _≤_};
 ghost use lib.ListN.{length, getD};
+ghost use Rattle.records.specs.Holding.{AllBelow};
 ghost use Rattle.layout.specs.Limits.{maxRows};
 ghost use Rattle.reader.specs.Limits.{recordBytes};
 ghost use Rattle.reader.specs.Table.{Kind, kindOf};
 ghost use Rattle.emitter.specs.Rows.{leafRows, nodeRows, rowTable, unpacked, valueAt, tableRows, writtenRows};
 ghost use Rattle.emitter.specs.Plans.{named, planOf};
 ghost use Rattle.emitter.specs.Blocks.{lastRecord, recordFrom, otherNumber, basesOf, wiresOf, noBlock, recordBlock, recordWritten, Emitted};
-ghost use Rattle.emitter.specs.Premises.{Small, RoomFrom, RoomForRows, RecordRows, Emits};
+ghost use Rattle.emitter.specs.Premises.{RoomFrom, RoomForRows, RecordRows, Emits};
 use layout::AND;
 use layout::ATTEMPT;
 use layout::NOT;
@@ -384,7 +385,7 @@ fn bases(at: u32, s: u32, k: u32, left: Block, right: Block, party: u32, action:
 
 // The row, or other number, that stands in the table as x.
 fn value_at(bases: &[u32; 16], x: u8) -> u32
-    requires { ⌜ Small (now bases) ⌝ }
+    requires { ⌜ AllBelow (256 ^ 2) (now bases) ⌝ }
     ensures { λ r. ⌜ r ≡ valueAt (now (bases .entry)) x ⌝ }
 {
     bases[(x / 16) as usize] + (x % 16) as u32
@@ -452,7 +453,7 @@ fn put_own(image: &mut [u8], plan: Plan, at: u32, next: u32, bases: &[u32; 16])
 
 // The block of a record and its operands.
 fn block_of(bases: &[u32; 16], plan: Plan, r: RecordBody, left: Block, right: Block) -> Block
-    requires { ⌜ Small (now bases) ⌝ }
+    requires { ⌜ AllBelow (256 ^ 2) (now bases) ⌝ }
     requires { ⌜ left .next + plan .after ≤ maxRows ⌝ }
     ensures { λ b. ⌜ b ≡ recordBlock (now (bases .entry)) plan (r .kind) (r .party) left right ⌝ }
 {
@@ -504,7 +505,7 @@ pub struct Wires {
 }
 
 fn wires_of(plan: Plan, at: u32, s: u32, k: u32) -> Wires
-    requires { ⌜ Small (basesOf at s k (noBlock 0 0) (noBlock 0 0) 0 0) ⌝ }
+    requires { ⌜ AllBelow (256 ^ 2) (basesOf at s k (noBlock 0 0) (noBlock 0 0) 0 0) ⌝ }
     ensures { λ r. ⌜ r ≡ wiresOf plan at s k ⌝ }
 {
     let meant = bases(at, s, k, no_block(0, 0), no_block(0, 0), 0, 0);

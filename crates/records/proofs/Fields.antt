@@ -10,17 +10,17 @@ use lib.Dec.{lit<}
 use lib.ListN.{length, take, drop, getD, length-take, length-drop}
 use lib.Seq.{length-take-le, take-nil, getD-drop, drop-drop}
 use Rattle.records.specs.Fields.{value, bytes, field}
-use Rattle.records.specs.Holding.{AllBytes, HoldsField}
+use Rattle.records.specs.Holding.{AllBelow, AllBytes, HoldsField}
 
 -- ---- lists of bytes
 
-pub allBytes-nil : AllBytes []
-allBytes-nil = record { below = λ i. lit< tt }
+pub allBelow-nil : {m : ℕ} → 0 < m → AllBelow m []
+allBelow-nil h = record { below = λ i. h }
 
-pub allBytes-cons : {b : ℕ} {l : List ℕ} → b < 256 → AllBytes l → AllBytes (b ∷ l)
-allBytes-cons {b} {l} h a = record { below = at }
+pub allBelow-cons : {m b : ℕ} {l : List ℕ} → b < m → AllBelow m l → AllBelow m (b ∷ l)
+allBelow-cons {m} {b} {l} h a = record { below = at }
   where
-    at : (i : ℕ) → getD (b ∷ l) i 0 < 256
+    at : (i : ℕ) → getD (b ∷ l) i 0 < m
     at zero = h
     at (suc i) = a .below i
 
@@ -28,16 +28,12 @@ pub allBytes-tail : {b : ℕ} {l : List ℕ} → AllBytes (b ∷ l) → AllBytes
 allBytes-tail a = record { below = λ i. a .below (suc i) }
 
 pub allBytes-take : (n : ℕ) (l : List ℕ) → AllBytes l → AllBytes (take n l)
-allBytes-take zero l a = allBytes-nil
-allBytes-take (suc n) [] a = allBytes-nil
-allBytes-take (suc n) (b ∷ l) a = allBytes-cons (a .below 0) (allBytes-take n l (allBytes-tail a))
+allBytes-take zero l a = allBelow-nil (lit< tt)
+allBytes-take (suc n) [] a = allBelow-nil (lit< tt)
+allBytes-take (suc n) (b ∷ l) a = allBelow-cons (a .below 0) (allBytes-take n l (allBytes-tail a))
 
 pub allBytes-drop : (n : ℕ) (l : List ℕ) → AllBytes l → AllBytes (drop n l)
 allBytes-drop n l a = record { below = λ i. rw getD-drop (a .below (n + i)) }
-
-pub allBytes-append : (l m : List ℕ) → AllBytes l → AllBytes m → AllBytes (l ++ m)
-allBytes-append [] m a b = b
-allBytes-append (x ∷ l) m a b = allBytes-cons (a .below 0) (allBytes-append l m (allBytes-tail a) b)
 
 -- ---- the bytes of a number
 
@@ -48,8 +44,8 @@ length-bytes (suc w) n = ap suc (length-bytes w (n / 256))
 
 pub allBytes-bytes : (w n : ℕ) → AllBytes (bytes w n)
 unfolding bytes
-allBytes-bytes zero n = allBytes-nil
-allBytes-bytes (suc w) n = allBytes-cons (mod-lt n (lit< tt)) (allBytes-bytes w (n / 256))
+allBytes-bytes zero n = allBelow-nil (lit< tt)
+allBytes-bytes (suc w) n = allBelow-cons (mod-lt n (lit< tt)) (allBytes-bytes w (n / 256))
 
 -- a field of v + w bytes is one of v bytes and then one of w
 pub bytes-add : (v w n : ℕ) → bytes (v + w) n ≡ bytes v n ++ bytes w (n / 256 ^ v)

@@ -7,9 +7,13 @@ use Rattle.records.specs.declared.Head.{Head}
 use Rattle.records.specs.Fields.{field}
 use Rattle.records.specs.Replies.{numberIn, ownIn, placeIn}
 
+-- every element is below m
+pub record AllBelow (m : ℕ) (l : List ℕ) : Type 0 where
+  pub below : (i : ℕ) → getD l i 0 < m
+
 -- every element is a byte
-pub record AllBytes (l : List ℕ) : Type 0 where
-  pub below : (i : ℕ) → getD l i 0 < 256
+abbrev pub AllBytes : List ℕ → Type 0
+AllBytes l = AllBelow 256 l
 
 -- r is the number in the field of w bytes from byte `at` on, below 256 ^ w
 pub record HoldsField (l : List ℕ) (at w r : ℕ) : Type 0 where

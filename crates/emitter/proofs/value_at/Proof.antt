@@ -21,7 +21,7 @@ cast-result-2 : tie.Need-cast-result-2
 cast-result-2 c = search needs
 
 add-result : tie.Need-add-result
-add-result c = omega (arith, c .before .pre .small (c .before .args .x / 16))
+add-result c = omega (arith, c .before .pre .below (c .before .args .x / 16))
 
 returns : tie.Need-returns
 returns c = sym (⊹-plus (getD (c .before .args .bases .now) (c .before .args .x / 16) 0) (c .before .args .x % 16))
