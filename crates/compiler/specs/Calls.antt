@@ -6,7 +6,7 @@ use mathlib.Core.Path.{_≡_}
 use lib.ListN.{length, take}
 use lib.Seq.{sets}
 use Rattle.records.specs.declared.Test.the-variants.{Passed}
-use Rattle.records.specs.Replies.{alone, headSize, numberIn, ownIn, placeIn, After, Gives, call}
+use Rattle.records.specs.Replies.{alone, headSize, headOf, After, Gives, call}
 use Rattle.layout.specs.Limits.{rowBytes}
 use Rattle.layout.specs.Images.{rowCount}
 use Rattle.layout.specs.Refusals.{imageTest}
@@ -16,10 +16,6 @@ use Rattle.image.specs.Limits.{allowedRows, bufferBytes}
 use Rattle.image.specs.Images.{imageFor}
 use Rattle.image.specs.Monitors.{Monitors}
 use Rattle.compiler.specs.Refusals.{compileTest}
-
--- the bytes of its reply: number, row count, place
-abbrev pub compileReplyBytes : ℕ
-compileReplyBytes = headSize
 
 -- "Compile gives a row count; the image is the first 8 × (count + 1) bytes of its buffer, and those beyond keep their old values."
 unfoldable pub compile : (contract buffer reply : List ℕ) → After (List ℕ)
@@ -31,9 +27,7 @@ compile contract buffer reply =
 -- good image that monitors the contract, with at most 32 × records + 64 rows.
 pub record Usable (contract buffer reply : List ℕ) : Type 0 where
   pub count : ℕ
-  pub number-is : numberIn reply ≡ 0
-  pub count-is : ownIn reply ≡ count
-  pub place-is : placeIn reply ≡ 0
+  pub head-is : headOf reply ≡ record { number = 0; own = count; place = 0 }
   pub few : count ≤ allowedRows (contractRecords contract)
   pub good : imageTest (take (rowBytes * (count + 1)) buffer) ≡ Passed
   pub monitors : Monitors contract (take (rowBytes * (count + 1)) buffer)
@@ -43,5 +37,5 @@ pub record Usable (contract buffer reply : List ℕ) : Type 0 where
 -- at exit themselves: of every contract that is taken, with room for the reply and a buffer that does not meet 8.
 pub record Compiles (contract buffer reply : List ℕ) (result : ℕ) (later-buffer later-reply : List ℕ) : Type 0 where
   pub gives : Gives (compile contract buffer reply) result later-buffer later-reply
-  pub usable : (c : Clause) → read contract ≡ taken c → compileReplyBytes ≤ length reply → bufferBytes (contractRecords contract) ≤ length buffer
+  pub usable : (c : Clause) → read contract ≡ taken c → headSize ≤ length reply → bufferBytes (contractRecords contract) ≤ length buffer
       → Usable contract later-buffer later-reply

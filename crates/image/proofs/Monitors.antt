@@ -14,7 +14,7 @@ use Rattle.records.specs.declared.Test.the-variants.{Passed}
 use Rattle.records.specs.Refusals.{require}
 use Rattle.records.proofs.Cases.{lt-or-le, true-or-false}
 use Rattle.records.proofs.Refusals.{first-passed, require-passed, passed-not}
-use Rattle.records.specs.Replies.{unwritten, written}
+use Rattle.records.specs.Replies.{unwritten, written, headSize}
 use Rattle.records.proofs.Replies.{call-no-room, call-refused}
 use Rattle.periods.specs.Periods.{Period}
 use Rattle.periods.specs.Traces.{periodAt, periodTest}
@@ -27,7 +27,7 @@ use Rattle.states.specs.Verdicts as Shown
 use Rattle.machine.specs.Machine.{afterPeriod, afterPeriods}
 use Rattle.machine.proofs.Machine.{after-snoc, periods-afterPeriods}
 use Rattle.runner.specs.Refusals.{readyTest, stepTest}
-use Rattle.runner.specs.Calls.{beginReplyBytes, stepReplyBytes, stepAnswer, answer, begin, step}
+use Rattle.runner.specs.Calls.{stepReplyBytes, stepAnswer, answer, begin, step}
 use Rattle.runner.specs.StepCalls as StepCalls
 use Rattle.runner.specs.StepCalls.{StepCall, stateAfterCall, stateAfter}
 use Rattle.runner.proofs.Refusals.{begin-passes}
@@ -151,7 +151,7 @@ module _ (c : Clause) (image : List ℕ) (right : RightFor c image) where
       (counted w state h k, answers-call w state h k, answers-calls ks (periodsAfter w k) (stateAfterCall image state k) (next-at w state h k))
 
   -- begin leaves the machine's first state
-  begun-at : (state reply : List ℕ) → length state ≡ headBytes + rowCount image → beginReplyBytes ≤ length reply
+  begun-at : (state reply : List ℕ) → length state ≡ headBytes + rowCount image → headSize ≤ length reply
       → At [] (begin image state reply .buffers)
   unfolding afterPeriods
   begun-at state reply l r =

@@ -5,14 +5,14 @@ use mathlib.Core.Path.{_≡_}
 use lib.ListN.{length, replicate}
 use Rattle.records.specs.Verdicts.{Verdict, «open», met, broken, broken-after, verdictNumber}
 use Rattle.records.specs.declared.Test.the-variants.{Passed}
-use Rattle.records.specs.Replies.{replyOf}
+use Rattle.records.specs.Replies.{replyOf, headSize}
 use Rattle.periods.specs.Periods.{party1, party2, Period}
 use Rattle.layout.specs.Images.{Image, rowCount}
 use Rattle.states.specs.Limits.{headBytes}
 use Rattle.states.specs.States.{State, stateOf}
 use Rattle.states.specs.Verdicts.{verdict}
 use Rattle.machine.specs.Machine.{afterPeriod}
-use Rattle.runner.specs.Calls.{beginReplyBytes, stepAnswer, stepReplyBytes, begin, step}
+use Rattle.runner.specs.Calls.{stepAnswer, stepReplyBytes, begin, step}
 use Rattle.contract.specs.Expressions.{any, tries, idle, succeeds, fails, atom, seq, or, star}
 use Rattle.contract.specs.Meaning.{Clause, both, then, repair, repeat, when, until}
 use Rattle.contract.specs.Examples.{a, b, duty, ban, power, nothing, just-a, just-b, one-period}
@@ -114,7 +114,7 @@ repliesFrom image state (r ∷ rs) =
 unfoldable pub replies : (contract : List ℕ) → (records : List (List ℕ)) → List (List ℕ)
 replies contract rs =
     let image = imageFor contract in
-    repliesFrom image (begin image (area (headBytes + rowCount image)) (area beginReplyBytes) .buffers) rs
+    repliesFrom image (begin image (area (headBytes + rowCount image)) (area headSize) .buffers) rs
 
 -- an accepted step's reply
 abbrev pub says : Verdict → (blame decision : ℕ) → List ℕ

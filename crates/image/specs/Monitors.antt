@@ -13,13 +13,13 @@ use Rattle.records.specs.declared.Test.{Test}
 use Rattle.records.specs.declared.Fault.the-variants.{FullCount}
 use Rattle.records.specs.declared.Test.the-variants.{Passed}
 use Rattle.records.specs.Refusals.{firstOf, require}
-use Rattle.records.specs.Replies.{Answer, alone, replyOf, unwritten, written}
+use Rattle.records.specs.Replies.{Answer, alone, replyOf, unwritten, written, headSize}
 use Rattle.periods.specs.Periods.{Period}
 use Rattle.periods.specs.Traces.{periodAt, periodTest}
 use Rattle.layout.specs.Images.{rowCount}
 use Rattle.states.specs.Limits.{headBytes, maxPeriods}
 use Rattle.states.specs.States.{stateOf}
-use Rattle.runner.specs.Calls.{beginReplyBytes, stepAnswer, stepReplyBytes, begin, step}
+use Rattle.runner.specs.Calls.{stepAnswer, stepReplyBytes, begin, step}
 use Rattle.runner.specs.StepCalls.{StepCall, acceptedBy, stateAfterCall}
 use Rattle.contract.specs.Meaning.{Clause, meaning}
 use Rattle.contract.specs.Verdicts.{decisionPeriod, blame, verdict}
@@ -70,6 +70,6 @@ AnswersCalls clause image state w (c ∷ cs) =
 pub record Monitors (contract image : List ℕ) : Type 0 where
   pub clause : Clause
   pub means : read contract ≡ taken clause
-  pub answers : (state reply : List ℕ) → length state ≡ headBytes + rowCount image → beginReplyBytes ≤ length reply
+  pub answers : (state reply : List ℕ) → length state ≡ headBytes + rowCount image → headSize ≤ length reply
       → (begin image state reply ≡ written (replicate (length state) 0) reply Passed (alone 0))
       × ((calls : List StepCall) → AnswersCalls clause image (begin image state reply .buffers) [] calls)

@@ -11,7 +11,7 @@ use lib.Dec.{eqb}
 use lib.ListN.{length, getD, drop, length-append, length-drop}
 use lib.Seq.{getD-drop, length-take-le, getD-take, drop-drop, take-take}
 use Rattle.records.specs.Fields.{field, value}
-use Rattle.records.specs.Marks.{markBytes, marked}
+use Rattle.records.specs.Marks.{marked}
 use Rattle.records.specs.declared.Fault.{Fault}
 use Rattle.records.specs.declared.Fault.the-variants.{BadPeriod}
 use Rattle.records.specs.declared.Test.the-variants.{Passed, Refused}
@@ -104,7 +104,7 @@ module _ (trace : List ℕ) (k : ℕ) (h : k < periodRecords trace) where
 
   record-from : periodFrom form (periodRecordAt trace k) 0 ≡ periodFrom form trace start
   unfolding periodFrom
-  record-from = rw (field-at markBytes (maskBytes form) (omega arith), field-at (markBytes + maskBytes form) (maskBytes form) (omega arith), ← add-assoc start markBytes (maskBytes form))
+  record-from = rw (field-at 2 (maskBytes form) (omega arith), field-at (2 + maskBytes form) (maskBytes form) (omega arith), ← add-assoc start 2 (maskBytes form))
 
   pub record-period : periodAt (periodRecordAt trace k) 0 ≡ periodAt trace k
   unfolding periodAt

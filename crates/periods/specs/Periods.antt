@@ -5,7 +5,6 @@ use mathlib.Core.List.{List}
 use mathlib.Core.Option.{Option, none, some}
 use lib.Dec.{eqb}
 use Rattle.records.specs.Fields.{field}
-use Rattle.records.specs.Marks.{markBytes}
 use Rattle.periods.specs.declared.Form.{Form}
 use Rattle.periods.specs.Forms.{maskBytes}
 
@@ -51,4 +50,4 @@ succeeds x a = tries x party1 a && tries x party2 a
 
 -- the period that the bytes from byte `at` on hold in a form: party 1's attempts after the mark, then party 2's
 unfoldable pub periodFrom : Form → List ℕ → (at : ℕ) → Period
-periodFrom f l at = record { attempts1 = field l (at + markBytes) (maskBytes f); attempts2 = field l (at + markBytes + maskBytes f) (maskBytes f) }
+periodFrom f l at = record { attempts1 = field l (at + 2) (maskBytes f); attempts2 = field l (at + 2 + maskBytes f) (maskBytes f) }

@@ -1,5 +1,5 @@
 -- Tests in their order, the numbers of refusals, and which faults a test can give. Document 01, "Replies that refuse".
-use Prim.Native.Nat.{ℕ, _≤_, _<_}
+use Prim.Native.Nat.{ℕ, _≤_, _<_, _^_}
 use native.Mathlib.Omega.{arith}
 use mathlib.Core.Path.{_≡_, refl, sym, ap, _∙_}
 use mathlib.Core.Bool.{Bool, true, false, _&&_, _||_, and-eq-true-iff, or-assoc, or-true, false≢true}
@@ -8,8 +8,8 @@ use Rattle.records.specs.declared.Test.{Test}
 use Rattle.records.specs.declared.Test.the-variants.{Passed, Refused}
 use Rattle.records.specs.declared.Fault.{Fault}
 use Rattle.records.specs.declared.Fault.the-variants.{BadLength, BadMark, UnknownKind, BadField, BadOperands, NotOneClause, EmptyList, ShortBuffer, BadImage, BadState, BadPeriod, FullCount, LongInput}
-use Rattle.records.specs.Refusals.{faultNumber, require, firstOf, passed}
-use lib.Dec.{eqb, leb, ltb}
+use Rattle.records.specs.Refusals.{faultNumber, numberOf, require, firstOf, passed}
+use lib.Dec.{eqb, leb, ltb, lit<}
 use borrow.Author.Tests.{leb-true, ltb-true}
 
 -- ---- tests in their order
@@ -79,6 +79,11 @@ pub fault-bounds : (f : Fault) → (1 ≤ faultNumber f) × (faultNumber f < 256
 fault-bounds f =
     let t = and-eq-true-iff (leb 1 (faultNumber f)) _ .0 (numbered f) in
     (leb-true 1 (faultNumber f) (t .0), ltb-true (faultNumber f) 256 (t .1))
+
+-- a number of 4 bytes
+pub number-small : (t : Test) → numberOf t < 256 ^ 4
+number-small Passed = lit< tt
+number-small (Refused f k) = omega (arith, fault-bounds f .1)
 
 pub passed-is : (t : Test) → passed t ≡ true → t ≡ Passed
 passed-is Passed h = refl

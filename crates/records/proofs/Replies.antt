@@ -11,8 +11,9 @@ use Rattle.records.specs.Fields.{bytes, field}
 use Rattle.records.specs.declared.Test.{Test}
 use Rattle.records.specs.declared.Test.the-variants.{Passed, Refused}
 use Rattle.records.specs.Refusals.{numberOf, placeOf}
-use Rattle.records.specs.Replies.{Field, fieldsBytes, fieldsSize, Answer, alone, replyOf, replyBytes, zeroed, Gives, unwritten, written, answered, call}
+use Rattle.records.specs.Replies.{Field, four, eight, fieldsBytes, fieldsSize, Answer, alone, replyOf, replyBytes, headOf, zeroed, Gives, unwritten, written, answered, call}
 use Rattle.records.proofs.Fields.{length-bytes}
+use Rattle.records.proofs.Refusals.{number-small}
 use Rattle.records.proofs.Written.{sets-append, drop-after, field-in, field-spelled}
 
 -- ---- the bytes of fields
@@ -53,6 +54,19 @@ field-back before f others area h small =
     rw zero-add at (field-in area 0 (fieldsBytes fs) (fieldsSize before) (f .width) (rw zero-add fits) within)
     ∙ rw e (field-spelled (fieldsBytes before) (f .width) (f .value) (fieldsBytes others) (fieldsSize before) (length-fields before))
     ∙ mod-eq-of-lt small
+
+-- a reply's first three fields are read back
+pub head-back : (area : List ℕ) (t : Test) (a : Answer) → replyBytes a ≤ length area → a .own < 256 ^ 4 → placeOf t < 256 ^ 8
+    → headOf (sets area 0 (replyOf t a)) ≡ record { number = numberOf t; own = a .own; place = placeOf t }
+head-back area t a h o p =
+    let n = four (numberOf t) in
+    let v = four (a .own) in
+    let k = eight (placeOf t) in
+    rw (
+      field-back [] n (v ∷ k ∷ a .others) area h (number-small t),
+      field-back (n ∷ []) v (k ∷ a .others) area h o,
+      field-back (n ∷ v ∷ []) k (a .others) area h p,
+    )
 
 -- the bytes past a reply are as they were
 pub after-fields : (fs : List Field) (area : List ℕ) → drop (fieldsSize fs) (sets area 0 (fieldsBytes fs)) ≡ drop (fieldsSize fs) area

@@ -1,11 +1,9 @@
--- What is known of bytes, and of fields that are read of them.
+-- What is known of bytes, and of a field that is read of them.
 use Prim.Native.Nat.{ℕ, _^_, _<_}
 use mathlib.Core.Path.{_≡_}
 use mathlib.Core.List.{List}
 use lib.ListN.{getD}
-use Rattle.records.specs.declared.Head.{Head}
 use Rattle.records.specs.Fields.{field}
-use Rattle.records.specs.Replies.{numberIn, ownIn, placeIn}
 
 -- every element is below m
 pub record AllBelow (m : ℕ) (l : List ℕ) : Type 0 where
@@ -19,9 +17,3 @@ AllBytes l = AllBelow 256 l
 pub record HoldsField (l : List ℕ) (at w r : ℕ) : Type 0 where
   pub is : r ≡ field l at w
   pub small : r < 256 ^ w
-
--- h is what a reply's first three fields hold
-pub record HoldsHead (reply : List ℕ) (h : Head) : Type 0 where
-  pub number-is : h .number ≡ numberIn reply
-  pub own-is : h .own ≡ ownIn reply
-  pub place-is : h .place ≡ placeIn reply

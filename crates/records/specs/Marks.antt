@@ -18,10 +18,6 @@ rowMark = 0x54 ∷ 0x52 ∷ []
 abbrev pub endMark : List ℕ
 endMark = 0x54 ∷ 0x45 ∷ []
 
--- the bytes of a mark
-abbrev pub markBytes : ℕ
-markBytes = 2
-
 -- the record from byte `at` on starts with this mark
 unfoldable pub marked : List ℕ → ℕ → List ℕ → Bool
 marked l at mark = eqb (getD l at 0) (getD mark 0 0) && eqb (getD l (at + 1) 0) (getD mark 1 0)

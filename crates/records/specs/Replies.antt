@@ -7,6 +7,7 @@ use lib.Dec.{ltb}
 use lib.ListN.{length}
 use lib.Seq.{sets}
 use Rattle.records.specs.Fields.{bytes, field}
+use Rattle.records.specs.declared.Head.{Head}
 use Rattle.records.specs.declared.Test.{Test}
 use Rattle.records.specs.declared.Test.the-variants.{Passed, Refused}
 use Rattle.records.specs.Refusals.{numberOf, placeOf}
@@ -53,15 +54,9 @@ replyOf t a = fieldsBytes (replyFields t a)
 abbrev pub replyBytes : Answer → ℕ
 replyBytes a = fieldsSize (replyFields Passed a)
 
--- a reply's first three fields as its bytes hold them, and where the others start
-abbrev pub numberIn : List ℕ → ℕ
-numberIn reply = field reply 0 4
-
-abbrev pub ownIn : List ℕ → ℕ
-ownIn reply = field reply 4 4
-
-abbrev pub placeIn : List ℕ → ℕ
-placeIn reply = field reply 8 8
+-- what a reply's bytes hold in its first three fields, and how many bytes these have
+abbrev pub headOf : List ℕ → Head
+headOf reply = record { number = field reply 0 4; own = field reply 4 4; place = field reply 8 8 }
 
 abbrev pub headSize : ℕ
 headSize = replyBytes (alone 0)

@@ -5,10 +5,10 @@ ghost use Prim.Native.Nat.{_+_, _<_, _≤_};
 ghost use lib.ListN.{length, getD};
 ghost use lib.Seq.{sets};
 ghost use Rattle.records.specs.Fields.{bytes};
-ghost use Rattle.records.specs.Holding.{HoldsField, HoldsHead};
+ghost use Rattle.records.specs.Holding.{HoldsField};
 ghost use Rattle.records.specs.Marks.{marked};
 ghost use Rattle.records.specs.Refusals.{faultNumber, numberOf, placeOf};
-ghost use Rattle.records.specs.Replies.{alone, replyOf, headSize};
+ghost use Rattle.records.specs.Replies.{alone, replyOf, headOf, headSize};
 
 // The first two bytes of each record.
 pub const CONTRACT_MARK: [u8; 2] = [0x54, 0x43];
@@ -178,7 +178,7 @@ pub struct Head {
 
 pub fn get_head(reply: &[u8]) -> Head
     requires { ⌜ headSize ≤ length (now reply) ⌝ }
-    ensures { λ r. ⌜ HoldsHead (now (reply .entry)) r ⌝ }
+    ensures { λ r. ⌜ r ≡ headOf (now (reply .entry)) ⌝ }
 {
     Head {
         number: get4(reply, 0),

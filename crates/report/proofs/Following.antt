@@ -4,15 +4,15 @@ use native.Mathlib.Numerals.{add-one}
 use native.Mathlib.Omega.{arith}
 use mathlib.Core.Bool.{true}
 use mathlib.Core.List.{List, [], _∷_}
-use mathlib.Core.Path.{_≡_, refl, sym, _∙_}
+use mathlib.Core.Path.{_≡_, refl, sym, ap, _∙_}
 use borrow.Author.Tests.{lt-ltb}
 use lib.ListN.{length, replicate, take, drop}
 use lib.Seq.{sets}
-use Rattle.records.specs.Holding.{HoldsField, HoldsHead}
+use Rattle.records.specs.Holding.{HoldsField}
 use Rattle.records.specs.declared.Head.{Head}
 use Rattle.records.specs.Verdicts.{Verdict, verdictNumber}
 use Rattle.records.specs.declared.Test.the-variants.{Passed}
-use Rattle.records.specs.Replies.{four, eight, replyOf, headSize, Gives}
+use Rattle.records.specs.Replies.{four, eight, replyOf, headOf, headSize, Gives}
 use Rattle.records.proofs.Replies.{field-back}
 use Rattle.records.proofs.Verdicts.{few-verdicts}
 use Rattle.periods.specs.Forms.{periodBytes, formOf}
@@ -21,7 +21,7 @@ use Rattle.periods.specs.Traces.{periodRecords, markedAt, periodsOf, periodReco
 use Rattle.periods.proofs.Forms.{few-whole}
 use Rattle.periods.proofs.Traces.{length-periodsOf, trace-marks, record-period, period-test}
 use Rattle.states.specs.Limits.{maxPeriods}
-use Rattle.runner.specs.Calls.{beginReplyBytes, stepReplyBytes, begin, step}
+use Rattle.runner.specs.Calls.{stepReplyBytes, begin, step}
 use Rattle.runner.specs.StepCalls.{StepCall, stateAfterCall}
 use Rattle.contract.specs.Meaning.{Clause, only, bothParties, Decision, undecided, satisfied, violated, meaning}
 use Rattle.contract.specs.Verdicts.{decisionPeriod, blame, verdict}
@@ -34,14 +34,14 @@ use Rattle.report.specs.Limits.{lineBytes, inputPeriods}
 use Rattle.report.specs.Texts.{periodLine, decidedLine, Puts}
 use Rattle.report.specs.Reports.{meantLine, periodLines, lines}
 use Rattle.report.specs.Putting.{Stepping, Follows, MayList, Lists, MayFollow, FollowsTrace}
-use Rattle.report.proofs.Texts.{puts-both, short-period, short-decided}
+use Rattle.report.proofs.Texts.{puts-both, short-line, short-decided}
 
 -- ---- a step's reply
 
 -- what a step on a part of the trace leaves, the part being its record k
 pub stepped-on : (image state trace : List ℕ) (k bytes : ℕ) → bytes ≡ periodBytes (formOf trace) → (result : ℕ) (later reply : List ℕ)
     → Gives (step image state (take (bytes * k + bytes - bytes * k) (drop (bytes * k) trace)) (replicate stepReplyBytes 0)) result later reply
-    → (s : Stepped) (h : Head) → HoldsHead reply h → h .own ≡ s .verdict → HoldsField reply headSize 4 (s .blame) → HoldsField reply (headSize + 4) 4 (s .decision)
+    → (s : Stepped) (h : Head) → h ≡ headOf reply → h .own ≡ s .verdict → HoldsField reply headSize 4 (s .blame) → HoldsField reply (headSize + 4) 4 (s .decision)
     → Stepping image state trace k later s
 unfolding periodRecordAt
 stepped-on image state trace k bytes i result later reply g s h v o b d =
@@ -49,7 +49,7 @@ stepped-on image state trace k bytes i result later reply g s h v o b d =
     let w = rw (e, i) at g in
     record {
       state-is = w .buffers-are;
-      verdict-is = rw (← w .reply-is) (sym o ∙ v .own-is);
+      verdict-is = rw (← w .reply-is) (sym o ∙ ap (λ (x : Head). x .own) v);
       blame-is = rw (← w .reply-is) (b .is);
       decision-is = rw (← w .reply-is) (d .is);
     }
@@ -183,7 +183,7 @@ module _ {image state₀ trace text₀ : List ℕ} {n : ℕ} (a : MayList image 
             let w = periodsOf trace (suc k) in
             let v = verdict (meaning (a .clause) w) (length w) in
             let q = p v (seen-verdict (a .clause) image state trace k later s (here .follows) (next-whole k i) (a .marks k i) (next-few k i) g) in
-            omega (arith, q .end-is, short-period (k + 1) v (s .blame) (omega (arith, next-few k i)) next-blame)
+            omega (arith, q .end-is, short-line (k + 1) v (s .blame) (omega (arith, next-few k i)) next-blame)
 
         pub next-held : (c : Clause) → Follows c image state₀ [] → Held c image trace text₀ (k + 1) later last r (s .decision)
         next-held c f =
@@ -215,14 +215,14 @@ module _ {image state₀ trace text₀ : List ℕ} {n : ℕ} (a : MayList image 
 
 module _ {image state trace text : List ℕ} (a : MayFollow image state trace text) where
   -- begin's state follows the clause of whichever contract the image monitors
-  pub begin-follows : (contract : List ℕ) (c : Clause) → Monitors contract image → read contract ≡ taken c → (reply : List ℕ) → beginReplyBytes ≤ length reply
+  pub begin-follows : (contract : List ℕ) (c : Clause) → Monitors contract image → read contract ≡ taken c → (reply : List ℕ) → headSize ≤ length reply
       → Follows c image (begin image state reply .buffers) []
   begin-follows contract c m e reply r =
       let i : m .clause ≡ c = let g = sym (m .means) ∙ e in cc in
       record { free = taken-spells contract c e .empty-free; answers = rw i at (m .answers state reply (a .state-long) r .1) }
 
   -- the lines can be put
-  pub may-list : (reply later : List ℕ) → beginReplyBytes ≤ length reply → later ≡ begin image state reply .buffers
+  pub may-list : (reply later : List ℕ) → headSize ≤ length reply → later ≡ begin image state reply .buffers
       → MayList image later trace (periodRecords trace) text
   may-list reply later r e =
       let sixes = few-whole (formOf trace) trace in
@@ -235,7 +235,7 @@ module _ {image state trace text : List ℕ} (a : MayFollow image state trace te
         room = omega (arith, a .short, a .room);
       }
 
-  pub all-followed : (reply later : List ℕ) → beginReplyBytes ≤ length reply → later ≡ begin image state reply .buffers → (last : List ℕ) (n : ℕ)
+  pub all-followed : (reply later : List ℕ) → headSize ≤ length reply → later ≡ begin image state reply .buffers → (last : List ℕ) (n : ℕ)
       → Lists image later trace (periodRecords trace) text last n → FollowsTrace image trace text last n
   all-followed reply later r e last n l =
       record { puts = λ contract c m d. l .puts c (rw e (begin-follows contract c m d reply r)) }

@@ -2,8 +2,8 @@
 use Prim.Native.Nat.{ℕ, _+_, _*_, _-_, _≤_, _<_}
 use native.Mathlib.Nat.{zero-add, le-refl}
 use native.Mathlib.Omega.{arith}
-use mathlib.Core.List.{List, [], _∷_}
-use mathlib.Core.Path.{_≡_, refl, sym, _∙_}
+use mathlib.Core.List.{List}
+use mathlib.Core.Path.{_≡_, refl, sym, ap, _∙_}
 use lib.ListN.{length, take, drop, replicate, length-drop}
 use lib.Seq.{sets, length-sets, length-take-le}
 use borrow.Author.Tests.{le-leb, lt-leb}
@@ -13,10 +13,10 @@ use Rattle.records.specs.declared.Fault.the-variants.{LongInput}
 use Rattle.records.specs.declared.Test.{Test}
 use Rattle.records.specs.declared.Test.the-variants.{Passed, Refused}
 use Rattle.records.specs.Refusals.{faultNumber, numberOf, placeOf}
-use Rattle.records.specs.Replies.{four, eight, alone, replyOf, call}
+use Rattle.records.specs.Replies.{alone, replyOf, call, headSize}
 use Rattle.records.proofs.Refusals.{first-only, fault-bounds}
 use Rattle.records.proofs.Written.{part-rest}
-use Rattle.records.proofs.Replies.{field-back}
+use Rattle.records.proofs.Replies.{head-back}
 use Rattle.periods.specs.Forms.{formOf}
 use Rattle.periods.specs.Traces.{periodRecords, traceTest}
 use Rattle.periods.proofs.Forms.{few-whole}
@@ -29,7 +29,7 @@ use Rattle.states.specs.States.{stateOf}
 use Rattle.states.specs.Refusals.{countTest}
 use Rattle.states.proofs.Fresh.{freshState, fresh-read}
 use Rattle.runner.specs.Refusals.{runTest}
-use Rattle.runner.specs.Calls.{beginReplyBytes, begin}
+use Rattle.runner.specs.Calls.{begin}
 use Rattle.runner.proofs.Refusals.{begin-passes}
 use Rattle.runner.proofs.StepCalls.{begin-written, begin-sound}
 use Rattle.contract.specs.Meaning.{Clause}
@@ -41,7 +41,7 @@ use Rattle.image.specs.Limits.{bufferBytes}
 use Rattle.image.specs.Images.{imageFor}
 use Rattle.image.specs.Monitors.{Monitors}
 use Rattle.compiler.specs.Refusals.{compileTest}
-use Rattle.compiler.specs.Calls.{compileReplyBytes, compile, Usable}
+use Rattle.compiler.specs.Calls.{compile, Usable}
 use Rattle.report.specs.Limits.{inputBytes, textBytes}
 use Rattle.report.specs.Texts.{refusedLine, Puts}
 use Rattle.report.specs.Split.{contractLength, contractOf, traceOf}
@@ -74,7 +74,7 @@ module _ (contract buffer : List ℕ) (e : length buffer ≡ bufferBytes maxReco
   roomy : bufferBytes (contractRecords contract) ≤ length buffer
   roomy = omega (arith, taken-count contract c i, taken-spells contract c i .few-records)
 
-  same-long : length (compile contract buffer (replicate compileReplyBytes 0) .buffers) ≡ length buffer
+  same-long : length (compile contract buffer (replicate headSize 0) .buffers) ≡ length buffer
   unfolding compile compileTest call readTest
   same-long = rw (i, le-leb (bufferBytes (contractRecords contract)) (length buffer) roomy) (length-sets buffer 0 (imageFor contract))
 
@@ -82,36 +82,32 @@ module _ (contract buffer : List ℕ) (e : length buffer ≡ bufferBytes maxReco
 module _ {contract buffer later : List ℕ} {r : Head} (h : Compiling contract buffer later r) (e : length buffer ≡ bufferBytes maxRecords) where
   -- the reply of a refusal
   refused-reply : (f : Fault) (k : ℕ) → read contract ≡ refused f k
-      → h .reply ≡ sets (replicate compileReplyBytes 0) 0 (replyOf (Refused f k) (alone 0))
+      → h .reply ≡ sets (replicate headSize 0) 0 (replyOf (Refused f k) (alone 0))
   unfolding compile compileTest call readTest
   refused-reply f k i = h .compiles .gives .reply-is ∙ rw i
 
-  number-of : (f : Fault) (k : ℕ) → read contract ≡ refused f k → r .number ≡ faultNumber f
-  number-of f k i =
-      h .holds .number-is ∙ rw (refused-reply f k i) (field-back [] (four (faultNumber f)) (four 0 ∷ eight k ∷ []) (replicate compileReplyBytes 0) (omega arith) (omega (arith, fault-bounds f .1)))
-
-  place-of : (f : Fault) (k : ℕ) → read contract ≡ refused f k → r .place ≡ k
-  place-of f k i =
-      h .holds .place-is ∙ rw (refused-reply f k i) (field-back (four (faultNumber f) ∷ four 0 ∷ []) (eight k) [] (replicate compileReplyBytes 0) (omega arith) (omega (arith, place-max contract f k i)))
+  refused-head : (f : Fault) (k : ℕ) → read contract ≡ refused f k → r ≡ record { number = faultNumber f; own = 0; place = k }
+  refused-head f k i =
+      h .head-is ∙ rw (refused-reply f k i) (head-back (replicate headSize 0) (Refused f k) (alone 0) (omega arith) (omega arith) (omega (arith, place-max contract f k i)))
 
   usable : (c : Clause) → read contract ≡ taken c → Usable contract later (h .reply)
-  usable c i = h .compiles .usable c i (le-refl compileReplyBytes) (roomy contract buffer e c i)
+  usable c i = h .compiles .usable c i (le-refl headSize) (roomy contract buffer e c i)
 
   pub refused-contract : ¬ (r .number ≡ 0) → (trace : List ℕ) → onContract (read contract) trace ≡ refusedLine (r .number) (r .place)
   refused-contract n trace = go (read contract) refl
     where
       go : (o : Result Clause) → read contract ≡ o → onContract (read contract) trace ≡ refusedLine (r .number) (r .place)
-      go (refused f k) i = rw (i, number-of f k i, place-of f k i)
-      go (taken c) i = absurd (n (h .holds .number-is ∙ usable c i .number-is))
+      go (refused f k) i = rw (i, refused-head f k i)
+      go (taken c) i = absurd (n (ap (λ (x : Head). x .number) (h .head-is ∙ usable c i .head-is)))
 
   pub taken-contract : r .number ≡ 0 → Served contract later (r .own)
   taken-contract n = go (read contract) refl
     where
       go : (o : Result Clause) → read contract ≡ o → Served contract later (r .own)
-      go (refused f k) i = absurd (omega (arith, number-of f k i, fault-bounds f .0))
+      go (refused f k) i = absurd (omega (arith, ap (λ (x : Head). x .number) (refused-head f k i), fault-bounds f .0))
       go (taken c) i =
           let u = usable c i in
-          let s : r .own ≡ u .count = h .holds .own-is ∙ u .count-is in
+          let s : r .own ≡ u .count = ap (λ (x : Head). x .own) (h .head-is ∙ u .head-is) in
           let few : u .count ≤ maxRows = omega (arith, u .few, taken-count contract c i, taken-spells contract c i .few-records) in
           let long : length later ≡ length buffer = rw (h .compiles .gives .buffers-are) (same-long contract buffer e c i) in
           let within : rowBytes * (u .count + 1) ≤ length later = omega arith in
@@ -174,7 +170,7 @@ module _ (input : List ℕ) (end : ℕ) (e : end ≡ contractLength input) where
 -- ---- "run's on the trace" is the trace's own test: from the state that begin leaves no other test of run's refuses
 
 module _ (image state reply : List ℕ) (g : imageTest image ≡ Passed) (e : length state ≡ headBytes + rowCount image)
-    (r : beginReplyBytes ≤ length reply) where
+    (r : headSize ≤ length reply) where
   begin-fresh : stateOf (begin image state reply .buffers) ≡ freshState (rowCount image)
   begin-fresh = rw (begin-written image state reply r (begin-passes image state g e), e) (fresh-read (rowCount image))
 

@@ -115,8 +115,8 @@ pub length-refused : (number place : ℕ)
 unfolding refusedLine
 length-refused number place = simp length-append
 
-pub short-period : (n : ℕ) (v : Verdict) (b : ℕ) → n ≤ inputPeriods → b < 10 → length (periodLine n v b) ≤ lineBytes
-short-period n v b h k = omega (arith, length-period n v b, period-digits n h, few-digits 0 b k, short-name v)
+pub short-line : (n : ℕ) (v : Verdict) (b : ℕ) → n ≤ inputPeriods → b < 10 → length (periodLine n v b) ≤ lineBytes
+short-line n v b h k = omega (arith, length-period n v b, period-digits n h, few-digits 0 b k, short-name v)
 
 pub short-decided : (k : ℕ) → k ≤ inputPeriods → length (decidedLine k) ≤ lineBytes
 short-decided k h = omega (arith, length-decided k, period-digits k h)

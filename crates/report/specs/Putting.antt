@@ -5,10 +5,9 @@ use mathlib.Core.List.{List, []}
 use mathlib.Core.Path.{_≡_}
 use lib.ListN.{length, replicate}
 use Rattle.records.specs.Fields.{field}
-use Rattle.records.specs.Holding.{HoldsHead}
 use Rattle.records.specs.declared.Head.{Head}
 use Rattle.records.specs.declared.Test.the-variants.{Passed}
-use Rattle.records.specs.Replies.{ownIn, headSize}
+use Rattle.records.specs.Replies.{headOf, headSize}
 use Rattle.periods.specs.Periods.{Period}
 use Rattle.periods.specs.Traces.{periodRecords, markedAt, traceTest, periodRecordAt}
 use Rattle.layout.specs.Images.{rowCount}
@@ -18,7 +17,7 @@ use Rattle.runner.specs.StepCalls.{StepCall}
 use Rattle.contract.specs.Meaning.{Clause, EmptyFree}
 use Rattle.reader.specs.Reader.{taken, read}
 use Rattle.image.specs.Monitors.{AnswersCalls, Monitors}
-use Rattle.compiler.specs.Calls.{compileReplyBytes, Compiles}
+use Rattle.compiler.specs.Calls.{Compiles}
 use Rattle.report.specs.declared.Stepped.{Stepped}
 use Rattle.report.specs.Limits.{inputBytes, lineBytes, inputPeriods, textBytes}
 use Rattle.report.specs.Texts.{Puts}
@@ -28,13 +27,13 @@ use Rattle.report.specs.Reports.{lines}
 pub record Compiling (contract buffer later : List ℕ) (h : Head) : Type 0 where
   pub result : ℕ
   pub reply : List ℕ
-  pub compiles : Compiles contract buffer (replicate compileReplyBytes 0) result later reply
-  pub holds : HoldsHead reply h
+  pub compiles : Compiles contract buffer (replicate headSize 0) result later reply
+  pub head-is : h ≡ headOf reply
 
 -- what a step on record k of a trace leaves where its reply is read from an area of zeros
 pub record Stepping (image state trace : List ℕ) (k : ℕ) (later : List ℕ) (r : Stepped) : Type 0 where
   pub state-is : later ≡ step image state (periodRecordAt trace k) (replicate stepReplyBytes 0) .buffers
-  pub verdict-is : r .verdict ≡ ownIn (step image state (periodRecordAt trace k) (replicate stepReplyBytes 0) .reply)
+  pub verdict-is : r .verdict ≡ headOf (step image state (periodRecordAt trace k) (replicate stepReplyBytes 0) .reply) .own
   pub blame-is : r .blame ≡ field (step image state (periodRecordAt trace k) (replicate stepReplyBytes 0) .reply) headSize 4
   pub decision-is : r .decision ≡ field (step image state (periodRecordAt trace k) (replicate stepReplyBytes 0) .reply) (headSize + 4) 4
 

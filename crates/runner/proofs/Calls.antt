@@ -9,10 +9,10 @@ use Rattle.records.specs.Replies.{four, fieldsBytes, alone, replyFields, replyO
 use Rattle.records.proofs.Fields.{length-bytes}
 use Rattle.records.proofs.Written.{sets-append}
 use Rattle.records.proofs.Replies.{fields-written}
-use Rattle.runner.specs.Calls.{stepAnswer, beginReplyBytes, stepReplyBytes}
+use Rattle.runner.specs.Calls.{stepAnswer, stepReplyBytes}
 
 -- begin's has 16 bytes, step's and run's 24
-pub reply-bytes : (beginReplyBytes ≡ 16) × (stepReplyBytes ≡ 24)
+pub reply-bytes : (headSize ≡ 16) × (stepReplyBytes ≡ 24)
 reply-bytes = (refl, refl)
 
 -- the first three fields, and then blame and decision period

@@ -176,10 +176,10 @@ refused-ready image state trace period h =
     first-refused (readyTest image state) _ h ∙ sym (first-refused (readyTest image state) _ h)
 
 -- by the length: at 0
-pub refused-length : (image state trace : List ℕ) → readyTest image state ≡ Passed → ¬ (length trace % periodBytes (formOf trace) ≡ 0)
+pub refused-trace-length : (image state trace : List ℕ) → readyTest image state ≡ Passed → ¬ (length trace % periodBytes (formOf trace) ≡ 0)
     → runTest image state trace ≡ Refused BadPeriod 0
 unfolding runTest traceTest
-refused-length image state trace h e = rw (h, ne-eqb (length trace % periodBytes (formOf trace)) 0 e)
+refused-trace-length image state trace h e = rw (h, ne-eqb (length trace % periodBytes (formOf trace)) 0 e)
 
 module _ (image state trace : List ℕ) (h : readyTest image state ≡ Passed) (e : length trace % periodBytes (formOf trace) ≡ 0) where
   sound-ready : (n : ℕ) → stateOf state .periods + n ≤ maxPeriods → Ready image state n

@@ -14,7 +14,7 @@ use Rattle.records.specs.declared.Test.the-variants.{Passed}
 use Rattle.records.specs.Refusals.{passed}
 use Rattle.records.proofs.Cases.{lt-or-le, true-or-false}
 use Rattle.records.proofs.Refusals.{passed-first, passed-is, passed-not}
-use Rattle.records.specs.Replies.{alone, After, written}
+use Rattle.records.specs.Replies.{alone, After, written, headSize}
 use Rattle.records.proofs.Replies.{call-no-room, call-passed, call-refused}
 use Rattle.periods.specs.Traces.{periodAt}
 use Rattle.layout.specs.Images.{rowCount, imageOf}
@@ -30,7 +30,7 @@ use Rattle.machine.specs.Premises.{Ready}
 use Rattle.machine.proofs.Machine.{SameDecision, stays-decided, periods-after}
 use Rattle.machine.proofs.Steps.{later-ready, step-read}
 use Rattle.runner.specs.Refusals.{beginTest, readyTest, stepTest}
-use Rattle.runner.specs.Calls.{beginReplyBytes, stepReplyBytes, answer, begin, step}
+use Rattle.runner.specs.Calls.{stepReplyBytes, answer, begin, step}
 use Rattle.runner.specs.StepCalls.{StepCall, accepted, stateAfterCall, stateAfter, acceptedCount}
 use Rattle.runner.proofs.Refusals.{begin-passed, ready-passed, step-ready}
 
@@ -146,7 +146,7 @@ keeps-decision image state (c ∷ cs) d =
 -- ---- begin
 
 -- begin leaves that state, which is sound
-module _ (image state reply : List ℕ) (r : beginReplyBytes ≤ length reply) (h : beginTest image state ≡ Passed) where
+module _ (image state reply : List ℕ) (r : headSize ≤ length reply) (h : beginTest image state ≡ Passed) where
   pub begin-written : begin image state reply ≡ written (replicate (length state) 0) reply Passed (alone 0)
   unfolding begin
   begin-written = call-passed (beginTest image state) _ _ _ reply r h

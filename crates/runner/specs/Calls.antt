@@ -4,7 +4,7 @@ use Prim.Native.Nat.{ℕ}
 use mathlib.Core.List.{List, [], _∷_}
 use lib.ListN.{length, replicate}
 use Rattle.records.specs.Verdicts.{verdictNumber}
-use Rattle.records.specs.Replies.{four, Answer, alone, replyBytes, headSize, After, call}
+use Rattle.records.specs.Replies.{four, Answer, alone, replyBytes, After, call}
 use Rattle.periods.specs.Traces.{periodRecords, periodAt, periodsOf}
 use Rattle.layout.specs.Images.{imageOf}
 use Rattle.states.specs.States.{State, stateOf, stateBytes}
@@ -22,10 +22,7 @@ stepAnswer v b d = record { own = v; others = four b ∷ four d ∷ [] }
 abbrev pub answer : State → Answer
 answer s = stepAnswer (verdictNumber (verdict s)) (s .blame) (s .decision)
 
--- the bytes of their replies
-abbrev pub beginReplyBytes : ℕ
-beginReplyBytes = headSize
-
+-- the bytes of step's and run's reply; begin's has the first three fields alone
 abbrev pub stepReplyBytes : ℕ
 stepReplyBytes = replyBytes (stepAnswer 0 0 0)
 
