@@ -2,5 +2,6 @@
 pub mod Expressions
 pub mod Readings
 pub mod Meaning
+pub mod Repeats
 pub mod Verdicts
 pub mod Examples

@@ -9,7 +9,7 @@ use lib.Seq.{take-append-seam}
 use Rattle.records.proofs.Cases.{lt-or-le}
 use Rattle.periods.specs.Periods.{Period}
 use Rattle.contract.specs.Meaning.{Clause, Decision, undecided, satisfied, violated, meaning, EmptyFree}
-use Rattle.contract.specs.Verdicts.{decisionPeriod, blame, verdict, DecidesOnce}
+use Rattle.contract.specs.Verdicts.{decisionPeriod, verdict, DecidesOnce}
 use Rattle.contract.proofs.Meaning.{decidedBy, Within, decision-within, within-none, not-yet, by-now, stable}
 
 within-cases : (n : ℕ) (d : Decision) → Within n d → (d ≡ undecided) ⊎ ((1 ≤ decisionPeriod d) × (decisionPeriod d ≤ n))

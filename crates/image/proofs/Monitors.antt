@@ -34,7 +34,10 @@ use Rattle.runner.proofs.Refusals.{begin-passes}
 use Rattle.runner.proofs.StepCalls.{accepted-passed, accepted-step, refused-step, taken-read, stays-sound, begin-written, begin-sound}
 use Rattle.contract.specs.Meaning.{Clause, Decision, undecided, satisfied, violated, meaning}
 use Rattle.contract.specs.Verdicts.{verdict}
+use Rattle.contract.proofs.Verdicts.{decides-once}
+use Rattle.reader.specs.Spelling.{Spells}
 use Rattle.reader.specs.Reader.{taken, read}
+use Rattle.reader.proofs.Reader.{taken-spells}
 use Rattle.image.specs.Images.{imageFor}
 use Rattle.image.specs.Rightness.{Shows, RightFor}
 use Rattle.image.specs.Monitors.{callTest, accepts, periodsAfter, meantAnswer, AnswersCall, AnswersCalls, Monitors}
@@ -158,11 +161,12 @@ module _ (c : Clause) (image : List ℕ) (right : RightFor c image) where
       let b = begin-written image state reply r (begin-passes image state (right .good) l) in
       record { ready = begin-sound image state reply r (begin-passes image state (right .good) l); is = rw (b, l); few = omega arith }
 
-  pub right-monitors : (contract : List ℕ) → read contract ≡ taken c → Monitors contract image
-  right-monitors contract e =
+  pub right-monitors : (contract : List ℕ) → Spells contract c → Monitors contract image
+  right-monitors contract s =
       record {
         clause = c;
-        means = e;
+        spells = s;
+        decides = decides-once c (s .empty-free);
         answers = λ state reply l r.
             (begin-written image state reply r (begin-passes image state (right .good) l), λ ks. answers-calls ks [] (begin image state reply .buffers) (begun-at state reply l r));
       }
@@ -171,4 +175,4 @@ module _ (c : Clause) (image : List ℕ) (right : RightFor c image) where
 
 -- every contract that is taken is monitored by its image
 pub monitors : (contract : List ℕ) (c : Clause) → read contract ≡ taken c → Monitors contract (imageFor contract)
-monitors contract c e = right-monitors c (imageFor contract) (right-for contract c e) contract e
+monitors contract c e = right-monitors c (imageFor contract) (right-for contract c e) contract (taken-spells contract c e)

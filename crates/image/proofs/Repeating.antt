@@ -1,7 +1,6 @@
 -- The block of `repeat` behaves. A repeated clause reads run after run: each run ends where the clause is satisfied on it, and the next begins in
 -- the period after.
-use Prim.Native.Nat.{ℕ, suc, _≤_}
-use native.Mathlib.Nat.{le-refl}
+use Prim.Native.Nat.{ℕ}
 use native.Mathlib.Omega.{arith}
 use mathlib.Core.Bool.{Bool, true, false, not, _&&_, _||_, false≢true}
 use mathlib.Core.List.{List, [], _∷_, _++_, append-assoc}
@@ -9,12 +8,12 @@ use mathlib.Core.Logic.{_⊎_, inl, inr}
 use mathlib.Core.Option.{Option, none, some, Option·some-ne-none, Option·some-injective}
 use mathlib.Core.Path.{_≡_, refl, sym, ap, _∙_}
 use borrow.Author.Tests.{eqb-true, eq-eqb}
-use lib.ListN.{length, drop, length-append, length-drop}
-use lib.Seq.{take-length, drop-length, drop-append-seam}
+use lib.ListN.{length, drop, length-append}
+use lib.Seq.{drop-length, drop-append-seam}
 use Rattle.periods.specs.Periods.{Period}
-use Rattle.contract.specs.Meaning.{Clause, repeat, Decision, undecided, satisfied, violated, later, after, thenMeaning, repeatMeaning, meaning, EmptyFree}
-use Rattle.contract.proofs.Meaning.{decidedBy, decision-within, stable, by-repeat}
+use Rattle.contract.specs.Meaning.{Clause, repeat, Decision, undecided, satisfied, violated, after, thenMeaning, repeatMeaning, meaning, EmptyFree}
 use Rattle.contract.proofs.Verdicts.{stands}
+use Rattle.contract.proofs.Repeats.{repeat-is-then}
 use Rattle.image.proofs.Signals.{Signal, at, _≐_, isMet, HandsOver}
 use Rattle.image.proofs.Once.{length-snoc, isAt, first-period}
 use Rattle.image.proofs.Threads.{Exclusive, readNext, thread}
@@ -52,33 +51,13 @@ data Running (c : Clause) : (t run : Option (List Period)) → Type 0 where
   runs : {w u : List Period} → Runs c w u → Running c (some w) (some u)
 
 module _ (c : Clause) (g : EmptyFree c) where
-  -- any allowance that covers the periods will do
-  allowed : (n : ℕ) (w : List Period) → length w ≤ n → repeatMeaning (meaning c) n w ≡ meaning (repeat c) w
-  unfolding meaning
-  allowed n w h = at-most n h ∙ sym (at-most (length w) (le-refl (length w)))
-    where
-      at-most : (n : ℕ) → length w ≤ n → repeatMeaning (meaning c) n w ≡ decidedBy (length w) (repeatMeaning (meaning c) (length w) w)
-      at-most n h =
-          rw (take-length w) at
-          (by-repeat (meaning c) (decision-within c g) (stable c g) (length w) n (length w) w (le-refl (length w)) (rw (take-length w) h))
-
-  -- a clause repeated is the clause, then the clause repeated
-  repeat-is-then : (w : List Period) → meaning (repeat c) w ≡ thenMeaning (meaning c w) (after (meaning (repeat c)) w)
-  unfolding repeatMeaning
-  repeat-is-then w = sym (allowed (suc (length w)) w (omega arith)) ∙ go (meaning c w)
-    where
-      go : (d : Decision) → thenMeaning d (after (repeatMeaning (meaning c) (length w)) w) ≡ thenMeaning d (after (meaning (repeat c)) w)
-      go undecided = refl
-      go (satisfied k) = ap (later k) (allowed (length w) (drop k w) (rw (length-drop k w) (omega arith)))
-      go (violated k b) = refl
-
   repeat-nothing : meaning (repeat c) [] ≡ undecided
   unfolding meaning repeatMeaning
   repeat-nothing = refl
 
   -- the repeated clause says of a list what the clause says of its last run, but not that it is satisfied
   said-of-run : {w u : List Period} → Runs c w u → saidBy (repeat c) (some w) ≡ now (length u) (violation (meaning c u))
-  said-of-run (last {u = u} o) = rw (repeat-is-then u) (go (meaning c u) o)
+  said-of-run (last {u = u} o) = rw (repeat-is-then c g u) (go (meaning c u) o)
     where
       go : (d : Decision) → (satisfiedAt d ≡ none) ⊎ (satisfiedAt d ≡ some (length u))
           → now (length u) (thenMeaning d (after (meaning (repeat c)) u)) ≡ now (length u) (violation d)
@@ -91,7 +70,7 @@ module _ (c : Clause) (g : EmptyFree c) where
       go (violated k b) o = refl
   said-of-run (next v {w = w} {u = u} s r) =
       let stays : meaning c (v ++ w) ≡ satisfied (length v) = stands c g v w (λ e. let z : _≡_ {A = ℕ} 0 1 = cc in omega arith) ∙ s in
-      rw (repeat-is-then (v ++ w), stays, drop-append-seam v w, length-append v w, now-later (length v) (length w) (meaning (repeat c) w))
+      rw (repeat-is-then c g (v ++ w), stays, drop-append-seam v w, length-append v w, now-later (length v) (length w) (meaning (repeat c) w))
       (said-of-run r)
 
   module _ (p : Period) where

@@ -22,8 +22,8 @@ use Rattle.states.specs.States.{stateOf}
 use Rattle.runner.specs.Calls.{stepAnswer, stepReplyBytes, begin, step}
 use Rattle.runner.specs.StepCalls.{StepCall, acceptedBy, stateAfterCall}
 use Rattle.contract.specs.Meaning.{Clause, meaning}
-use Rattle.contract.specs.Verdicts.{decisionPeriod, blame, verdict}
-use Rattle.reader.specs.Reader.{taken, read}
+use Rattle.contract.specs.Verdicts.{decisionPeriod, blame, verdict, DecidesOnce}
+use Rattle.reader.specs.Spelling.{Spells}
 
 -- "refused exactly when its own record meets 11 or, that record being good, 4,294,967,295 steps before it were accepted (12)", n being the
 -- number of those accepted before it
@@ -65,11 +65,13 @@ AnswersCalls clause image state w (c ∷ cs) =
     × AnswersCall clause image state w c
     × AnswersCalls clause image (stateAfterCall image state c) (periodsAfter w c) cs
 
--- The image monitors the contract: the contract is taken; begin, given room for its reply, accepts the image with a state of 10 + rows bytes,
--- whatever these held; and from the state that it leaves every list of step calls is answered by what the contract's clause means.
+-- The image monitors the contract: the contract's records spell a clause, which decides every list of periods at one period or at none; begin,
+-- given room for its reply, accepts the image with a state of 10 + rows bytes, whatever these held; and from the state that it leaves every list of
+-- step calls is answered by what that clause means.
 pub record Monitors (contract image : List ℕ) : Type 0 where
   pub clause : Clause
-  pub means : read contract ≡ taken clause
+  pub spells : Spells contract clause
+  pub decides : (w : List Period) → DecidesOnce clause w
   pub answers : (state reply : List ℕ) → length state ≡ headBytes + rowCount image → headSize ≤ length reply
       → (begin image state reply ≡ written (replicate (length state) 0) reply Passed (alone 0))
       × ((calls : List StepCall) → AnswersCalls clause image (begin image state reply .buffers) [] calls)

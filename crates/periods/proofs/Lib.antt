@@ -1,4 +1,5 @@
 -- The laws of masks, forms and traces.
 pub mod Forms
 pub mod Periods
+pub mod Recorded
 pub mod Traces

@@ -26,8 +26,6 @@ use Rattle.runner.specs.StepCalls.{StepCall, stateAfterCall}
 use Rattle.contract.specs.Meaning.{Clause, only, bothParties, Decision, undecided, satisfied, violated, meaning}
 use Rattle.contract.specs.Verdicts.{decisionPeriod, blame, verdict}
 use Rattle.contract.proofs.Meaning.{decision-within, within-period}
-use Rattle.reader.specs.Reader.{taken, read}
-use Rattle.reader.proofs.Reader.{taken-spells}
 use Rattle.image.specs.Monitors.{callTest, accepts, periodsAfter, meantAnswer, AnswersCalls, Monitors}
 use Rattle.report.specs.declared.Stepped.{Stepped}
 use Rattle.report.specs.Limits.{lineBytes, inputPeriods}
@@ -215,11 +213,9 @@ module _ {image state₀ trace text₀ : List ℕ} {n : ℕ} (a : MayList image 
 
 module _ {image state trace text : List ℕ} (a : MayFollow image state trace text) where
   -- begin's state follows the clause of whichever contract the image monitors
-  pub begin-follows : (contract : List ℕ) (c : Clause) → Monitors contract image → read contract ≡ taken c → (reply : List ℕ) → headSize ≤ length reply
-      → Follows c image (begin image state reply .buffers) []
-  begin-follows contract c m e reply r =
-      let i : m .clause ≡ c = let g = sym (m .means) ∙ e in cc in
-      record { free = taken-spells contract c e .empty-free; answers = rw i at (m .answers state reply (a .state-long) r .1) }
+  pub begin-follows : (contract : List ℕ) (m : Monitors contract image) (reply : List ℕ) → headSize ≤ length reply
+      → Follows (m .clause) image (begin image state reply .buffers) []
+  begin-follows contract m reply r = record { free = m .spells .empty-free; answers = m .answers state reply (a .state-long) r .1 }
 
   -- the lines can be put
   pub may-list : (reply later : List ℕ) → headSize ≤ length reply → later ≡ begin image state reply .buffers
@@ -228,7 +224,7 @@ module _ {image state trace text : List ℕ} (a : MayFollow image state trace te
       let sixes = few-whole (formOf trace) trace in
       rw e record {
         clause = a .monitors .clause;
-        follows = begin-follows (a .contract) (a .monitors .clause) (a .monitors) (a .monitors .means) reply r;
+        follows = begin-follows (a .contract) (a .monitors) reply r;
         whole = omega arith;
         marks = trace-marks trace (a .passed);
         few = omega (arith, a .short);
@@ -238,4 +234,4 @@ module _ {image state trace text : List ℕ} (a : MayFollow image state trace te
   pub all-followed : (reply later : List ℕ) → headSize ≤ length reply → later ≡ begin image state reply .buffers → (last : List ℕ) (n : ℕ)
       → Lists image later trace (periodRecords trace) text last n → FollowsTrace image trace text last n
   all-followed reply later r e last n l =
-      record { puts = λ contract c m d. l .puts c (rw e (begin-follows contract c m d reply r)) }
+      record { puts = λ contract m. l .puts (m .clause) (rw e (begin-follows contract m reply r)) }

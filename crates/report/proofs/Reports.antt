@@ -23,7 +23,6 @@ use Rattle.periods.proofs.Forms.{few-whole}
 use Rattle.layout.specs.Limits.{rowBytes, maxRows}
 use Rattle.layout.specs.Images.{rowCount}
 use Rattle.layout.specs.Refusals.{imageTest}
-use Rattle.layout.proofs.Images.{rowCount-of}
 use Rattle.states.specs.Limits.{headBytes, maxPeriods}
 use Rattle.states.specs.States.{stateOf}
 use Rattle.states.specs.Refusals.{countTest}
@@ -35,13 +34,13 @@ use Rattle.runner.proofs.StepCalls.{begin-written, begin-sound}
 use Rattle.contract.specs.Meaning.{Clause}
 use Rattle.reader.specs.Limits.{maxRecords}
 use Rattle.reader.specs.Reader.{Result, refused, taken, read, contractRecords, readTest}
-use Rattle.reader.proofs.Reader.{taken-count, taken-spells}
+use Rattle.reader.proofs.Reader.{taken-count, taken-spells, spells-taken}
 use Rattle.reader.proofs.Places.{place-max}
 use Rattle.image.specs.Limits.{bufferBytes}
 use Rattle.image.specs.Images.{imageFor}
 use Rattle.image.specs.Monitors.{Monitors}
 use Rattle.compiler.specs.Refusals.{compileTest}
-use Rattle.compiler.specs.Calls.{compile, Usable}
+use Rattle.compiler.specs.Calls.{firstImage, compile, Usable}
 use Rattle.report.specs.Limits.{inputBytes, textBytes}
 use Rattle.report.specs.Texts.{refusedLine, Puts}
 use Rattle.report.specs.Split.{contractLength, contractOf, traceOf}
@@ -66,8 +65,8 @@ module _ (input : List ℕ) where
 pub record Served (contract later : List ℕ) (rows : ℕ) : Type 0 where
   pub few : rows ≤ maxRows
   pub within : rowBytes * (rows + 1) ≤ length later
-  pub count : rowCount (take (rowBytes * (rows + 1)) later) ≡ rows
-  pub monitors : Monitors contract (take (rowBytes * (rows + 1)) later)
+  pub count : rowCount (firstImage rows later) ≡ rows
+  pub monitors : Monitors contract (firstImage rows later)
 
 -- a contract that is taken never meets 8 with a buffer for the most records, which stays as long as it was
 module _ (contract buffer : List ℕ) (e : length buffer ≡ bufferBytes maxRecords) (c : Clause) (i : read contract ≡ taken c) where
@@ -91,7 +90,7 @@ module _ {contract buffer later : List ℕ} {r : Head} (h : Compiling contract b
       h .head-is ∙ rw (refused-reply f k i) (head-back (replicate headSize 0) (Refused f k) (alone 0) (omega arith) (omega arith) (omega (arith, place-max contract f k i)))
 
   usable : (c : Clause) → read contract ≡ taken c → Usable contract later (h .reply)
-  usable c i = h .compiles .usable c i (le-refl headSize) (roomy contract buffer e c i)
+  usable c i = h .compiles .usable c (taken-spells contract c i) (le-refl headSize) (roomy contract buffer e c i)
 
   pub refused-contract : ¬ (r .number ≡ 0) → (trace : List ℕ) → onContract (read contract) trace ≡ refusedLine (r .number) (r .place)
   refused-contract n trace = go (read contract) refl
@@ -114,7 +113,7 @@ module _ {contract buffer later : List ℕ} {r : Head} (h : Compiling contract b
           rw s record {
             few = few;
             within = within;
-            count = rowCount-of (take (rowBytes * (u .count + 1)) later) (u .count) (length-take-le (rowBytes * (u .count + 1)) later within);
+            count = u .rows;
             monitors = u .monitors;
           }
 
@@ -139,7 +138,7 @@ module _ (input : List ℕ) (end : ℕ) (e : end ≡ contractLength input) where
       served = taken-contract h b z
 
       on-taken : onContract (read (contractOf input)) (traceOf input) ≡ onTrace (served .monitors .clause) (drop end input)
-      on-taken = rw (← e, served .monitors .means)
+      on-taken = rw (← e, spells-taken (take end input) (served .monitors .clause) (served .monitors .spells))
 
       pub trace-refused : (t : Test) → t ≡ traceTest rest → (f : Fault) (k : ℕ) → t ≡ Refused f k
           → onContract (read (contractOf input)) (traceOf input) ≡ refusedLine (numberOf t) (placeOf t)
@@ -148,7 +147,7 @@ module _ (input : List ℕ) (end : ℕ) (e : end ≡ contractLength input) where
 
       module _ (p : traceTest rest ≡ Passed) where
         pub may-follow : (state text : List ℕ) → length state ≡ headBytes + maxRows → length text ≡ textBytes → length input ≤ inputBytes
-            → MayFollow (take (rowBytes * (r .own + 1)) later) (take (headBytes + r .own) state) rest text
+            → MayFollow (firstImage (r .own) later) (take (headBytes + r .own) state) rest text
         may-follow state text s t l =
             record {
               contract = take end input;
@@ -159,13 +158,12 @@ module _ (input : List ℕ) (end : ℕ) (e : end ≡ contractLength input) where
               room = omega arith;
             }
 
-        pub followed : {text last : List ℕ} {s : ℕ} → FollowsTrace (take (rowBytes * (r .own + 1)) later) rest text last s
+        pub followed : {text last : List ℕ} {s : ℕ} → FollowsTrace (firstImage (r .own) later) rest text last s
             → Puts text 0 (onContract (read (contractOf input)) (traceOf input)) last s
         unfolding onTrace
         followed f =
             let m = served .monitors in
-            rw (on-taken, rw (part-rest end input) at p)
-            (rw (part-rest end input) at (f .puts (take end input) (m .clause) m (m .means)))
+            rw (on-taken, rw (part-rest end input) at p) (rw (part-rest end input) at (f .puts (take end input) m))
 
 -- ---- "run's on the trace" is the trace's own test: from the state that begin leaves no other test of run's refuses
 

@@ -15,7 +15,6 @@ use Rattle.states.specs.Limits.{headBytes}
 use Rattle.runner.specs.Calls.{stepReplyBytes, step}
 use Rattle.runner.specs.StepCalls.{StepCall}
 use Rattle.contract.specs.Meaning.{Clause, EmptyFree}
-use Rattle.reader.specs.Reader.{taken, read}
 use Rattle.image.specs.Monitors.{AnswersCalls, Monitors}
 use Rattle.compiler.specs.Calls.{Compiles}
 use Rattle.report.specs.declared.Stepped.{Stepped}
@@ -66,4 +65,4 @@ pub record MayFollow (image state trace text : List ℕ) : Type 0 where
 
 -- the lines are those of whichever contract the image monitors
 pub record FollowsTrace (image trace text later : List ℕ) (r : ℕ) : Type 0 where
-  pub puts : (contract : List ℕ) (c : Clause) → Monitors contract image → read contract ≡ taken c → Puts text 0 (lines c trace (periodRecords trace)) later r
+  pub puts : (contract : List ℕ) (m : Monitors contract image) → Puts text 0 (lines (m .clause) trace (periodRecords trace)) later r

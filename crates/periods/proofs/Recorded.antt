@@ -1,0 +1,61 @@
+-- The periods that records can hold, and what is left of any period without the bits above the last action. Document 01, "Records".
+use Prim.Native.Nat.{ℕ, _+_, _-_, _/_, _%_, _^_, _<_}
+use native.Mathlib.Nat.{mod-lt}
+use native.Mathlib.Omega.{arith}
+use mathlib.Core.List.{List, _++_}
+use mathlib.Core.Path.{_≡_, refl}
+use lib.Dec.{lit<}
+use lib.Pow as Pow
+use Rattle.records.specs.Fields.{bytes, field, value}
+use Rattle.records.specs.Marks.{periodMark, marked}
+use Rattle.records.specs.Holding.{AllBytes}
+use Rattle.records.proofs.Fields.{allBelow-cons, allBytes-bytes, value-bytes}
+use Rattle.records.specs.declared.Test.the-variants.{Passed}
+use Rattle.periods.specs.Forms.{formOf}
+use Rattle.periods.specs.Limits.{actions}
+use Rattle.periods.specs.Periods.{Party, party1, party2, Period, bit, tries, periodFrom}
+use Rattle.records.specs.Refusals.{firstFailing}
+use Rattle.periods.specs.Traces.{wholePeriods, markedAs, marksTest, periodAt, periodTest}
+
+-- some record holds this period
+pub record Recorded (x : Period) : Type 0 where
+  pub record-bytes : List ℕ
+  pub are-bytes : AllBytes record-bytes
+  pub passes : periodTest record-bytes ≡ Passed
+  pub holds : periodAt record-bytes 0 ≡ x
+
+-- the period without the bits above the last action
+abbrev pub stripped : Period → Period
+stripped x = record { attempts1 = x .attempts1 % 2 ^ actions; attempts2 = x .attempts2 % 2 ^ actions }
+
+-- ---- it has the same attempts
+
+-- of n low bits, one is what it was
+low-bit : (mask n a : ℕ) → a < n → bit (mask % 2 ^ n) a ≡ bit mask a
+unfolding bit
+low-bit mask n a h =
+    let j : ℕ = n - a - 1 in
+    let e : n ≡ j + 1 + a = omega arith in
+    let i : mask % 2 ^ n / 2 ^ a % 2 ≡ mask / 2 ^ a % 2 = rw (e, Pow.field mask (j + 1) a) (Pow.mod-mod-pow (mask / 2 ^ a) j 1) in
+    rw i
+
+pub stripped-tries : (x : Period) (p : Party) (a : ℕ) → a < actions → tries (stripped x) p a ≡ tries x p a
+unfolding tries
+stripped-tries x party1 a h = low-bit (x .attempts1) actions a h
+stripped-tries x party2 a h = low-bit (x .attempts2) actions a h
+
+-- ---- and a record holds it
+
+both-bytes : (m n : ℕ) → AllBytes (bytes 2 m ++ bytes 2 n)
+unfolding bytes
+both-bytes m n = allBelow-cons (mod-lt m (lit< tt)) (allBelow-cons (mod-lt (m / 256) (lit< tt)) (allBytes-bytes 2 n))
+
+pub stripped-recorded : (x : Period) → Recorded (stripped x)
+unfolding periodTest marksTest wholePeriods formOf markedAs marked firstFailing periodAt periodFrom field value bytes
+stripped-recorded x =
+    record {
+      record-bytes = periodMark ++ bytes 2 (x .attempts1) ++ bytes 2 (x .attempts2);
+      are-bytes = allBelow-cons (lit< tt) (allBelow-cons (lit< tt) (both-bytes (x .attempts1) (x .attempts2)));
+      passes = refl;
+      holds = rw (value-bytes 2 (x .attempts1), value-bytes 2 (x .attempts2));
+    }
