@@ -1,7 +1,8 @@
 //! Every small contract, on every short list of periods, through the Rust wrapper.
 
-use monitor::{Image, Monitor, Period};
+use monitor::{Blame, Image, Monitor, Period};
 use reference::{contract, Decision};
+use std::num::NonZeroU32;
 
 /// How long the lists are: after the decision only one period more is looked at.
 const PERIODS: usize = 4;
@@ -91,8 +92,9 @@ fn follow(
             meant.decision_period() as u32,
         );
         let same = came.is_ok_and(|reply| {
-            let decision = reply.decision.map_or(0, |period| period.get());
-            (reply.verdict.number(), reply.blame.number(), decision) == expected
+            let blame = reply.blame.map_or(0, Blame::number);
+            let decision = reply.decision.map_or(0, NonZeroU32::get);
+            (reply.verdict.number(), blame, decision) == expected
         });
         let period = format!("{one}/{two}");
         if !same {

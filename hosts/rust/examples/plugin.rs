@@ -5,7 +5,9 @@
 
 use std::num::NonZeroU32;
 
-use monitor::{Action, Contract, Image, Monitor, Party, Period, Record, Refusal};
+use monitor::{
+    Action, Blame, Clause, Contract, Expression, Image, Monitor, Party, Period, Record, Refusal,
+};
 
 /// The plugin is party 1, the host party 2.
 const PLUGIN: Party = Party::One;
@@ -25,28 +27,14 @@ const CLOSE: Action = Action::new(4).unwrap();
 /// - the plugin hands over its values, or else a correction in the next one;
 /// - the host gives memory if the plugin asks for it;
 /// - the plugin doesn't read another sheet's cells.
-///
-/// Operands stand before their operator.
 fn contract() -> Contract {
-    Contract::from_records(&[
-        // repeat (repair (duty, duty))
-        Record::Duty(PLUGIN, VALUES),
-        Record::Duty(PLUGIN, CORRECTION),
-        Record::Repair,
-        Record::Repeat,
-        // repeat (both (power, ban)), and both of the repeats
-        Record::Power(PLUGIN, MEMORY),
-        Record::Ban(PLUGIN, OTHER_SHEET),
-        Record::Both,
-        Record::Repeat,
-        Record::Both,
-        // until: any number of periods, then one in which the close succeeds
-        Record::Any,
-        Record::Star,
-        Record::Succeeds(CLOSE),
-        Record::Seq,
-        Record::Until,
-    ])
+    let values = Clause::duty(PLUGIN, VALUES).repair(Clause::duty(PLUGIN, CORRECTION));
+    let memory = Clause::power(PLUGIN, MEMORY);
+    let own_sheet = Clause::ban(PLUGIN, OTHER_SHEET);
+    // Any number of periods, then one in which the close succeeds.
+    let closed = Expression::any().star().seq(Expression::succeeds(CLOSE));
+    let clause = Clause::both(values.repeat(), memory.both(own_sheet).repeat()).until(closed);
+    Contract::from(clause)
 }
 
 /// What the plugin tries in a recalculation, then what the host tries.
@@ -55,7 +43,7 @@ type Attempts<'a> = (&'a [Action], &'a [Action]);
 fn recalculate(sheet: &mut Monitor, recalculations: &[Attempts]) -> Result<(), Refusal> {
     for (plugin, host) in recalculations {
         let reply = sheet.step(Period::from_actions(plugin, host))?;
-        let blame = reply.blame.number();
+        let blame = reply.blame.map_or(0, Blame::number);
         println!("{} {} {blame}", sheet.periods(), reply.verdict);
     }
     let decision = sheet.look().decision.map_or(0, NonZeroU32::get);
@@ -108,7 +96,8 @@ fn main() -> Result<(), Refusal> {
         ],
     )?;
 
-    // Repeat wants a clause, but succeeds is an expression.
+    // Records by hand, operands before their operator. Repeat wants a clause, but succeeds is an
+    // expression.
     let wrong = Contract::from_records(&[Record::Succeeds(CLOSE), Record::Repeat]);
     if let Err(refusal) = Image::compile(wrong) {
         println!("refused {} {}", refusal.fault.number(), refusal.place);

@@ -1,12 +1,13 @@
 //! The four calls with a reply area of the right length, and what the reply says.
 //!
-//! Three things are proved of the calls and taken for granted here, by a panic where they fail:
-//! the result is 1 where the reply has room; a number other than 0 is one of the refusals 1 to 12;
-//! verdict and blame of an accepted call are numbers of verdicts and blames.
+//! Four things are proved of the calls and taken for granted here, by a panic where they fail: the
+//! result is 1 where the reply has room; a number other than 0 is one of the refusals 1 to 12;
+//! verdict and blame of an accepted call are numbers of verdicts and blames; a state that begin,
+//! step or run accepted is left sound.
 
-use std::num::NonZeroU32;
+use core::num::NonZeroU32;
 
-use crate::{calls, Blame, Fault, Refusal, Reply, Verdict};
+use crate::{calls, Blame, Fault, Refusal, Reply, RunReply, Verdict};
 
 /// The bytes of compile's and begin's reply.
 const SHORT_REPLY: usize = 16;
@@ -14,7 +15,7 @@ const SHORT_REPLY: usize = 16;
 const LONG_REPLY: usize = 24;
 
 /// A four-byte field, low byte first.
-pub fn u32_at(bytes: &[u8], at: usize) -> u32 {
+fn u32_at(bytes: &[u8], at: usize) -> u32 {
     u32::from_le_bytes([bytes[at], bytes[at + 1], bytes[at + 2], bytes[at + 3]])
 }
 
@@ -39,11 +40,33 @@ pub fn step(image: &[u8], state: &mut [u8], period: &[u8]) -> Result<Reply, Refu
     Ok(answer(&reply))
 }
 
-pub fn run(image: &[u8], state: &mut [u8], trace: &[u8]) -> Result<Reply, Refusal> {
+pub fn run(image: &[u8], state: &mut [u8], trace: &[u8]) -> Result<RunReply, Refusal> {
     let mut reply = [0; LONG_REPLY];
     let result = calls::run(image, state, trace, &mut reply);
     accepted(result, &reply)?;
-    Ok(answer(&reply))
+    Ok(RunReply {
+        reply: answer(&reply),
+    })
+}
+
+/// How many periods a state has taken.
+pub fn periods(state: &[u8]) -> u32 {
+    u32_at(state, 2)
+}
+
+/// What a sound state shows: the answer of a run of no records. Its first byte is the outcome, its
+/// second the blame; the decision period starts at byte 6.
+pub fn shown(state: &[u8]) -> Reply {
+    let decision = u32_at(state, 6);
+    let verdict = match (state[0], decision == periods(state)) {
+        (0, _) => Verdict::Open,
+        (1, true) => Verdict::Met,
+        (1, false) => Verdict::MetAfter,
+        (2, true) => Verdict::Broken,
+        (2, false) => Verdict::BrokenAfter,
+        _ => unreachable!("an outcome is 0 to 2"),
+    };
+    reply(verdict, u32::from(state[1]), decision)
 }
 
 /// Every reply starts with the number, and has the place from byte 8.
@@ -58,10 +81,19 @@ fn accepted(result: u32, reply: &[u8]) -> Result<(), Refusal> {
     }
 }
 
-fn answer(reply: &[u8; LONG_REPLY]) -> Reply {
+fn answer(area: &[u8; LONG_REPLY]) -> Reply {
+    let verdict = Verdict::from_number(u32_at(area, 4)).expect("a verdict is 0 to 4");
+    reply(verdict, u32_at(area, 16), u32_at(area, 20))
+}
+
+/// Blame and decision period are 0 for none.
+fn reply(verdict: Verdict, blame: u32, decision: u32) -> Reply {
     Reply {
-        verdict: Verdict::from_number(u32_at(reply, 4)).expect("a verdict is 0 to 4"),
-        blame: Blame::from_number(u32_at(reply, 16)).expect("a blame is 0 to 3"),
-        decision: NonZeroU32::new(u32_at(reply, 20)),
+        verdict,
+        blame: match blame {
+            0 => None,
+            number => Some(Blame::from_number(number).expect("a blame is 0 to 3")),
+        },
+        decision: NonZeroU32::new(decision),
     }
 }

@@ -55,11 +55,11 @@ mod archive {
     }
 }
 
-// Safety of all four: each pointer and length are those of a slice that lives through the call, and
-// the archive's code is proved to read and write nothing else.
-
 /// Writes the contract's image into the first bytes of the buffer. Its reply has 16 bytes.
 pub fn compile(contract: &[u8], image: &mut [u8], reply: &mut [u8]) -> u32 {
+    // SAFETY: each pointer and length are those of a slice that lives through the call, those written
+    // through are borrowed by nobody else, and the archive's code is proved to read and write
+    // nothing but these slices.
     unsafe {
         archive::monitor_compile(
             contract.as_ptr(),
@@ -74,6 +74,7 @@ pub fn compile(contract: &[u8], image: &mut [u8], reply: &mut [u8]) -> u32 {
 
 /// Sets the state to zeros. Its reply has 16 bytes.
 pub fn begin(image: &[u8], state: &mut [u8], reply: &mut [u8]) -> u32 {
+    // SAFETY: as in `compile`.
     unsafe {
         archive::monitor_begin(
             image.as_ptr(),
@@ -88,6 +89,7 @@ pub fn begin(image: &[u8], state: &mut [u8], reply: &mut [u8]) -> u32 {
 
 /// Takes one period record. Its reply has 24 bytes.
 pub fn step(image: &[u8], state: &mut [u8], period: &[u8], reply: &mut [u8]) -> u32 {
+    // SAFETY: as in `compile`.
     unsafe {
         archive::monitor_step(
             image.as_ptr(),
@@ -104,6 +106,7 @@ pub fn step(image: &[u8], state: &mut [u8], period: &[u8], reply: &mut [u8]) -> 
 
 /// Takes a trace of zero or more period records. Its reply has 24 bytes.
 pub fn run(image: &[u8], state: &mut [u8], trace: &[u8], reply: &mut [u8]) -> u32 {
+    // SAFETY: as in `compile`.
     unsafe {
         archive::monitor_run(
             image.as_ptr(),

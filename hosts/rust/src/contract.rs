@@ -1,5 +1,9 @@
 //! Contracts: a list of records, operands before their operator.
 
+use alloc::vec::Vec;
+
+use crate::Clause;
+
 /// One of a contract's two parties.
 #[derive(Clone, Copy, Debug, PartialEq, Eq, Hash)]
 #[repr(u8)]
@@ -12,6 +16,7 @@ pub enum Party {
 
 impl Party {
     /// 1 or 2.
+    #[must_use]
     pub const fn number(self) -> u8 {
         self as u8
     }
@@ -34,6 +39,7 @@ impl Action {
     /// const SAVE: Action = Action::new(3).unwrap();
     /// assert_eq!(SAVE.number(), 3);
     /// ```
+    #[must_use]
     pub const fn new(number: u8) -> Option<Action> {
         if number < Action::COUNT {
             Some(Action(number))
@@ -43,6 +49,7 @@ impl Action {
     }
 
     /// 0 to 15.
+    #[must_use]
     pub const fn number(self) -> u8 {
         self.0
     }
@@ -55,44 +62,46 @@ impl Action {
 
 /// A record of a contract: a clause, an expression, or an operator on those before it.
 ///
-/// A record's marks, kind and fields are right by construction (refusals 2 to 4). Whether the
-/// records together are a contract is for [`Image::compile`](crate::Image::compile) to say.
+/// A record's mark, kind and fields are right by construction (refusals 2 to 4). Whether the
+/// records together are a contract is for [`Image::compile`](crate::Image::compile) to say. What
+/// each means is said at the function of that name, of [`Clause`] or
+/// [`Expression`](crate::Expression).
 #[derive(Clone, Copy, Debug, PartialEq, Eq, Hash)]
+#[non_exhaustive]
 pub enum Record {
-    /// A clause: the party tries the action and so does the other. The party is to blame if it
-    /// doesn't try, otherwise the other.
+    /// A clause: [`duty`](Clause::duty).
     Duty(Party, Action),
-    /// A clause: the action doesn't succeed. The party is to blame if it does.
+    /// A clause: [`ban`](Clause::ban).
     Ban(Party, Action),
-    /// A clause: if the party tries the action, so does the other, who is to blame if it doesn't.
+    /// A clause: [`power`](Clause::power).
     Power(Party, Action),
-    /// Of two clauses: both hold, side by side.
+    /// Of two clauses: [`both`](Clause::both).
     Both,
-    /// Of two clauses: the second reads on after the first is satisfied.
+    /// Of two clauses: [`then`](Clause::then).
     Then,
-    /// Of two clauses: the second reads on after the first is violated, in its place.
+    /// Of two clauses: [`repair`](Clause::repair).
     Repair,
-    /// Of a clause: it begins anew after each satisfaction.
+    /// Of a clause: [`repeat`](Clause::repeat).
     Repeat,
-    /// Of an expression, then a clause: the clause reads on after the expression is accepted.
+    /// Of an expression, then a clause: [`when`](Clause::when).
     When,
-    /// Of a clause, then an expression: the clause, up to the expression's acceptance.
+    /// Of a clause, then an expression: [`until`](Clause::until).
     Until,
-    /// An expression: any one period.
+    /// An expression: [`any`](crate::Expression::any).
     Any,
-    /// An expression: one period in which the party tries the action.
+    /// An expression: [`tries`](crate::Expression::tries).
     Tries(Party, Action),
-    /// An expression: one period in which the party doesn't try the action.
+    /// An expression: [`idle`](crate::Expression::idle).
     Idle(Party, Action),
-    /// An expression: one period in which both try the action.
+    /// An expression: [`succeeds`](crate::Expression::succeeds).
     Succeeds(Action),
-    /// An expression: one period in which not both try the action.
+    /// An expression: [`fails`](crate::Expression::fails).
     Fails(Action),
-    /// Of two expressions: the first, then the second.
+    /// Of two expressions: [`seq`](crate::Expression::seq).
     Seq,
-    /// Of two expressions: either.
+    /// Of two expressions: [`or`](crate::Expression::or).
     Or,
-    /// Of an expression: zero or more of it, one after the other.
+    /// Of an expression: [`star`](crate::Expression::star).
     Star,
 }
 
@@ -101,6 +110,7 @@ impl Record {
     pub const BYTES: usize = 6;
 
     /// The number of the record's kind.
+    #[must_use]
     pub const fn kind(self) -> u8 {
         match self {
             Record::Duty(..) => 1,
@@ -124,6 +134,7 @@ impl Record {
     }
 
     /// The record as it stands in a contract; a field that its kind doesn't use is 0.
+    #[must_use]
     pub const fn to_bytes(self) -> [u8; Record::BYTES] {
         let (party, action) = match self {
             Record::Duty(party, action)
@@ -132,7 +143,16 @@ impl Record {
             | Record::Tries(party, action)
             | Record::Idle(party, action) => (party.number(), action.number()),
             Record::Succeeds(action) | Record::Fails(action) => (0, action.number()),
-            _ => (0, 0),
+            Record::Both
+            | Record::Then
+            | Record::Repair
+            | Record::Repeat
+            | Record::When
+            | Record::Until
+            | Record::Any
+            | Record::Seq
+            | Record::Or
+            | Record::Star => (0, 0),
         };
         [0x54, 0x43, self.kind(), party, action, 0]
     }
@@ -140,8 +160,8 @@ impl Record {
 
 /// The bytes of a contract: 1 to 64 records, if it is to be taken.
 ///
-/// Made from records, or from bytes that were read elsewhere. Nothing is checked before
-/// [`Image::compile`](crate::Image::compile), which also takes borrowed bytes as they are.
+/// Made from a [`Clause`], from records, or from bytes that were read elsewhere. Nothing is checked
+/// before [`Image::compile`](crate::Image::compile), which also takes borrowed bytes as they are.
 #[derive(Clone, Debug, PartialEq, Eq, Hash)]
 pub struct Contract(Vec<u8>);
 
@@ -150,16 +170,19 @@ impl Contract {
     pub const MAX_RECORDS: usize = 64;
 
     /// The contract of these records, operands before their operator.
+    #[must_use]
     pub fn from_records(records: &[Record]) -> Contract {
-        Contract(records.iter().flat_map(|r| r.to_bytes()).collect())
+        records.iter().copied().collect()
     }
 
     /// The contract of these bytes, whatever they are.
+    #[must_use]
     pub fn from_bytes(bytes: impl Into<Vec<u8>>) -> Contract {
         Contract(bytes.into())
     }
 
     /// The contract's bytes.
+    #[must_use]
     pub fn as_bytes(&self) -> &[u8] {
         &self.0
     }
@@ -168,5 +191,25 @@ impl Contract {
 impl AsRef<[u8]> for Contract {
     fn as_ref(&self) -> &[u8] {
         self.as_bytes()
+    }
+}
+
+impl FromIterator<Record> for Contract {
+    fn from_iter<I: IntoIterator<Item = Record>>(records: I) -> Contract {
+        Contract(records.into_iter().flat_map(Record::to_bytes).collect())
+    }
+}
+
+/// The contract that means what the clause means.
+impl From<&Clause> for Contract {
+    fn from(clause: &Clause) -> Contract {
+        clause.records().collect()
+    }
+}
+
+/// The contract that means what the clause means.
+impl From<Clause> for Contract {
+    fn from(clause: Clause) -> Contract {
+        Contract::from(&clause)
     }
 }

@@ -1,7 +1,8 @@
 //! Images: what compile makes of a contract.
 
-use std::fmt;
-use std::sync::Arc;
+use alloc::sync::Arc;
+use alloc::vec;
+use core::fmt;
 
 use crate::{answers, Contract, Record, Refusal};
 
@@ -35,24 +36,27 @@ impl Image {
     ///
     /// # Errors
     /// Refusal 9, if it isn't a good image.
-    pub fn from_bytes(bytes: impl Into<Vec<u8>>) -> Result<Image, Refusal> {
-        let image = Image(bytes.into().into());
+    pub fn from_bytes(bytes: impl AsRef<[u8]>) -> Result<Image, Refusal> {
+        let image = Image(bytes.as_ref().into());
         answers::begin(image.as_bytes(), &mut vec![0; image.state_bytes()])?;
         Ok(image)
     }
 
     /// The image's bytes, 8 × (rows + 1).
+    #[must_use]
     pub fn as_bytes(&self) -> &[u8] {
         &self.0
     }
 
     /// How many rows the image has, 1 to 2,112.
+    #[must_use]
     pub fn rows(&self) -> usize {
         // Less than a row only in `from_bytes`, before the length is refused.
         (self.0.len() / ROW_BYTES).saturating_sub(1)
     }
 
     /// How many bytes a state of the image has, 10 + rows.
+    #[must_use]
     pub fn state_bytes(&self) -> usize {
         HEAD_BYTES + self.rows()
     }

@@ -5,46 +5,66 @@
 //! is given both parties' attempts and says whether the contract is open, met or broken, since
 //! which period, and who is to blame. "Document 01" in these pages is the monitor's definition.
 //!
-//! A host makes a [`Contract`] from [`Record`]s or from bytes, compiles it to an [`Image`] once,
-//! begins a [`Monitor`] for each spreadsheet under that contract, and steps each of them with
+//! A host builds a [`Clause`] and makes a [`Contract`] from it, compiles that to an [`Image`] once,
+//! begins a [`Monitor`] for each spreadsheet under the contract, and steps each of them with
 //! [`Period`]s. A [`Reply`] is the answer, a [`Refusal`] says what was wrong with what was given.
 //!
 //! ```
-//! use monitor::{Action, Blame, Contract, Image, Monitor, Party, Period, Record, Refusal, Verdict};
+//! use monitor::{Action, Blame, Clause, Contract, Image, Monitor, Party, Period, Refusal, Verdict};
 //!
-//! // The plugin is party 1. It hands over its values, or else a correction one period later.
+//! const PLUGIN: Party = Party::One;
 //! const VALUES: Action = Action::new(0).unwrap();
 //! const CORRECTION: Action = Action::new(1).unwrap();
 //!
 //! fn main() -> Result<(), Refusal> {
-//!     // Operands before their operator.
-//!     let contract = Contract::from_records(&[
-//!         Record::Duty(Party::One, VALUES),
-//!         Record::Duty(Party::One, CORRECTION),
-//!         Record::Repair,
-//!         Record::Repeat,
-//!     ]);
-//!     let image = Image::compile(&contract)?;
-//!     let mut monitor = Monitor::begin(&image);
+//!     // Again and again the plugin hands over its values, or else a correction one period later.
+//!     let correction = Clause::duty(PLUGIN, CORRECTION);
+//!     let clause = Clause::duty(PLUGIN, VALUES).repair(correction).repeat();
+//!     let image = Image::compile(Contract::from(clause))?;
+//!     let mut sheet = Monitor::begin(&image);
 //!
-//!     // Both try: the values are handed over.
-//!     let reply = monitor.step(Period::from_actions(&[VALUES], &[VALUES]))?;
+//!     // The plugin's attempts, then the host's: the values are handed over.
+//!     let reply = sheet.step(Period::from_actions(&[VALUES], &[VALUES]))?;
 //!     assert_eq!(reply.verdict, Verdict::Open);
-//!     // Nobody tries; the correction is owed now, and the host doesn't take it.
-//!     monitor.step(Period::default())?;
-//!     let reply = monitor.step(Period::from_actions(&[CORRECTION], &[]))?;
+//!     // Nobody tries anything; the correction is owed now, and the host doesn't take it.
+//!     sheet.step(Period::default())?;
+//!     let reply = sheet.step(Period::from_actions(&[CORRECTION], &[]))?;
 //!     assert_eq!(reply.verdict, Verdict::Broken);
-//!     assert_eq!(reply.blame, Blame::Two);
-//!     assert_eq!(reply.decision.map_or(0, |period| period.get()), 3);
+//!     assert_eq!(reply.blame, Some(Blame::Two));
+//!     assert_eq!(reply.decision.map(|period| period.get()), Some(3));
 //!     Ok(())
 //! }
 //! ```
 //!
+//! A contract is also made from a list of [`Record`]s or from bytes. An image and a monitor's state
+//! are bytes that can be stored:
+//!
+//! ```
+//! # use monitor::{Action, Clause, Contract, Image, Monitor, Party, Period, Refusal};
+//! # fn main() -> Result<(), Refusal> {
+//! # const VALUES: Action = Action::new(0).unwrap();
+//! # let image = Image::compile(Contract::from(Clause::duty(Party::One, VALUES).repeat()))?;
+//! # let mut sheet = Monitor::begin(&image);
+//! # sheet.step(Period::from_actions(&[VALUES], &[VALUES]))?;
+//! let (stored_image, stored_state) = (image.as_bytes().to_vec(), sheet.state().to_vec());
+//!
+//! let image = Image::from_bytes(stored_image)?;
+//! let sheet = Monitor::resume(&image, stored_state)?;
+//! println!("{} after {} periods", sheet.look().verdict, sheet.periods());
+//! # assert_eq!((sheet.look().verdict, sheet.periods()), (monitor::Verdict::Open, 1));
+//! # Ok(())
+//! # }
+//! ```
+//!
 //! Buffers have the right size by construction: only bytes that come from elsewhere can be refused
-//! for their length. [`calls`] has the four calls themselves, on byte slices.
+//! for their length. [`calls`] has the four calls themselves, on byte slices. The crate needs no
+//! `std`, only `alloc`; the archive is x86-64 code.
 
-#![warn(missing_docs)]
+#![no_std]
 #![deny(unsafe_code)]
+#![warn(missing_docs, clippy::undocumented_unsafe_blocks)]
+
+extern crate alloc;
 
 mod answers;
 #[allow(unsafe_code)]
@@ -55,10 +75,12 @@ mod monitor;
 mod period;
 mod refusal;
 mod reply;
+mod tree;
 
 pub use crate::contract::{Action, Contract, Party, Record};
 pub use crate::image::Image;
 pub use crate::monitor::Monitor;
 pub use crate::period::Period;
 pub use crate::refusal::{Fault, Refusal};
-pub use crate::reply::{Blame, Reply, Verdict};
+pub use crate::reply::{Blame, Reply, RunReply, Verdict};
+pub use crate::tree::{Clause, Expression};

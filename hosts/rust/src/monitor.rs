@@ -1,6 +1,9 @@
 //! Monitors: an image and a state, stepped period by period.
 
-use crate::{answers, Image, Period, Refusal, Reply};
+use alloc::vec;
+use alloc::vec::Vec;
+
+use crate::{answers, Image, Period, Refusal, Reply, RunReply};
 
 /// A contract under way: its image and a state.
 ///
@@ -14,6 +17,7 @@ pub struct Monitor {
 
 impl Monitor {
     /// Begins: no period is taken.
+    #[must_use]
     pub fn begin(image: &Image) -> Monitor {
         let mut state = vec![0; image.state_bytes()];
         // Proved: begin accepts what compile wrote, and again what it accepted in `from_bytes`.
@@ -61,8 +65,11 @@ impl Monitor {
     ///
     /// # Errors
     /// Refusal 12, if more than 4,294,967,295 periods would be taken.
-    pub fn run(&mut self, periods: &[Period]) -> Result<Reply, Refusal> {
-        let trace: Vec<u8> = periods.iter().flat_map(|p| p.to_bytes()).collect();
+    pub fn run(&mut self, periods: &[Period]) -> Result<RunReply, Refusal> {
+        let trace: Vec<u8> = periods
+            .iter()
+            .flat_map(|period| period.to_bytes())
+            .collect();
         self.run_bytes(&trace)
     }
 
@@ -70,29 +77,31 @@ impl Monitor {
     ///
     /// # Errors
     /// Refusal 11, if it isn't a list of period records, and 12 as [`run`](Monitor::run).
-    pub fn run_bytes(&mut self, trace: &[u8]) -> Result<Reply, Refusal> {
+    pub fn run_bytes(&mut self, trace: &[u8]) -> Result<RunReply, Refusal> {
         answers::run(self.image.as_bytes(), &mut self.state, trace)
     }
 
-    /// The answer after the periods taken so far: that of a run of no records.
+    /// The answer after the periods taken so far: that of a run of no records, read from the state
+    /// as it stands.
+    #[must_use]
     pub fn look(&self) -> Reply {
-        // Proved: such a run is refused only for the image or the state, and every step and run
-        // leaves a sound state.
-        answers::run(self.image.as_bytes(), &mut self.state.clone(), &[])
-            .expect("the image is good and the state sound")
+        answers::shown(&self.state)
     }
 
     /// How many periods were taken.
+    #[must_use]
     pub fn periods(&self) -> u32 {
-        answers::u32_at(&self.state, 2)
+        answers::periods(&self.state)
     }
 
     /// The state's bytes, to be stored and resumed.
+    #[must_use]
     pub fn state(&self) -> &[u8] {
         &self.state
     }
 
     /// The image that the monitor runs.
+    #[must_use]
     pub fn image(&self) -> &Image {
         &self.image
     }

@@ -29,11 +29,13 @@ impl Period {
     pub const BYTES: usize = 6;
 
     /// The period of these masks, party 1's first: bit a is set when the party tries action a.
+    #[must_use]
     pub const fn from_masks(one: u16, two: u16) -> Period {
         Period { one, two }
     }
 
     /// The period in which party 1 tries the first actions and party 2 the second.
+    #[must_use]
     pub fn from_actions(one: &[Action], two: &[Action]) -> Period {
         let mask = |actions: &[Action]| actions.iter().fold(0, |mask, a| mask | a.bit());
         Period::from_masks(mask(one), mask(two))
@@ -48,6 +50,7 @@ impl Period {
     }
 
     /// The mask of a party's attempts.
+    #[must_use]
     pub const fn mask(self, party: Party) -> u16 {
         match party {
             Party::One => self.one,
@@ -56,16 +59,19 @@ impl Period {
     }
 
     /// Whether the party tries the action.
+    #[must_use]
     pub const fn tries(self, party: Party, action: Action) -> bool {
         self.mask(party) & action.bit() != 0
     }
 
     /// Whether both parties try the action.
+    #[must_use]
     pub const fn succeeds(self, action: Action) -> bool {
         self.tries(Party::One, action) && self.tries(Party::Two, action)
     }
 
     /// The period as a record of a trace.
+    #[must_use]
     pub const fn to_bytes(self) -> [u8; Period::BYTES] {
         let [one, one_high] = self.one.to_le_bytes();
         let [two, two_high] = self.two.to_le_bytes();

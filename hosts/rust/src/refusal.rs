@@ -1,12 +1,13 @@
 //! Why a call was refused.
 
-use std::error::Error;
-use std::fmt;
+use core::error::Error;
+use core::fmt;
 
 /// What a refused call was refused for: document 01's numbers 1 to 12.
 ///
 /// Number 13 is the program `watch`'s alone, for an input that is too long; no call gives it.
 #[derive(Clone, Copy, Debug, PartialEq, Eq, Hash)]
+#[non_exhaustive]
 #[repr(u32)]
 pub enum Fault {
     /// The contract is empty, not a multiple of 6 bytes, or over 64 records. Place: 0.
@@ -40,6 +41,7 @@ pub enum Fault {
 
 impl Fault {
     /// The fault of this number, if it is 1 to 12.
+    #[must_use]
     pub const fn from_number(number: u32) -> Option<Fault> {
         Some(match number {
             1 => Fault::BadLength,
@@ -59,6 +61,7 @@ impl Fault {
     }
 
     /// 1 to 12.
+    #[must_use]
     pub const fn number(self) -> u32 {
         self as u32
     }

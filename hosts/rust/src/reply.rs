@@ -1,7 +1,7 @@
 //! What step and run answer.
 
-use std::fmt;
-use std::num::NonZeroU32;
+use core::fmt;
+use core::num::NonZeroU32;
 
 /// How a contract stands after the periods taken so far.
 #[derive(Clone, Copy, Debug, PartialEq, Eq, Hash)]
@@ -21,6 +21,7 @@ pub enum Verdict {
 
 impl Verdict {
     /// The verdict of this number, if it is at most 4.
+    #[must_use]
     pub const fn from_number(number: u32) -> Option<Verdict> {
         Some(match number {
             0 => Verdict::Open,
@@ -33,11 +34,13 @@ impl Verdict {
     }
 
     /// 0 to 4.
+    #[must_use]
     pub const fn number(self) -> u32 {
         self as u32
     }
 
     /// The verdict's name, as `watch` prints it.
+    #[must_use]
     pub const fn name(self) -> &'static str {
         match self {
             Verdict::Open => "open",
@@ -59,8 +62,6 @@ impl fmt::Display for Verdict {
 #[derive(Clone, Copy, Debug, PartialEq, Eq, Hash)]
 #[repr(u32)]
 pub enum Blame {
-    /// Nobody: the contract isn't violated.
-    None = 0,
     /// Party 1.
     One = 1,
     /// Party 2.
@@ -70,10 +71,10 @@ pub enum Blame {
 }
 
 impl Blame {
-    /// The blame of this number, if it is at most 3.
+    /// The blame of this number, if it is 1 to 3.
+    #[must_use]
     pub const fn from_number(number: u32) -> Option<Blame> {
         Some(match number {
-            0 => Blame::None,
             1 => Blame::One,
             2 => Blame::Two,
             3 => Blame::Both,
@@ -81,7 +82,8 @@ impl Blame {
         })
     }
 
-    /// 0 to 3.
+    /// 1 to 3.
+    #[must_use]
     pub const fn number(self) -> u32 {
         self as u32
     }
@@ -90,7 +92,6 @@ impl Blame {
 impl fmt::Display for Blame {
     fn fmt(&self, f: &mut fmt::Formatter<'_>) -> fmt::Result {
         f.pad(match self {
-            Blame::None => "none",
             Blame::One => "party 1",
             Blame::Two => "party 2",
             Blame::Both => "both parties",
@@ -98,13 +99,21 @@ impl fmt::Display for Blame {
     }
 }
 
-/// The answer after the periods taken so far.
+/// The answer after the periods taken so far: a step's, and a look's.
 #[derive(Clone, Copy, Debug, PartialEq, Eq, Hash)]
 pub struct Reply {
     /// How the contract stands.
     pub verdict: Verdict,
-    /// Who is to blame; [`Blame::None`] unless the contract is violated.
-    pub blame: Blame,
+    /// Who is to blame; `None` unless the contract is violated.
+    pub blame: Option<Blame>,
     /// The period that decided, counted from 1; `None` while the contract is open.
     pub decision: Option<NonZeroU32>,
+}
+
+/// What a run gives. Further fields may come.
+#[derive(Clone, Copy, Debug, PartialEq, Eq, Hash)]
+#[non_exhaustive]
+pub struct RunReply {
+    /// The answer after the periods taken so far.
+    pub reply: Reply,
 }

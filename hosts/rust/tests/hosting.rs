@@ -1,8 +1,17 @@
 //! What a host does with images and states: stores them, shares them, goes on from them.
 
-use monitor::{Action, Contract, Image, Monitor, Party, Period, Record, Verdict};
+use std::num::NonZeroU32;
+
+use monitor::{
+    Action, Blame, Clause, Contract, Expression, Image, Monitor, Party, Period, Record, Refusal,
+    Reply, RunReply, Verdict,
+};
+
+mod common;
+use common::Random;
 
 const A: Action = Action::new(0).unwrap();
+const B: Action = Action::new(1).unwrap();
 const DUTY: Record = Record::Duty(Party::One, A);
 const GOOD: Period = Period::from_masks(1, 1);
 const BAD: Period = Period::from_masks(0, 1);
@@ -32,7 +41,8 @@ fn sizes_follow_the_rows() {
 #[test]
 fn sixty_four_records_and_sixty_five() {
     let mut monitor = Monitor::begin(&compile(&nest(64)));
-    assert_eq!(monitor.run(&[GOOD; 100]).unwrap().verdict, Verdict::Open);
+    let ran = monitor.run(&[GOOD; 100]).unwrap();
+    assert_eq!(ran.reply.verdict, Verdict::Open);
     let reply = monitor.step(BAD).unwrap();
     assert_eq!(reply.verdict, Verdict::Broken);
     assert_eq!(reply.decision.unwrap().get(), 101);
@@ -57,7 +67,8 @@ fn stored_images() {
     assert_eq!(again, image);
     assert_eq!(again.rows(), image.rows());
     let mut monitor = Monitor::begin(&again);
-    assert_eq!(monitor.run(&[GOOD, BAD]).unwrap().verdict, Verdict::Broken);
+    let ran = monitor.run(&[GOOD, BAD]).unwrap();
+    assert_eq!(ran.reply.verdict, Verdict::Broken);
 }
 
 #[test]
@@ -101,8 +112,92 @@ fn a_look_changes_nothing() {
     let reply = monitor.step(GOOD).unwrap();
     let before = monitor.clone();
     assert_eq!(monitor.look(), reply);
-    assert_eq!(monitor.run(&[]), Ok(reply));
+    assert_eq!(monitor.run(&[]).unwrap().reply, reply);
     assert_eq!(monitor, before);
+}
+
+/// A look shows what a run of no records over the same state gives.
+#[track_caller]
+fn look(monitor: &Monitor) -> Reply {
+    let look = monitor.look();
+    assert_eq!(monitor.clone().run(&[]).unwrap().reply, look);
+    look
+}
+
+#[test]
+fn a_look_is_a_run_of_no_records() {
+    let duty = Clause::duty(Party::One, A);
+    let closed = Expression::any().star().seq(Expression::succeeds(B));
+    let power = Clause::power(Party::One, B);
+    let clauses = [
+        duty.clone(),
+        duty.clone().repeat(),
+        duty.clone().repair(Clause::duty(Party::Two, B)).repeat(),
+        duty.clone().both(power.clone()).repeat(),
+        duty.clone().repeat().until(closed),
+        Clause::when(Expression::tries(Party::Two, B), power).then(duty),
+    ];
+    let random = &mut Random::new(1);
+    let mut seen = Vec::new();
+    for clause in clauses {
+        let image = Image::compile(Contract::from(clause)).unwrap();
+        for _ in 0..200 {
+            let mut monitor = Monitor::begin(&image);
+            seen.push(look(&monitor));
+            for _ in 0..6 {
+                let [one, two] = [random.below(4), random.below(4)].map(|mask| mask as u16);
+                let reply = monitor.step(Period::from_masks(one, two)).unwrap();
+                assert_eq!(look(&monitor), reply);
+                seen.push(reply);
+            }
+        }
+    }
+    for number in 0..=4 {
+        let verdict = Verdict::from_number(number).unwrap();
+        assert!(seen.iter().any(|reply| reply.verdict == verdict));
+    }
+    for blame in [None, Some(Blame::One), Some(Blame::Two), Some(Blame::Both)] {
+        assert!(seen.iter().any(|reply| reply.blame == blame));
+    }
+}
+
+/// The same on states that were not left by steps: every outcome and blame, around the ends of
+/// what the counts can hold.
+#[test]
+fn a_look_at_any_sound_state() {
+    let image = compile(&[DUTY]);
+    let counts = [1, 2, 255, 256, 65_536, u32::MAX - 1, u32::MAX];
+    let mut looks = 0;
+    for periods in counts {
+        for decision in [0].into_iter().chain(counts) {
+            for (outcome, blame) in [(0, 0), (1, 0), (2, 1), (2, 2), (2, 3)] {
+                let mut state = vec![0; image.state_bytes()];
+                state[0] = outcome;
+                state[1] = blame;
+                state[2..6].copy_from_slice(&periods.to_le_bytes());
+                state[6..10].copy_from_slice(&decision.to_le_bytes());
+                let sound = (outcome == 0) == (decision == 0) && decision <= periods;
+                let resumed = Monitor::resume(&image, state);
+                assert_eq!(resumed.is_ok(), sound);
+                if let Ok(monitor) = resumed {
+                    let reply = look(&monitor);
+                    assert_eq!(reply.blame.map_or(0, Blame::number), u32::from(blame));
+                    assert_eq!(reply.decision.map_or(0, NonZeroU32::get), decision);
+                    looks += 1;
+                }
+            }
+        }
+    }
+    assert_eq!(looks, 7 + 4 * (1 + 2 + 3 + 4 + 5 + 6 + 7));
+}
+
+#[test]
+fn every_type_crosses_threads() {
+    fn crosses<T: Send + Sync>() {}
+    crosses::<Image>();
+    crosses::<Monitor>();
+    crosses::<(Clause, Expression, Record, Contract, Period)>();
+    crosses::<(Reply, RunReply, Refusal)>();
 }
 
 #[test]

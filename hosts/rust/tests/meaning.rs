@@ -1,8 +1,11 @@
-//! Document 01's worked examples, through compile, begin, step and run.
+//! Document 01's worked examples, as trees and as records, through compile, begin, step and run.
 
 use std::num::NonZeroU32;
 
-use monitor::{Action, Blame, Contract, Image, Monitor, Party, Period, Record, Reply, Verdict};
+use monitor::{
+    Action, Blame, Clause, Contract, Expression, Image, Monitor, Party, Period, Record, Reply,
+    Verdict,
+};
 use Party::{One, Two};
 use Record::*;
 
@@ -27,7 +30,7 @@ fn actions(text: &str) -> Vec<Action> {
         .collect()
 }
 
-fn reply(verdict: Verdict, blame: Blame, decision: u32) -> Reply {
+fn reply(verdict: Verdict, blame: Option<Blame>, decision: u32) -> Reply {
     Reply {
         verdict,
         blame,
@@ -36,24 +39,32 @@ fn reply(verdict: Verdict, blame: Blame, decision: u32) -> Reply {
 }
 
 fn open() -> Reply {
-    reply(Verdict::Open, Blame::None, 0)
+    reply(Verdict::Open, None, 0)
 }
 
 fn met(decision: u32) -> Reply {
-    reply(Verdict::Met, Blame::None, decision)
+    reply(Verdict::Met, None, decision)
 }
 
 fn broken(decision: u32, blame: Blame) -> Reply {
-    reply(Verdict::Broken, blame, decision)
+    reply(Verdict::Broken, Some(blame), decision)
+}
+
+/// The image of a contract that is given twice: the tree spells these very records.
+#[track_caller]
+fn image(tree: Clause, records: &[Record]) -> Image {
+    assert!(tree.records().eq(records.iter().copied()), "{tree:?}");
+    let contract = Contract::from(tree);
+    assert_eq!(contract, Contract::from_records(records));
+    Image::compile(contract).unwrap()
 }
 
 /// Holds the last of the steps over a trace, and the run of it, to the reply.
 #[track_caller]
-fn hold(records: &[Record], trace: &str, want: Reply) {
-    let image = Image::compile(Contract::from_records(records)).unwrap();
+fn hold(image: &Image, trace: &str, want: Reply) {
     let periods = periods(trace);
 
-    let mut stepped = Monitor::begin(&image);
+    let mut stepped = Monitor::begin(image);
     let mut last = stepped.look();
     for &period in &periods {
         last = stepped.step(period).unwrap();
@@ -61,125 +72,153 @@ fn hold(records: &[Record], trace: &str, want: Reply) {
     assert_eq!(last, want, "steps over {trace:?}");
     assert_eq!(stepped.periods() as usize, periods.len());
 
-    let mut run = Monitor::begin(&image);
-    assert_eq!(run.run(&periods).unwrap(), want, "run over {trace:?}");
+    let mut run = Monitor::begin(image);
+    assert_eq!(run.run(&periods).unwrap().reply, want, "run over {trace:?}");
     assert_eq!(run, stepped);
 }
 
 #[test]
 fn duty() {
-    let contract = [Duty(One, A)];
-    hold(&contract, "", open());
-    hold(&contract, "a/a", met(1));
-    hold(&contract, "-/a", broken(1, Blame::One));
-    hold(&contract, "-/-", broken(1, Blame::One));
-    hold(&contract, "a/-", broken(1, Blame::Two));
+    let image = image(Clause::duty(One, A), &[Duty(One, A)]);
+    hold(&image, "", open());
+    hold(&image, "a/a", met(1));
+    hold(&image, "-/a", broken(1, Blame::One));
+    hold(&image, "-/-", broken(1, Blame::One));
+    hold(&image, "a/-", broken(1, Blame::Two));
 }
 
 #[test]
 fn power() {
-    let contract = [Power(One, A)];
-    hold(&contract, "a/-", broken(1, Blame::Two));
-    hold(&contract, "-/a", met(1));
+    let image = image(Clause::power(One, A), &[Power(One, A)]);
+    hold(&image, "a/-", broken(1, Blame::Two));
+    hold(&image, "-/a", met(1));
 }
 
 #[test]
 fn ban() {
-    hold(&[Ban(One, A)], "a/a", broken(1, Blame::One));
+    let image = image(Clause::ban(One, A), &[Ban(One, A)]);
+    hold(&image, "a/a", broken(1, Blame::One));
 }
 
 #[test]
 fn both_unites_blames_of_one_period() {
-    let contract = [Power(One, A), Duty(One, B), Both];
-    hold(&contract, "a/-", broken(1, Blame::Both));
+    let image = image(
+        Clause::both(Clause::power(One, A), Clause::duty(One, B)),
+        &[Power(One, A), Duty(One, B), Both],
+    );
+    hold(&image, "a/-", broken(1, Blame::Both));
 }
 
 #[test]
 fn a_later_breach_adds_no_party() {
-    let contract = [Duty(One, A), Power(One, B), Duty(Two, B), Then, Both];
-    hold(
-        &contract,
-        "-/a, -/-",
-        reply(Verdict::BrokenAfter, Blame::One, 1),
+    let later = Clause::then(Clause::power(One, B), Clause::duty(Two, B));
+    let image = image(
+        Clause::both(Clause::duty(One, A), later),
+        &[Duty(One, A), Power(One, B), Duty(Two, B), Then, Both],
     );
+    let want = reply(Verdict::BrokenAfter, Some(Blame::One), 1);
+    hold(&image, "-/a, -/-", want);
 }
 
 #[test]
 fn repair() {
-    let contract = [Duty(One, A), Duty(One, B), Repair];
-    hold(&contract, "-/-, b/b", met(2));
+    let image = image(
+        Clause::repair(Clause::duty(One, A), Clause::duty(One, B)),
+        &[Duty(One, A), Duty(One, B), Repair],
+    );
+    hold(&image, "-/-, b/b", met(2));
 }
 
 #[test]
 fn repeat() {
-    hold(&[Duty(One, A), Repeat], "a/a", open());
+    let image = image(
+        Clause::repeat(Clause::duty(One, A)),
+        &[Duty(One, A), Repeat],
+    );
+    hold(&image, "a/a", open());
 }
 
 #[test]
 fn when() {
-    hold(&[Tries(One, B), Duty(Two, A), When], "-/-", met(1));
+    let image = image(
+        Clause::when(Expression::tries(One, B), Clause::duty(Two, A)),
+        &[Tries(One, B), Duty(Two, A), When],
+    );
+    hold(&image, "-/-", met(1));
 }
 
 #[test]
 fn until() {
-    let contract = [Duty(One, A), Repeat, Any, Star, Tries(One, B), Seq, Until];
-    hold(&contract, "a/a, ab/a", met(2));
-    hold(&contract, "a/a, b/a", broken(2, Blame::One));
+    let image = image(
+        Clause::until(
+            Clause::repeat(Clause::duty(One, A)),
+            Expression::seq(
+                Expression::star(Expression::any()),
+                Expression::tries(One, B),
+            ),
+        ),
+        &[Duty(One, A), Repeat, Any, Star, Tries(One, B), Seq, Until],
+    );
+    hold(&image, "a/a, ab/a", met(2));
+    hold(&image, "a/a, b/a", broken(2, Blame::One));
 }
 
 /// A verdict after the decision is met-after or broken-after, and the rest of the reply stays.
 #[test]
 fn after_the_decision() {
-    hold(
-        &[Duty(One, A)],
-        "a/a, -/-",
-        reply(Verdict::MetAfter, Blame::None, 1),
-    );
-    hold(
-        &[Duty(One, A)],
-        "-/-, a/-, a/a",
-        reply(Verdict::BrokenAfter, Blame::One, 1),
-    );
+    let image = image(Clause::duty(One, A), &[Duty(One, A)]);
+    hold(&image, "a/a, -/-", reply(Verdict::MetAfter, None, 1));
+    let want = reply(Verdict::BrokenAfter, Some(Blame::One), 1);
+    hold(&image, "-/-, a/-, a/a", want);
 }
 
 /// The remaining expressions, each as the trigger of a duty.
 #[test]
 fn expressions() {
-    let duty = Duty(One, A);
-    hold(
-        &[Idle(Two, B), duty, When],
-        "-/-, -/-",
-        broken(2, Blame::One),
+    let when = |expression: Expression, records: &[Record]| {
+        let tree = Clause::when(expression, Clause::duty(One, A));
+        image(tree, &[records, &[Duty(One, A), When]].concat())
+    };
+    let idle = when(Expression::idle(Two, B), &[Idle(Two, B)]);
+    hold(&idle, "-/-, -/-", broken(2, Blame::One));
+    hold(&idle, "-/b", met(1));
+    let succeeds = when(Expression::succeeds(B), &[Succeeds(B)]);
+    hold(&succeeds, "b/b, a/-", broken(2, Blame::Two));
+    hold(&succeeds, "b/-", met(1));
+    let fails = when(Expression::fails(B), &[Fails(B)]);
+    hold(&fails, "b/-, a/a", met(2));
+    hold(&fails, "b/b", met(1));
+    let either = when(
+        Expression::tries(One, A).or(Expression::tries(Two, B)),
+        &[Tries(One, A), Tries(Two, B), Or],
     );
-    hold(&[Idle(Two, B), duty, When], "-/b", met(1));
-    hold(
-        &[Succeeds(B), duty, When],
-        "b/b, a/-",
-        broken(2, Blame::Two),
-    );
-    hold(&[Succeeds(B), duty, When], "b/-", met(1));
-    hold(&[Fails(B), duty, When], "b/-, a/a", met(2));
-    hold(&[Fails(B), duty, When], "b/b", met(1));
-    let either = [Tries(One, A), Tries(Two, B), Or, duty, When];
     hold(&either, "-/b, -/-", broken(2, Blame::One));
     hold(&either, "-/-", met(1));
 }
 
 #[test]
 fn watch() {
-    let input = Contract::from_records(&[Duty(One, A), Duty(One, B), Repair, Repeat]);
-    let image = Image::compile(&input).unwrap();
+    let image = image(
+        Clause::duty(One, A).repair(Clause::duty(One, B)).repeat(),
+        &[Duty(One, A), Duty(One, B), Repair, Repeat],
+    );
     let mut monitor = Monitor::begin(&image);
-    let mut lines = String::new();
+    let mut lines = Vec::new();
     for period in periods("a/a, -/-, b/-, a/a") {
         let reply = monitor.step(period).unwrap();
-        let blame = reply.blame.number();
-        lines += &format!("{} {} {blame}\n", monitor.periods(), reply.verdict);
+        let blame = reply.blame.map_or(0, Blame::number);
+        lines.push(format!("{} {} {blame}", monitor.periods(), reply.verdict));
     }
     let decision = monitor.look().decision.map_or(0, NonZeroU32::get);
-    lines += &format!("decided {decision}\n");
+    lines.push(format!("decided {decision}"));
     assert_eq!(
         lines,
-        "1 open 0\n2 open 0\n3 broken 2\n4 broken-after 2\ndecided 3\n"
+        [
+            "1 open 0",
+            "2 open 0",
+            "3 broken 2",
+            "4 broken-after 2",
+            "decided 3"
+        ]
     );
 }

@@ -87,12 +87,13 @@ fn verdicts_have_document_01s_numbers_and_names() {
 
 #[test]
 fn blames_have_document_01s_numbers() {
-    let names = ["none", "party 1", "party 2", "both parties"];
-    for (number, name) in (0..).zip(names) {
+    let names = ["party 1", "party 2", "both parties"];
+    for (number, name) in (1..).zip(names) {
         let blame = Blame::from_number(number).unwrap();
         assert_eq!(blame.number(), number);
         assert_eq!(blame.to_string(), name);
     }
+    assert_eq!(Blame::from_number(0), None);
     assert_eq!(Blame::from_number(4), None);
 }
 
