@@ -50,6 +50,8 @@ bash hosts/watch.sh "$watch"
 cd hosts
 cargo fmt --check
 echo "ok the Rust hosts are formatted"
+cargo clippy --workspace --all-targets --quiet -- -D warnings
+echo "ok the Rust hosts without a warning from clippy"
 cargo test --release --workspace --quiet
 echo "ok tests of the Rust wrapper, the reference, the comparisons and the benchmark"
 cargo run --release --quiet -p monitor --example plugin >"$built/plugin.out"

@@ -1,4 +1,4 @@
-//! Where MONITOR_BEFORE names a folder with an earlier archive, links copies of it and of today's,
+//! Where `MONITOR_BEFORE` names a folder with an earlier archive, links copies of it and of today's,
 //! in which the four calls have other names and nothing else has a name that the linker sees. There
 //! are four copies of each, since a loop's place in memory changes its time: the code of each lies
 //! 16 bytes further on in a line of 64 bytes.

@@ -114,13 +114,11 @@ impl Sides {
 fn apart(archives: &[Archive]) -> bool {
     let mut addresses: Vec<usize> = archives.iter().flat_map(Archive::addresses).collect();
     let all = addresses.len();
-    addresses.sort();
+    addresses.sort_unstable();
     addresses.dedup();
     addresses.len() == all
 }
 
-// Safety of all four: each pointer and length are those of a slice that lives through the call, and
-// the archive's code is proved to read and write nothing else.
 impl Archive {
     /// Today's archive, as hosts link it.
     pub fn of_hosts() -> Archive {
@@ -128,18 +126,22 @@ impl Archive {
     }
 
     pub fn compile(&self, contract: &[u8], image: &mut [u8], reply: &mut [u8]) -> u32 {
+        // SAFETY: the archive's code is proved to read and write nothing but what it is lent.
         unsafe { short(self.compile, contract, image, reply) }
     }
 
     pub fn begin(&self, image: &[u8], state: &mut [u8], reply: &mut [u8]) -> u32 {
+        // SAFETY: as in `compile`.
         unsafe { short(self.begin, image, state, reply) }
     }
 
     pub fn step(&self, image: &[u8], state: &mut [u8], period: &[u8], reply: &mut [u8]) -> u32 {
+        // SAFETY: as in `compile`.
         unsafe { long(self.step, image, state, period, reply) }
     }
 
     pub fn run(&self, image: &[u8], state: &mut [u8], trace: &[u8], reply: &mut [u8]) -> u32 {
+        // SAFETY: as in `compile`.
         unsafe { long(self.run, image, state, trace, reply) }
     }
 
@@ -154,6 +156,10 @@ impl Archive {
     }
 }
 
+/// Each pointer and length are those of a slice that lives through the call.
+///
+/// # Safety
+/// The code reads and writes nothing but these.
 unsafe fn short(call: Short, input: &[u8], output: &mut [u8], reply: &mut [u8]) -> u32 {
     call(
         input.as_ptr(),
@@ -165,6 +171,10 @@ unsafe fn short(call: Short, input: &[u8], output: &mut [u8], reply: &mut [u8]) 
     )
 }
 
+/// As `short`.
+///
+/// # Safety
+/// The code reads and writes nothing but the slices.
 unsafe fn long(
     call: Long,
     image: &[u8],

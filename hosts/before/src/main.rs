@@ -1,13 +1,14 @@
 //! Compares the monitor's archive with an earlier one: `before [--seed S] [--cases N]`,
 //! `before --speed`, `before --stack`.
 //!
-//! The earlier archive is linked beside today's where MONITOR_BEFORE names its folder at the build.
+//! The earlier archive is linked beside today's where `MONITOR_BEFORE` names its folder at the build.
 //! The first form makes every call of `compare`'s cases with both archives on equal copies of what
 //! is lent; all must be the same at the call's end. Case number i is that of the seed S + i, so
 //! `before --seed S --cases 1` repeats one case. The second form times both archives on the
 //! benchmark's inputs; the third measures the stack that the calls use.
 
 #![deny(unsafe_code)]
+#![warn(clippy::undocumented_unsafe_blocks)]
 
 #[allow(unsafe_code)]
 mod archive;
@@ -43,7 +44,7 @@ enum Task {
 }
 
 fn task(mut words: impl Iterator<Item = String>) -> Option<Task> {
-    let (mut seed, mut cases) = (1, 100000);
+    let (mut seed, mut cases) = (1, 100_000);
     while let Some(word) = words.next() {
         match word.as_str() {
             "--seed" => seed = words.next()?.parse().ok()?,
@@ -125,7 +126,7 @@ mod tests {
     #[test]
     fn tasks_are_read() {
         let bytes = |seed, cases| Some(Task::Bytes { seed, cases });
-        assert_eq!(read(""), bytes(1, 100000));
+        assert_eq!(read(""), bytes(1, 100_000));
         assert_eq!(read("--seed 7 --cases 2"), bytes(7, 2));
         assert_eq!(read("--speed"), Some(Task::Speed));
         assert_eq!(read("--stack"), Some(Task::Stack));

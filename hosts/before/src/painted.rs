@@ -37,8 +37,9 @@ impl Call {
 
     /// Bytes of stack that the call uses, its return address among them.
     ///
-    /// Safety: the code is a function of these words that ends, writes nothing but the areas, and
-    /// needs less stack than there is.
+    /// # Safety
+    /// The code is a function of these words that ends, writes nothing but the areas, and needs less
+    /// stack than there is.
     unsafe fn stack(&self) -> usize {
         let used = PAINTS.map(|paint| {
             let mut stack = vec![paint; STACK];
@@ -76,14 +77,13 @@ impl Call {
     }
 }
 
-// Safety of all four: the areas are those of slices that live through the call, and the archive's
-// code is proved to end and to write nothing else.
-
 /// Bytes of stack that compile uses on a contract that it takes.
 pub fn compile(archive: &Archive, contract: &[u8], image: &mut [u8]) -> usize {
     let mut reply = [0xff; 16];
     let areas = [read(contract), written(image), written(&mut reply)];
     let call = Call::new(archive.compile as *const (), &areas);
+    // SAFETY: the areas are those of slices that live through the call, and the archive's code is
+    // proved to end and to write nothing else.
     accepted(unsafe { call.stack() }, &reply)
 }
 
@@ -91,6 +91,7 @@ pub fn begin(archive: &Archive, image: &[u8], state: &mut [u8]) -> usize {
     let mut reply = [0xff; 16];
     let areas = [read(image), written(state), written(&mut reply)];
     let call = Call::new(archive.begin as *const (), &areas);
+    // SAFETY: as in `compile`.
     accepted(unsafe { call.stack() }, &reply)
 }
 
@@ -103,6 +104,7 @@ pub fn step(archive: &Archive, image: &[u8], state: &mut [u8], period: &[u8]) ->
         written(&mut reply),
     ];
     let call = Call::new(archive.step as *const (), &areas);
+    // SAFETY: as in `compile`.
     accepted(unsafe { call.stack() }, &reply)
 }
 
@@ -115,6 +117,7 @@ pub fn run(archive: &Archive, image: &[u8], state: &mut [u8], trace: &[u8]) -> u
         written(&mut reply),
     ];
     let call = Call::new(archive.run as *const (), &areas);
+    // SAFETY: as in `compile`.
     accepted(unsafe { call.stack() }, &reply)
 }
 
@@ -150,6 +153,7 @@ mod tests {
     }
 
     fn stack(code: *const ()) -> usize {
+        // SAFETY: `nothing` and `some` end, and write nothing but their own part of the stack.
         unsafe { Call::new(code, &[]).stack() }
     }
 
@@ -174,6 +178,7 @@ mod tests {
             code: sum as *const (),
             words,
         };
+        // SAFETY: `sum` writes nothing but what its first word points to.
         unsafe { call.stack() };
         assert_eq!(to, 127);
     }

@@ -25,7 +25,9 @@ pub fn measure(plan: &Plan) {
 
 fn measure_family(plan: &Plan, family: &Family) {
     let contracts = LENGTHS.map(|records| family.contract(records));
-    contracts.iter().for_each(|contract| check(contract));
+    for contract in &contracts {
+        check(contract);
+    }
     let rows = contracts
         .each_ref()
         .map(|contract| product::rows_of(&product::image_of(contract)) as f64);

@@ -16,7 +16,7 @@ pub struct Random(u64);
 
 impl Random {
     pub fn new() -> Random {
-        Random(2463534242)
+        Random(2_463_534_242)
     }
 
     fn next(&mut self) -> u64 {

@@ -2,6 +2,7 @@
 //! report.
 
 #![deny(unsafe_code)]
+#![warn(clippy::undocumented_unsafe_blocks)]
 
 pub mod compile;
 pub mod contracts;

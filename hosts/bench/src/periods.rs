@@ -32,7 +32,9 @@ pub fn measure(plan: &Plan) {
 fn measure_trace(plan: &Plan, name: &str, image: &[u8], trace: &[u8]) {
     let periods = LENGTHS.map(|periods| plan.size(periods, periods / 1_000));
     let traces = periods.map(|periods| &trace[..PERIOD * periods]);
-    traces.iter().for_each(|trace| check(image, trace));
+    for trace in traces {
+        check(image, trace);
+    }
     let times = times(plan, image, traces);
     let points = array::from_fn::<_, { LENGTHS.len() }, _>(|k| (periods[k] as f64, times[k]));
     let each = points.map(|(periods, time)| number(time / periods));

@@ -7,7 +7,7 @@ use std::arch::asm;
 use std::hint::unreachable_unchecked;
 use std::mem::swap;
 
-// Safety of every unchecked index: the image is good, so a row's fields name rows of the image,
+// The safety of every unchecked index: the image is good, so a row's fields name rows of the image,
 // parties 1 and 2 or actions 0 to 15, its kind is at most 6, and each buffer has a value per row.
 
 /// A row machine with its image.
@@ -46,7 +46,7 @@ fn moved<const MOVED: usize>(image: &[u8]) -> Vec<Box<dyn Machine>> {
 /// Moves the code that follows on by so many bytes.
 #[inline(always)]
 fn move_code<const BYTES: usize>() {
-    // Safety: one-byte instructions that do nothing.
+    // SAFETY: one-byte instructions that do nothing.
     #[cfg(target_arch = "x86_64")]
     unsafe {
         asm!(".skip {}, 0x90", const BYTES, options(nomem, nostack, preserves_flags));
@@ -193,6 +193,7 @@ impl<const MOVED: usize> Machine for TwoBuffers<MOVED> {
             if head.outcome != 0 {
                 continue;
             }
+            // SAFETY: the image is good, as said at the top.
             unsafe {
                 compute(rows, old, new, attempts(record), head.periods == 1);
                 swap(&mut old, &mut new);
@@ -272,6 +273,7 @@ impl<const MOVED: usize> Machine for OneBuffer<MOVED> {
             if head.outcome != 0 {
                 continue;
             }
+            // SAFETY: the image is good, as said at the top.
             unsafe {
                 compute_beside(rows, values, attempts(record), head.periods == 1);
                 for value in values.iter_mut() {
@@ -379,6 +381,7 @@ impl<const MOVED: usize> Machine for Decoded<MOVED> {
             if head.outcome != 0 {
                 continue;
             }
+            // SAFETY: the image is good, as said at the top.
             unsafe {
                 compute_decoded(rows, old, new, attempts(record), head.periods == 1);
                 swap(&mut old, &mut new);
@@ -491,6 +494,7 @@ impl<const MOVED: usize> Machine for Gates<MOVED> {
                 cells[8 * byte..8 * byte + 8].copy_from_slice(&spread(*bits));
             }
             cells[FIRST] = u8::from(head.periods == 1);
+            // SAFETY: the image is good, as said at the top.
             unsafe {
                 for (k, gate) in gates.iter().enumerate() {
                     let x = *cells.get_unchecked(gate.x as usize);

@@ -154,13 +154,13 @@ impl Calls {
         for (number, call) in calls.iter().enumerate() {
             match call {
                 Call::Begin { reply } => {
-                    self.begin(&format!("call {number}, begin"), *reply, tally)?
+                    self.begin(&format!("call {number}, begin"), *reply, tally)?;
                 }
                 Call::Step { period, reply } => {
-                    self.step(&format!("call {number}, step"), period, *reply, tally)?
+                    self.step(&format!("call {number}, step"), period, *reply, tally)?;
                 }
                 Call::Run { trace, reply } => {
-                    self.run(&format!("call {number}, run"), trace, *reply, tally)?
+                    self.run(&format!("call {number}, run"), trace, *reply, tally)?;
                 }
             }
         }

@@ -65,9 +65,12 @@ fn row(random: &mut Random, number: usize, rows: usize, actions: usize, out: &mu
         random.below(7) as u8
     };
     // Near rows make deep circuits.
-    let lower = |random: &mut Random| match random.percent(50) {
-        true => number - 1 - random.below(number.min(4)),
-        false => random.below(number),
+    let lower = |random: &mut Random| {
+        if random.percent(50) {
+            number - 1 - random.below(number.min(4))
+        } else {
+            random.below(number)
+        }
     };
     let (x, y) = match kind {
         2 => (random.between(1, 2), random.below(actions)),

@@ -27,7 +27,7 @@ struct Options {
 
 fn options() -> Option<Options> {
     let mut options = Options {
-        cases: 100000,
+        cases: 100_000,
         seed: 1,
         watch: None,
         watch_cases: 1000,
