@@ -5,16 +5,17 @@
 _Static_assert(MONITOR_BUFFER_BYTES(1) == 776, "776 bytes take one record");
 _Static_assert(MONITOR_BUFFER_BYTES(MONITOR_MAX_RECORDS) == BUFFER_BYTES, "16,904 bytes take every contract");
 
-#define DUTY MONITOR_RECORD(MONITOR_DUTY, 1, 0)
-#define REPEAT MONITOR_RECORD(MONITOR_REPEAT, 0, 0)
-#define ANY MONITOR_RECORD(MONITOR_ANY, 0, 0)
+#define DUTY MONITOR_RECORD(MONITOR_KIND_DUTY, MONITOR_PARTY_1, 0)
+#define REPEAT MONITOR_RECORD(MONITOR_KIND_REPEAT, 0, 0)
+#define ANY MONITOR_RECORD(MONITOR_KIND_ANY, 0, 0)
 
 static const struct bytes duty = BYTES(DUTY);
 static const struct bytes duty_repeat = BYTES(DUTY, REPEAT);
 static const struct bytes any = BYTES(ANY);
 
 /* The contract and the trace of "Watch". */
-static const struct bytes watched = BYTES(DUTY, MONITOR_RECORD(MONITOR_DUTY, 1, 1), MONITOR_RECORD(MONITOR_REPAIR, 0, 0), REPEAT);
+static const struct bytes watched =
+    BYTES(DUTY, MONITOR_RECORD(MONITOR_KIND_DUTY, MONITOR_PARTY_1, 1), MONITOR_RECORD(MONITOR_KIND_REPAIR, 0, 0), REPEAT);
 static const struct bytes periods =
     BYTES(MONITOR_PERIOD(1, 1), MONITOR_PERIOD(0, 0), MONITOR_PERIOD(2, 0), MONITOR_PERIOD(1, 1));
 
@@ -23,7 +24,7 @@ static const struct bytes periods =
 /* The macros' bytes, also where a mask has a high byte. */
 static void records(void)
 {
-    static const uint8_t made[] = {MONITOR_RECORD(MONITOR_STAR, 2, 15), MONITOR_PERIOD(0x8001, 0x1234)};
+    static const uint8_t made[] = {MONITOR_RECORD(MONITOR_KIND_STAR, MONITOR_PARTY_2, 15), MONITOR_PERIOD(0x8001, 0x1234)};
     static const uint8_t meant[] = {0x54, 0x43, 23, 2, 15, 0, 0x54, 0x50, 0x01, 0x80, 0x34, 0x12};
 
     check("the macros' bytes", sizeof made == sizeof meant && memcmp(made, meant, sizeof meant) == 0);
@@ -41,20 +42,20 @@ static void begin_line(void)
 static void watch(void)
 {
     static struct area compiled, stepped;
-    struct monitor_reply r = {0, 0, 0, 0, 0};
+    struct monitor_step_reply s = {0};
 
     copy(&contract, watched);
     compile_taken();
     compiled = image;
     begin_line();
     for (size_t k = 0; k < periods.length; k += MONITOR_PERIOD_BYTES) {
-        r = take(STEP, (struct bytes){periods.at + k, MONITOR_PERIOD_BYTES});
-        printf("%u %s %u\n", (unsigned)(k / MONITOR_PERIOD_BYTES + 1), verdict_name(r.verdict), (unsigned)r.blame);
+        s = take_step((struct bytes){periods.at + k, MONITOR_PERIOD_BYTES});
+        printf("%u %s %u\n", (unsigned)(k / MONITOR_PERIOD_BYTES + 1), verdict_name(s.verdict), (unsigned)s.blame);
     }
-    printf("decided %u\n", (unsigned)r.decision);
+    printf("decided %u\n", (unsigned)s.decision);
     stepped = state;
     begin_line();
-    r = take(RUN, periods);
+    struct monitor_run_reply r = take_run(periods);
     printf("run: %s %u %u\n", verdict_name(r.verdict), (unsigned)r.blame, (unsigned)r.decision);
     check("the run ends in the steps' state", memcmp(state.all, stepped.all, sizeof state.all) == 0);
     check("the image is as compile left it", memcmp(image.all, compiled.all, sizeof image.all) == 0);
@@ -82,13 +83,13 @@ static void buffer(const char *label, struct bytes from, size_t length)
 /* The refusal table's small inputs for 1 to 7, and others. */
 static const struct { const char *label; struct bytes contract; } table[] = {
     {"0 bytes", NO_BYTES},
-    {"5 bytes", BYTES('T', 'C', MONITOR_DUTY, 1, 0)},
-    {"mark 54 44", BYTES('T', 'D', MONITOR_DUTY, 1, 0, 0)},
+    {"5 bytes", BYTES('T', 'C', MONITOR_KIND_DUTY, 1, 0)},
+    {"mark 54 44", BYTES('T', 'D', MONITOR_KIND_DUTY, 1, 0, 0)},
     {"kind 10", BYTES(MONITOR_RECORD(10, 0, 0))},
-    {"duty, party 3", BYTES(MONITOR_RECORD(MONITOR_DUTY, 3, 0))},
+    {"duty, party 3", BYTES(MONITOR_RECORD(MONITOR_KIND_DUTY, 3, 0))},
     {"repeat", BYTES(REPEAT)},
     {"any", BYTES(ANY)},
-    {"any, star, duty, when", BYTES(ANY, MONITOR_RECORD(MONITOR_STAR, 0, 0), DUTY, MONITOR_RECORD(MONITOR_WHEN, 0, 0))},
+    {"any, star, duty, when", BYTES(ANY, MONITOR_RECORD(MONITOR_KIND_STAR, 0, 0), DUTY, MONITOR_RECORD(MONITOR_KIND_WHEN, 0, 0))},
     {"duty, duty", BYTES(DUTY, DUTY)},
 };
 
@@ -106,8 +107,8 @@ static struct bytes max_rows(int repeats)
 {
     static uint8_t records[MONITOR_RECORD_BYTES * (MONITOR_MAX_RECORDS + 1)];
 
-    nest_left(MONITOR_DUTY, MONITOR_BOTH, 32);
-    add_run(0, MONITOR_REPEAT, 0, repeats);
+    nest_left(MONITOR_KIND_DUTY, MONITOR_KIND_BOTH, 32);
+    add_run(0, MONITOR_KIND_REPEAT, 0, repeats);
     memcpy(records, start(&contract), contract.length);
     return (struct bytes){records, contract.length};
 }

@@ -1,24 +1,24 @@
 /* An example host in C: compiles a contract between a plugin and its host, and steps it over four periods. */
-/* bash hosts/build.sh && cc -std=c11 -Ihosts/c hosts/c/example.c target/libmonitor.a */
+/* "C" in docs/HOSTS.md has the command that builds and runs it. */
 #include <stdio.h>
 
 #include "monitor.h"
 
 /* The plugin is party 1, the host party 2. In each period (here a recalculation) each of them tries some actions, */
 /* and an action succeeds when both try it. Actions are 0 to 15. */
-enum { PLUGIN = 1 };
+enum { PLUGIN = MONITOR_PARTY_1 };
 enum {
-    VALUES = 0,                 /* the plugin hands over its cells' values, the host takes them */
-    CORRECTION = 1              /* the plugin hands over a correction, the host takes it */
+    VALUES = 0,    /* the plugin hands over its cells' values, the host takes them */
+    CORRECTION = 1 /* the plugin hands over a correction, the host takes it */
 };
 
 /* In each recalculation the plugin owes its values, or if that fails, a correction in the next one. */
 /* Operands stand before their operator: repeat (repair (duty values, duty correction)). */
 static const uint8_t contract[] = {
-    MONITOR_RECORD(MONITOR_DUTY, PLUGIN, VALUES),
-    MONITOR_RECORD(MONITOR_DUTY, PLUGIN, CORRECTION),
-    MONITOR_RECORD(MONITOR_REPAIR, 0, 0),
-    MONITOR_RECORD(MONITOR_REPEAT, 0, 0),
+    MONITOR_RECORD(MONITOR_KIND_DUTY, PLUGIN, VALUES),
+    MONITOR_RECORD(MONITOR_KIND_DUTY, PLUGIN, CORRECTION),
+    MONITOR_RECORD(MONITOR_KIND_REPAIR, 0, 0),
+    MONITOR_RECORD(MONITOR_KIND_REPEAT, 0, 0),
 };
 
 /* What the plugin and the host try in each recalculation: bit a is set when the party tries action a. */
@@ -35,14 +35,14 @@ static uint8_t image[MONITOR_BUFFER_BYTES(sizeof contract / MONITOR_RECORD_BYTES
 static uint8_t state[MONITOR_STATE_BYTES(MONITOR_MAX_ROWS)];
 
 static const char *const verdicts[] = {
-    [MONITOR_OPEN] = "open",
-    [MONITOR_MET] = "met",
-    [MONITOR_BROKEN] = "broken",
-    [MONITOR_MET_AFTER] = "met-after",
-    [MONITOR_BROKEN_AFTER] = "broken-after",
+    [MONITOR_VERDICT_OPEN] = "open",
+    [MONITOR_VERDICT_MET] = "met",
+    [MONITOR_VERDICT_BROKEN] = "broken",
+    [MONITOR_VERDICT_MET_AFTER] = "met-after",
+    [MONITOR_VERDICT_BROKEN_AFTER] = "broken-after",
 };
 
-/* Prints why a call was refused: the number's meaning, and what the place counts, stand in monitor.h. */
+/* "Refusals" in docs/FORMAT.md says what the number means and what the place counts. */
 static int refused(const char *call, uint32_t number, uint64_t place)
 {
     printf("%s refused %u %llu\n", call, (unsigned)number, (unsigned long long)place);
@@ -54,7 +54,7 @@ int main(void)
     /* A call's result is 0 only where its reply area is too short, and a whole struct never is. */
     struct monitor_compile_reply compiled;
     struct monitor_begin_reply begun;
-    struct monitor_reply reply = {0};
+    struct monitor_step_reply reply = {0};
 
     monitor_compile(contract, sizeof contract, image, sizeof image, (uint8_t *)&compiled, sizeof compiled);
     if (compiled.number != MONITOR_ACCEPTED)
@@ -73,7 +73,7 @@ int main(void)
         monitor_step(image, image_length, state, state_length, period, sizeof period, (uint8_t *)&reply, sizeof reply);
         if (reply.number != MONITOR_ACCEPTED)
             return refused("step", reply.number, reply.place);
-        /* Blame is 0 for nobody, 1 or 2 for a party, 3 for both. */
+        /* The blame is a party, MONITOR_PARTY_NONE or MONITOR_PARTY_BOTH. */
         printf("%u %s %u\n", (unsigned)(k + 1), verdicts[reply.verdict], (unsigned)reply.blame);
     }
 

@@ -28,23 +28,23 @@ static unsigned usual(enum usual kind, unsigned period)
     }
 }
 
-static struct monitor_reply step(struct periods t, unsigned period)
+static struct monitor_step_reply step(struct periods t, unsigned period)
 {
     unsigned both = usual(t.usual, period);
     unsigned one = period == t.except ? t.one : both, two = period == t.except ? t.two : both;
 
-    return take(STEP, (struct bytes)BYTES(MONITOR_PERIOD(one, two)));
+    return take_step((struct bytes)BYTES(MONITOR_PERIOD(one, two)));
 }
 
 /* ---- lines */
 
-static void put_periods(unsigned from, unsigned to, struct monitor_reply r)
+static void put_periods(unsigned from, unsigned to, struct monitor_step_reply r)
 {
     put_range(from, to);
     printf(" %s %u", verdict_name(r.verdict), (unsigned)r.blame);
 }
 
-static int differ(struct monitor_reply r, struct monitor_reply other)
+static int differ(struct monitor_step_reply r, struct monitor_step_reply other)
 {
     return r.number != other.number || r.verdict != other.verdict || r.blame != other.blame || r.decision != other.decision;
 }
@@ -52,11 +52,11 @@ static int differ(struct monitor_reply r, struct monitor_reply other)
 /* A range for each reply, and the decision period. */
 static void steps(struct periods t)
 {
-    struct monitor_reply last = step(t, 1);
+    struct monitor_step_reply last = step(t, 1);
     unsigned from = 1;
 
     for (unsigned period = 2; period <= t.count; period++) {
-        struct monitor_reply r = step(t, period);
+        struct monitor_step_reply r = step(t, period);
         if (differ(r, last)) {
             put_periods(from, period - 1, last);
             printf(",");
@@ -93,33 +93,33 @@ static void nest_right(int leaf, int operator, int count)
 /* Both nests of 32 duties. */
 static void duties(const char *name, int operator, int repeats, struct periods t)
 {
-    nest_left(MONITOR_DUTY, operator, 32);
-    add_run(0, MONITOR_REPEAT, 0, repeats);
+    nest_left(MONITOR_KIND_DUTY, operator, 32);
+    add_run(0, MONITOR_KIND_REPEAT, 0, repeats);
     line(name, " left", t);
-    nest_right(MONITOR_DUTY, operator, 32);
-    add_run(0, MONITOR_REPEAT, 0, repeats);
+    nest_right(MONITOR_KIND_DUTY, operator, 32);
+    add_run(0, MONITOR_KIND_REPEAT, 0, repeats);
     line(name, " right", t);
 }
 
 static void repeats(struct periods t)
 {
     cut(&contract, 0);
-    add_leaf(MONITOR_DUTY, 0);
-    add_run(0, MONITOR_REPEAT, 0, 63);
+    add_leaf(MONITOR_KIND_DUTY, 0);
+    add_run(0, MONITOR_KIND_REPEAT, 0, 63);
     line("repeat", "", t);
 }
 
 static void clauses(void)
 {
     /* In period 3 party 1 doesn't try action 5, and party 2 not action 9; then party 2 alone not action 15. */
-    duties("both", MONITOR_BOTH, AGAIN, (struct periods){ALL, 5, 3, 0xffdf, 0xfdff});
-    duties("both", MONITOR_BOTH, AGAIN, (struct periods){ALL, 5, 3, 0xffff, 0x7fff});
+    duties("both", MONITOR_KIND_BOTH, AGAIN, (struct periods){ALL, 5, 3, 0xffdf, 0xfdff});
+    duties("both", MONITOR_KIND_BOTH, AGAIN, (struct periods){ALL, 5, 3, 0xffff, 0x7fff});
     /* Each duty in its turn; begun again in period 33, and nobody tries what party 2 owes in period 52. */
-    duties("then", MONITOR_THEN, ONCE, (struct periods){TURN, 34, 0, 0, 0});
-    duties("then", MONITOR_THEN, AGAIN, (struct periods){TURN, 54, 52, 0, 0});
+    duties("then", MONITOR_KIND_THEN, ONCE, (struct periods){TURN, 34, 0, 0, 0});
+    duties("then", MONITOR_KIND_THEN, AGAIN, (struct periods){TURN, 54, 52, 0, 0});
     /* Each duty is violated but that of period 20; begun again in period 21, all are. */
-    duties("repair", MONITOR_REPAIR, ONCE, (struct periods){AHEAD, 22, 20, 0xffff, 0xffff});
-    duties("repair", MONITOR_REPAIR, AGAIN, (struct periods){AHEAD, 54, 20, 0xffff, 0xffff});
+    duties("repair", MONITOR_KIND_REPAIR, ONCE, (struct periods){AHEAD, 22, 20, 0xffff, 0xffff});
+    duties("repair", MONITOR_KIND_REPAIR, AGAIN, (struct periods){AHEAD, 54, 20, 0xffff, 0xffff});
     /* Party 2 doesn't try action 0 in period 5. */
     repeats((struct periods){ALL, 6, 5, 0xffff, 0xfffe});
 }
@@ -128,10 +128,10 @@ static void clauses(void)
 static void whens(int repeats, struct periods t)
 {
     cut(&contract, 0);
-    add_run(MONITOR_TRIES, 0, 0, 31);
-    add_leaf(MONITOR_DUTY, 31);
-    add_run(0, MONITOR_WHEN, 0, 31);
-    add_run(0, MONITOR_REPEAT, 0, repeats);
+    add_run(MONITOR_KIND_TRIES, 0, 0, 31);
+    add_leaf(MONITOR_KIND_DUTY, 31);
+    add_run(0, MONITOR_KIND_WHEN, 0, 31);
+    add_run(0, MONITOR_KIND_REPEAT, 0, repeats);
     line("when", "", t);
 }
 
@@ -139,9 +139,9 @@ static void whens(int repeats, struct periods t)
 static void untils(struct periods t)
 {
     cut(&contract, 0);
-    add_leaf(MONITOR_BAN, 0);
-    add_record(MONITOR_REPEAT, 0, 0);
-    add_run(MONITOR_TRIES, MONITOR_UNTIL, 1, 32);
+    add_leaf(MONITOR_KIND_BAN, 0);
+    add_record(MONITOR_KIND_REPEAT, 0, 0);
+    add_run(MONITOR_KIND_TRIES, MONITOR_KIND_UNTIL, 1, 32);
     line("until", "", t);
 }
 
@@ -161,18 +161,18 @@ static void conditions(void)
 /* A duty, the last leaf, under a `when` with the expression in the contract's area. */
 static void on_duty(const char *name, const char *side, int repeats, struct periods t)
 {
-    add_leaf(MONITOR_DUTY, 31);
-    add_record(MONITOR_WHEN, 0, 0);
-    add_run(0, MONITOR_REPEAT, 0, repeats);
+    add_leaf(MONITOR_KIND_DUTY, 31);
+    add_record(MONITOR_KIND_WHEN, 0, 0);
+    add_run(0, MONITOR_KIND_REPEAT, 0, repeats);
     line(name, side, t);
 }
 
 /* Both nests of 31 `tries`. */
 static void tries(const char *name, int operator, int repeats, struct periods t)
 {
-    nest_left(MONITOR_TRIES, operator, 31);
+    nest_left(MONITOR_KIND_TRIES, operator, 31);
     on_duty(name, " left", repeats, t);
-    nest_right(MONITOR_TRIES, operator, 31);
+    nest_right(MONITOR_KIND_TRIES, operator, 31);
     on_duty(name, " right", repeats, t);
 }
 
@@ -180,24 +180,24 @@ static void tries(const char *name, int operator, int repeats, struct periods t)
 static void stars(struct periods t)
 {
     cut(&contract, 0);
-    add_leaf(MONITOR_BAN, 0);
-    add_record(MONITOR_REPEAT, 0, 0);
-    add_record(MONITOR_ANY, 0, 0);
-    add_run(0, MONITOR_STAR, 0, 58);
-    add_leaf(MONITOR_TRIES, 17);
-    add_record(MONITOR_SEQ, 0, 0);
-    add_record(MONITOR_UNTIL, 0, 0);
+    add_leaf(MONITOR_KIND_BAN, 0);
+    add_record(MONITOR_KIND_REPEAT, 0, 0);
+    add_record(MONITOR_KIND_ANY, 0, 0);
+    add_run(0, MONITOR_KIND_STAR, 0, 58);
+    add_leaf(MONITOR_KIND_TRIES, 17);
+    add_record(MONITOR_KIND_SEQ, 0, 0);
+    add_record(MONITOR_KIND_UNTIL, 0, 0);
     line("star", "", t);
 }
 
 static void expressions(void)
 {
     /* Rejected in period 10; accepted in period 31, and the duty violated in period 32. */
-    tries("seq", MONITOR_SEQ, ONCE, (struct periods){TURN, 12, 10, 0, 0});
-    tries("seq", MONITOR_SEQ, AGAIN, (struct periods){TURN, 34, 32, 0, 0});
+    tries("seq", MONITOR_KIND_SEQ, ONCE, (struct periods){TURN, 12, 10, 0, 0});
+    tries("seq", MONITOR_KIND_SEQ, AGAIN, (struct periods){TURN, 34, 32, 0, 0});
     /* Rejected in periods 1 and 2, accepted in period 3 by the first leaf, and by the last; then the duty violated. */
-    tries("or", MONITOR_OR, AGAIN, (struct periods){NONE, 5, 3, 1, 0});
-    tries("or", MONITOR_OR, AGAIN, (struct periods){NONE, 5, 3, 0, 0x4000});
+    tries("or", MONITOR_KIND_OR, AGAIN, (struct periods){NONE, 5, 3, 1, 0});
+    tries("or", MONITOR_KIND_OR, AGAIN, (struct periods){NONE, 5, 3, 0, 0x4000});
     /* Never accepted; accepted in period 6. */
     stars((struct periods){NONE, 8, 0, 0, 0});
     stars((struct periods){NONE, 8, 6, 0, 2});

@@ -24,40 +24,41 @@ static void put_reply(struct monitor_compile_reply r)
 /* ---- contracts by their bytes */
 
 #define RECORD(kind) MONITOR_RECORD(kind, 0, 0)
-#define DUTY MONITOR_RECORD(MONITOR_DUTY, 1, 0)
-#define ANY RECORD(MONITOR_ANY)
-#define STAR RECORD(MONITOR_STAR)
-#define WHEN RECORD(MONITOR_WHEN)
-#define UNTIL RECORD(MONITOR_UNTIL)
-#define WRONG_MARK 'T', 'D', MONITOR_DUTY, 1, 0, 0
+#define DUTY MONITOR_RECORD(MONITOR_KIND_DUTY, MONITOR_PARTY_1, 0)
+#define REPEAT RECORD(MONITOR_KIND_REPEAT)
+#define ANY RECORD(MONITOR_KIND_ANY)
+#define STAR RECORD(MONITOR_KIND_STAR)
+#define WHEN RECORD(MONITOR_KIND_WHEN)
+#define UNTIL RECORD(MONITOR_KIND_UNTIL)
+#define WRONG_MARK 'T', 'D', MONITOR_KIND_DUTY, 1, 0, 0
 
 static const struct { const char *label; struct bytes contract; } samples[] = {
     /* The refusal table's small inputs for 1 to 7, short lengths, and the contract of "Watch". */
-    {"5 bytes", BYTES('T', 'C', MONITOR_DUTY, 1, 0)},
+    {"5 bytes", BYTES('T', 'C', MONITOR_KIND_DUTY, 1, 0)},
     {"mark 54 44", BYTES(WRONG_MARK)},
     {"kind 10", BYTES(RECORD(10))},
-    {"duty, party 3", BYTES(MONITOR_RECORD(MONITOR_DUTY, 3, 0))},
-    {"repeat", BYTES(RECORD(MONITOR_REPEAT))},
+    {"duty, party 3", BYTES(MONITOR_RECORD(MONITOR_KIND_DUTY, 3, 0))},
+    {"repeat", BYTES(REPEAT)},
     {"any", BYTES(ANY)},
     {"any, star, duty, when", BYTES(ANY, STAR, DUTY, WHEN)},
     {"0 bytes", NO_BYTES},
     {"6 bytes", BYTES(DUTY)},
     {"7 bytes", BYTES(DUTY, 'T')},
     {"8 bytes", BYTES(DUTY, 'T', 'C')},
-    {"9 bytes", BYTES(DUTY, 'T', 'C', MONITOR_REPEAT)},
+    {"9 bytes", BYTES(DUTY, 'T', 'C', MONITOR_KIND_REPEAT)},
     {"duty, duty, repair, repeat",
-     BYTES(DUTY, MONITOR_RECORD(MONITOR_DUTY, 1, 1), RECORD(MONITOR_REPAIR), RECORD(MONITOR_REPEAT))},
+     BYTES(DUTY, MONITOR_RECORD(MONITOR_KIND_DUTY, MONITOR_PARTY_1, 1), RECORD(MONITOR_KIND_REPAIR), REPEAT)},
     /* Two faults: the one that is tested first is answered, and of two records' the earlier one's. */
     {"length, mark", BYTES(WRONG_MARK, 'T')},
     {"mark, kind", BYTES('T', 'D', 10, 1, 0, 0)},
     {"kind, field", BYTES('T', 'C', 10, 3, 16, 1)},
-    {"field, operands", BYTES(MONITOR_RECORD(MONITOR_REPEAT, 1, 0))},
+    {"field, operands", BYTES(MONITOR_RECORD(MONITOR_KIND_REPEAT, 1, 0))},
     {"operands, empty list", BYTES(ANY, STAR, ANY, WHEN)},
     {"empty list, not one clause", BYTES(DUTY, DUTY, ANY, STAR, UNTIL)},
-    {"mark, then mark", BYTES('t', 'C', MONITOR_DUTY, 1, 0, 0, 't', 'C', MONITOR_DUTY, 1, 0, 0)},
+    {"mark, then mark", BYTES('t', 'C', MONITOR_KIND_DUTY, 1, 0, 0, 't', 'C', MONITOR_KIND_DUTY, 1, 0, 0)},
     {"kind, then mark", BYTES(RECORD(10), WRONG_MARK)},
-    {"field, then kind", BYTES(MONITOR_RECORD(MONITOR_DUTY, 1, 16), RECORD(10))},
-    {"operands, then mark", BYTES(RECORD(MONITOR_REPEAT), WRONG_MARK)},
+    {"field, then kind", BYTES(MONITOR_RECORD(MONITOR_KIND_DUTY, 1, 16), RECORD(10))},
+    {"operands, then mark", BYTES(REPEAT, WRONG_MARK)},
     {"empty list, then mark", BYTES(ANY, STAR, DUTY, WHEN, WRONG_MARK)},
     {"not one clause, but a mark", BYTES(ANY, WRONG_MARK)},
 };

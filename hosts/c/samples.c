@@ -62,13 +62,21 @@ static void put_kept(struct bytes before)
 /* Calls with room for just the reply and prints the result and the reply's fields. */
 static void reply_to(enum call call, struct bytes rows, struct bytes before, struct bytes records)
 {
+    static const size_t rooms[] = {
+        [BEGIN] = sizeof(struct monitor_begin_reply),
+        [STEP] = sizeof(struct monitor_step_reply),
+        [RUN] = sizeof(struct monitor_run_reply),
+    };
+    uint32_t result = lend_copies(call, rows, before, records, rooms[call]);
+
     if (call == BEGIN) {
-        uint32_t result = lend_copies(call, rows, before, records, sizeof(struct monitor_begin_reply));
         struct monitor_begin_reply r = begin_reply();
         PUT(result, r.number, r.zero, r.place);
+    } else if (call == STEP) {
+        struct monitor_step_reply r = step_reply();
+        PUT(result, r.number, r.verdict, r.place, r.blame, r.decision);
     } else {
-        uint32_t result = lend_copies(call, rows, before, records, sizeof(struct monitor_reply));
-        struct monitor_reply r = step_reply();
+        struct monitor_run_reply r = run_reply();
         PUT(result, r.number, r.verdict, r.place, r.blame, r.decision);
     }
 }
@@ -388,8 +396,8 @@ static void put_after(enum call call, struct bytes rows, struct bytes before, st
 /* Begins, takes the trace by steps past its decision, and then the whole from zeros by one run. */
 static void walk(const char *name, struct bytes rows, struct bytes records)
 {
-    uint8_t now[WALK_STATE], last[sizeof(struct monitor_reply)];
-    struct bytes before = {now, sizeof now}, answer = {last, sizeof last};
+    uint8_t now[WALK_STATE];
+    struct bytes before = {now, sizeof now};
 
     printf("%s\nbegin:", name);
     memset(now, 255, sizeof now);
@@ -400,9 +408,9 @@ static void walk(const char *name, struct bytes rows, struct bytes records)
         put_after(STEP, rows, before, (struct bytes){records.at + k, MONITOR_PERIOD_BYTES});
     }
     memcpy(now, start(&state), sizeof now);
-    memcpy(last, start(&reply), sizeof last);
+    struct monitor_step_reply last = step_reply();
     put_after(RUN, rows, (struct bytes){(const uint8_t[WALK_STATE]){0}, WALK_STATE}, records);
-    printf("%s\n", holds(&state, before) && holds(&reply, answer) ? "same" : "different");
+    printf("%s\n", holds(&state, before) && agree(last, run_reply()) ? "same" : "different");
 }
 
 /* Images of 2,112 rows, the most, and of one row more. */

@@ -2,9 +2,88 @@
 /* The header's structs are its reply areas. What it prints is held to the file smoke.expected. */
 #include "testing.h"
 
-_Static_assert(sizeof(struct monitor_compile_reply) == 16, "compile's reply has 16 bytes");
-_Static_assert(sizeof(struct monitor_begin_reply) == 16, "begin's reply has 16 bytes");
-_Static_assert(sizeof(struct monitor_reply) == 24, "step's and run's reply has 24 bytes");
+/* ---- the header's structs and numbers, once more as document 01 and the calls' replies have them */
+
+/* A field of a reply: where it starts, and its bytes. */
+#define FIELD(reply, field, from, bytes) \
+    _Static_assert(offsetof(struct reply, field) == (from) && sizeof(((struct reply *)0)->field) == (bytes), #reply ": " #field)
+#define SIZE(reply, bytes) _Static_assert(sizeof(struct reply) == (bytes), #reply)
+
+FIELD(monitor_compile_reply, number, 0, 4);
+FIELD(monitor_compile_reply, rows, 4, 4);
+FIELD(monitor_compile_reply, place, 8, 8);
+SIZE(monitor_compile_reply, 16);
+
+FIELD(monitor_begin_reply, number, 0, 4);
+FIELD(monitor_begin_reply, zero, 4, 4);
+FIELD(monitor_begin_reply, place, 8, 8);
+SIZE(monitor_begin_reply, 16);
+
+FIELD(monitor_step_reply, number, 0, 4);
+FIELD(monitor_step_reply, verdict, 4, 4);
+FIELD(monitor_step_reply, place, 8, 8);
+FIELD(monitor_step_reply, blame, 16, 4);
+FIELD(monitor_step_reply, decision, 20, 4);
+SIZE(monitor_step_reply, 24);
+
+FIELD(monitor_run_reply, number, 0, 4);
+FIELD(monitor_run_reply, verdict, 4, 4);
+FIELD(monitor_run_reply, place, 8, 8);
+FIELD(monitor_run_reply, blame, 16, 4);
+FIELD(monitor_run_reply, decision, 20, 4);
+SIZE(monitor_run_reply, 24);
+
+#define KIND(name, number) _Static_assert(MONITOR_KIND_##name == (number), #name)
+KIND(DUTY, 1);
+KIND(BAN, 2);
+KIND(POWER, 3);
+KIND(BOTH, 4);
+KIND(THEN, 5);
+KIND(REPAIR, 6);
+KIND(REPEAT, 7);
+KIND(WHEN, 8);
+KIND(UNTIL, 9);
+KIND(ANY, 16);
+KIND(TRIES, 17);
+KIND(IDLE, 18);
+KIND(SUCCEEDS, 19);
+KIND(FAILS, 20);
+KIND(SEQ, 21);
+KIND(OR, 22);
+KIND(STAR, 23);
+
+#define REFUSED(name, number) _Static_assert(MONITOR_REFUSED_##name == (number), #name)
+_Static_assert(MONITOR_ACCEPTED == 0, "ACCEPTED");
+REFUSED(BAD_LENGTH, 1);
+REFUSED(BAD_MARK, 2);
+REFUSED(UNKNOWN_KIND, 3);
+REFUSED(BAD_FIELD, 4);
+REFUSED(BAD_OPERANDS, 5);
+REFUSED(NOT_ONE_CLAUSE, 6);
+REFUSED(EMPTY_LIST, 7);
+REFUSED(SHORT_BUFFER, 8);
+REFUSED(BAD_IMAGE, 9);
+REFUSED(BAD_STATE, 10);
+REFUSED(BAD_PERIOD, 11);
+REFUSED(FULL_COUNT, 12);
+
+#define VERDICT(name, number) _Static_assert(MONITOR_VERDICT_##name == (number), #name)
+VERDICT(OPEN, 0);
+VERDICT(MET, 1);
+VERDICT(BROKEN, 2);
+VERDICT(MET_AFTER, 3);
+VERDICT(BROKEN_AFTER, 4);
+
+#define PARTY(name, number) _Static_assert(MONITOR_PARTY_##name == (number), #name)
+PARTY(NONE, 0);
+PARTY(1, 1);
+PARTY(2, 2);
+PARTY(BOTH, 3);
+
+_Static_assert(MONITOR_IMAGE_BYTES(MONITOR_MAX_ROWS) == 16904, "the longest image");
+_Static_assert(MONITOR_STATE_BYTES(MONITOR_MAX_ROWS) == 2122, "its state");
+
+/* ---- an image by hand */
 
 /* Party 1 owes action 0 in each period: V1 is row 1, not row 0; V2 and S are row 2, false. */
 static const uint8_t rows[] = {
@@ -25,32 +104,34 @@ static const uint8_t records[] = {
 enum { STATE_BYTES = MONITOR_HEAD_BYTES + 3 };
 static uint8_t stepped[STATE_BYTES], other[STATE_BYTES], before[STATE_BYTES];
 
-/* Prints a reply and holds it to the one that document 01 gives. */
-static void hold(const char *label, uint32_t result, struct monitor_reply got, struct monitor_reply want)
+/* Ends a line; the reply in it must be the one that document 01 gives. */
+static void end_line(int good)
 {
-    printf("%s:", label);
-    PUT(result, got.number, got.verdict, got.place, got.blame, got.decision);
     printf("\n");
-    if (result != 1 || memcmp(&got, &want, sizeof got) != 0)
+    if (!good)
         fault("not as expected");
 }
 
-static void step(const char *label, size_t rows_length, uint8_t *values, const uint8_t *record, struct monitor_reply want)
+static void step(const char *label, size_t rows_length, uint8_t *values, const uint8_t *record, struct monitor_step_reply want)
 {
-    struct monitor_reply r;
+    struct monitor_step_reply r;
 
     memset(&r, 0xff, sizeof r);
     uint32_t result = monitor_step(rows, rows_length, values, STATE_BYTES, record, MONITOR_PERIOD_BYTES, (uint8_t *)&r, sizeof r);
-    hold(label, result, r, want);
+    printf("%s:", label);
+    PUT(result, r.number, r.verdict, r.place, r.blame, r.decision);
+    end_line(result == 1 && memcmp(&r, &want, sizeof r) == 0);
 }
 
-static void run(const char *label, uint8_t *values, size_t length, struct monitor_reply want)
+static void run(const char *label, uint8_t *values, size_t length, struct monitor_run_reply want)
 {
-    struct monitor_reply r;
+    struct monitor_run_reply r;
 
     memset(&r, 0xff, sizeof r);
     uint32_t result = monitor_run(rows, sizeof rows, values, STATE_BYTES, records, length, (uint8_t *)&r, sizeof r);
-    hold(label, result, r, want);
+    printf("%s:", label);
+    PUT(result, r.number, r.verdict, r.place, r.blame, r.decision);
+    end_line(result == 1 && memcmp(&r, &want, sizeof r) == 0);
 }
 
 static void begins(void)
@@ -70,11 +151,11 @@ static void begins(void)
 
 static void steps(void)
 {
-    static const struct monitor_reply want[] = {
-        {MONITOR_ACCEPTED, MONITOR_OPEN, 0, 0, 0},
-        {MONITOR_ACCEPTED, MONITOR_OPEN, 0, 0, 0},
-        {MONITOR_ACCEPTED, MONITOR_BROKEN, 0, 1, 3},
-        {MONITOR_ACCEPTED, MONITOR_BROKEN_AFTER, 0, 1, 3},
+    static const struct monitor_step_reply want[] = {
+        {MONITOR_ACCEPTED, MONITOR_VERDICT_OPEN, 0, MONITOR_PARTY_NONE, 0},
+        {MONITOR_ACCEPTED, MONITOR_VERDICT_OPEN, 0, MONITOR_PARTY_NONE, 0},
+        {MONITOR_ACCEPTED, MONITOR_VERDICT_BROKEN, 0, MONITOR_PARTY_1, 3},
+        {MONITOR_ACCEPTED, MONITOR_VERDICT_BROKEN_AFTER, 0, MONITOR_PARTY_1, 3},
     };
 
     for (size_t k = 0; k < COUNT(want); k++)
@@ -83,7 +164,7 @@ static void steps(void)
 
 static void runs(void)
 {
-    static const struct monitor_reply want = {MONITOR_ACCEPTED, MONITOR_BROKEN_AFTER, 0, 1, 3};
+    static const struct monitor_run_reply want = {MONITOR_ACCEPTED, MONITOR_VERDICT_BROKEN_AFTER, 0, MONITOR_PARTY_1, 3};
 
     run("run", other, sizeof records, want);
     check("the run ends in the steps' state", memcmp(stepped, other, sizeof stepped) == 0);
@@ -93,17 +174,21 @@ static void runs(void)
 
 static void refusals(void)
 {
-    run("run of 7 bytes", stepped, 7, (struct monitor_reply){MONITOR_BAD_PERIOD, 0, 0, 0, 0});
-    step("step with a short image", sizeof rows - 1, stepped, records, (struct monitor_reply){MONITOR_BAD_IMAGE, 0, 0, 0, 0});
+    static const struct monitor_run_reply bad_period = {.number = MONITOR_REFUSED_BAD_PERIOD};
+    static const struct monitor_step_reply bad_image = {.number = MONITOR_REFUSED_BAD_IMAGE};
+    static const struct monitor_step_reply bad_state = {.number = MONITOR_REFUSED_BAD_STATE};
+
+    run("run of 7 bytes", stepped, 7, bad_period);
+    step("step with a short image", sizeof rows - 1, stepped, records, bad_image);
     check("the state is kept", memcmp(stepped, before, sizeof stepped) == 0);
     memset(other, 3, sizeof other);
     memcpy(before, other, sizeof other);
-    step("step on an unsound state", sizeof rows, other, records, (struct monitor_reply){MONITOR_BAD_STATE, 0, 0, 0, 0});
+    step("step on an unsound state", sizeof rows, other, records, bad_state);
 }
 
 static void short_area(void)
 {
-    struct monitor_reply r;
+    struct monitor_step_reply r;
 
     memset(&r, 0xff, sizeof r);
     uint32_t result = monitor_step(rows, sizeof rows, stepped, sizeof stepped, records, MONITOR_PERIOD_BYTES, (uint8_t *)&r, 23);

@@ -65,9 +65,9 @@ struct bytes {
 enum {
     GUARD = 165,
     GUARD_BYTES = 16,
-    UNWRITTEN = 238,                                                /* each byte of an area before a call writes it */
-    MAX_BYTES = MONITOR_ROW_BYTES * (MONITOR_MAX_ROWS + 2),       /* an image of one row too many */
-    BUFFER_BYTES = MONITOR_ROW_BYTES * (MONITOR_MAX_ROWS + 1)      /* an image buffer that takes every contract */
+    UNWRITTEN = 238,                                          /* each byte of an area before a call writes it */
+    MAX_BYTES = MONITOR_ROW_BYTES * (MONITOR_MAX_ROWS + 2),   /* an image of one row too many */
+    BUFFER_BYTES = MONITOR_ROW_BYTES * (MONITOR_MAX_ROWS + 1) /* an image buffer that takes every contract */
 };
 
 struct area {
@@ -159,10 +159,22 @@ static inline struct monitor_begin_reply begin_reply(void)
     return (struct monitor_begin_reply){four(r), four(r + 4), eight(r + 8)};
 }
 
-static inline struct monitor_reply step_reply(void)
+static inline struct monitor_step_reply step_reply(void)
 {
     const uint8_t *r = start(&reply);
-    return (struct monitor_reply){four(r), four(r + 4), eight(r + 8), four(r + 16), four(r + 20)};
+    return (struct monitor_step_reply){four(r), four(r + 4), eight(r + 8), four(r + 16), four(r + 20)};
+}
+
+static inline struct monitor_run_reply run_reply(void)
+{
+    const uint8_t *r = start(&reply);
+    return (struct monitor_run_reply){four(r), four(r + 4), eight(r + 8), four(r + 16), four(r + 20)};
+}
+
+/* Whether a run ended as that last step did. */
+static inline int agree(struct monitor_step_reply s, struct monitor_run_reply r)
+{
+    return s.number == r.number && s.verdict == r.verdict && s.place == r.place && s.blame == r.blame && s.decision == r.decision;
 }
 
 static inline const char *verdict_name(uint32_t verdict)
@@ -252,13 +264,23 @@ static inline uint32_t begin(void)
     return result;
 }
 
-static inline struct monitor_reply take(enum call call, struct bytes records)
+static inline struct monitor_step_reply take_step(struct bytes record)
+{
+    copy(&trace, record);
+    uint32_t result = lend(STEP, sizeof(struct monitor_step_reply));
+    struct monitor_step_reply r = step_reply();
+    if (result != 1 || r.number != MONITOR_ACCEPTED || r.place != 0)
+        fault("step: not accepted");
+    return r;
+}
+
+static inline struct monitor_run_reply take_run(struct bytes records)
 {
     copy(&trace, records);
-    uint32_t result = lend(call, sizeof(struct monitor_reply));
-    struct monitor_reply r = step_reply();
+    uint32_t result = lend(RUN, sizeof(struct monitor_run_reply));
+    struct monitor_run_reply r = run_reply();
     if (result != 1 || r.number != MONITOR_ACCEPTED || r.place != 0)
-        fault("step or run: not accepted");
+        fault("run: not accepted");
     return r;
 }
 
@@ -272,8 +294,8 @@ static inline int kind_of(char letter)
     const char *clause = strchr(clauses, letter), *expression = strchr(expressions, letter);
 
     if (clause)
-        return MONITOR_DUTY + (int)(clause - clauses);
-    return expression ? MONITOR_ANY + (int)(expression - expressions) : 0;
+        return MONITOR_KIND_DUTY + (int)(clause - clauses);
+    return expression ? MONITOR_KIND_ANY + (int)(expression - expressions) : 0;
 }
 
 static inline void add_record(int kind, int party, int action)
@@ -288,7 +310,7 @@ static inline void add_record(int kind, int party, int action)
 /* Leaf i: 0 to 15 have party 1 and action i, 16 to 31 have party 2 and action i - 16. */
 static inline void add_leaf(int kind, int i)
 {
-    add_record(kind, 1 + i / 16, i % 16);
+    add_record(kind, MONITOR_PARTY_1 + i / 16, i % 16);
 }
 
 /* Leaves `from` to `to` - 1 of a kind, and after each an operator; a kind 0 leaves out the one or the other. */

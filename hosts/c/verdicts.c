@@ -61,7 +61,7 @@ static void spell(const char *text)
 }
 
 /* One period, the text up to a blank. */
-static struct monitor_reply step(const char *text, size_t length)
+static struct monitor_step_reply step(const char *text, size_t length)
 {
     unsigned tries[2] = {0, 0}, party = 0;
 
@@ -71,13 +71,13 @@ static struct monitor_reply step(const char *text, size_t length)
         else if (text[k] != '-')
             tries[party] |= 1u << (text[k] - 'a');
     }
-    return take(STEP, (struct bytes)BYTES(MONITOR_PERIOD(tries[0], tries[1])));
+    return take_step((struct bytes)BYTES(MONITOR_PERIOD(tries[0], tries[1])));
 }
 
 /* The last period's reply. */
-static struct monitor_reply steps(const char *text)
+static struct monitor_step_reply steps(const char *text)
 {
-    struct monitor_reply r = {0, 0, 0, 0, 0};
+    struct monitor_step_reply r = {0};
 
     while (*text != '\0') {
         size_t length = strcspn(text, " ");
@@ -89,10 +89,9 @@ static struct monitor_reply steps(const char *text)
 }
 
 /* A run of no record gives the last step's reply once more. */
-static void check_run(struct monitor_reply last)
+static void check_run(struct monitor_step_reply last)
 {
-    struct monitor_reply r = take(RUN, (struct bytes)NO_BYTES);
-    if (memcmp(&r, &last, sizeof r) != 0)
+    if (!agree(last, take_run((struct bytes)NO_BYTES)))
         fault("the run of no record has another reply");
 }
 
@@ -102,7 +101,7 @@ int main(void)
         spell(samples[k].contract);
         compile_taken();
         begin();
-        struct monitor_reply r = steps(samples[k].trace);
+        struct monitor_step_reply r = steps(samples[k].trace);
         check_run(r);
         printf("%s: %s: %s %u, decided %u\n", samples[k].contract, samples[k].trace, verdict_name(r.verdict), (unsigned)r.blame,
                (unsigned)r.decision);
