@@ -42,7 +42,7 @@ static const char *const verdicts[] = {
     [MONITOR_VERDICT_BROKEN_AFTER] = "broken-after",
 };
 
-/* "Refusals" in docs/FORMAT.md says what the number means and what the place counts. */
+/* docs/FORMAT.md says what the number means and what the place counts. */
 static int refused(const char *call, uint32_t number, uint64_t place)
 {
     printf("%s refused %u %llu\n", call, (unsigned)number, (unsigned long long)place);

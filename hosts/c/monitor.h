@@ -62,7 +62,7 @@ enum monitor_party {
 #define MONITOR_PERIOD(one, two) \
     0x54, 0x50, (uint8_t)((one) & 0xff), (uint8_t)((one) >> 8 & 0xff), (uint8_t)((two) & 0xff), (uint8_t)((two) >> 8 & 0xff)
 
-/* A reply's number: 0, or what the call was refused for. "Refusals" in docs/FORMAT.md has the conditions and the places. */
+/* A reply's number: 0, or what the call was refused for. docs/FORMAT.md has the conditions, and what the place counts. */
 enum monitor_refusal {
     MONITOR_ACCEPTED = 0,
     MONITOR_REFUSED_BAD_LENGTH = 1,     /* of the contract */
