@@ -1,13 +1,13 @@
 -- The worked examples hold of the definitions, by computation.
 use mathlib.Core.Path.{refl}
-use Rattle.periods.specs.Periods.{tries, bit}
+use Rattle.periods.specs.Periods.{tries, succeeds, bit}
 use Rattle.contract.specs.Expressions.{holds, splits, joins, member, begins, holdsEmpty}
 use Rattle.contract.specs.Readings.{readingTo, reading}
 use Rattle.contract.specs.Meaning.{repeatMeaning, meaning}
-use Rattle.contract.specs.Examples.{WorkedExamples, StudentExamples, FurtherExamples, WatchExample}
+use Rattle.contract.specs.Examples.{WorkedExamples, StudentExamples, ExpressionExamples, ClauseExamples, VerdictExamples}
 
-pub examples : WorkedExamples × StudentExamples × FurtherExamples × WatchExample
-unfolding meaning repeatMeaning reading readingTo member begins holdsEmpty splits joins holds tries bit
+pub examples : WorkedExamples × StudentExamples × ExpressionExamples × ClauseExamples × VerdictExamples
+unfolding meaning repeatMeaning reading readingTo member begins holdsEmpty splits joins holds tries succeeds bit
 examples = (
   record {
     duty-on-none = refl;
@@ -30,17 +30,53 @@ examples = (
     no-later-blame = refl;
     no-living-half = refl;
     no-living-clause = refl;
-    right-starts-after = refl;
+    then-starts-after = refl;
+    repair-starts-after = refl;
     violation-first = refl;
   },
   record {
-    no-empty-list = refl;
-    ban-alone = refl;
-    power-by-both = refl;
-    both-at-later-half = refl;
+    any-in = refl;
+    tries1-in = refl;
+    tries2-in = refl;
+    idle1-in = refl;
+    idle2-in = refl;
+    succeeds-in = refl;
+    fails-in = refl;
+    seq-in = refl;
+    or-in = refl;
+    or-left-goes-on = refl;
+    or-right-goes-on = refl;
+    star-in = refl;
+    accepted-once = refl;
+    empty-in = refl;
+  },
+  record {
+    duty2 = refl;
+    ban1 = refl;
+    ban2 = refl;
+    power1 = refl;
+    power2 = refl;
+    both-right-first = refl;
+    both-left-alone = refl;
+    both-right-alone = refl;
+    both-blames = refl;
+    both-at-right = refl;
+    both-at-left = refl;
+    then-decides = refl;
+    repair-decides = refl;
+    repeat-anew = refl;
+    repeat-first = refl;
     when-pending = refl;
     when-accepted = refl;
+    when-rejected-later = refl;
+    until-own = refl;
+    until-over = refl;
     until-rejected = refl;
   },
-  record { line1 = refl; line2 = refl; line3 = refl; line4 = refl; decided = refl },
+  record {
+    met-at-2 = refl;
+    broken-at-2 = refl;
+    broken-by-both = refl;
+    watched = refl;
+  },
 )

@@ -1,14 +1,15 @@
 -- The worked examples. Document 01, "Contracts and examples", "What students hand in" and "Watch".
 use Prim.Native.Nat.{ℕ}
 use Prim.Native.String.{String}
-use mathlib.Core.Bool.{false}
-use mathlib.Core.List.{List, [], _∷_}
+use mathlib.Core.Bool.{true, false}
+use mathlib.Core.List.{List, [], _∷_, map}
 use mathlib.Core.Path.{_≡_}
 use lib.ListN.{take}
 use Rattle.records.specs.Verdicts.{verdictNumber, verdictName}
 use Rattle.periods.specs.Periods.{Party, party1, party2, Period}
-use Rattle.contract.specs.Expressions.{any, tries, atom, seq, star, holdsEmpty}
-use Rattle.contract.specs.Meaning.{Literal, Clause, literal, both, then, repair, repeat, when, until, only, bothParties, undecided, satisfied, violated, meaning}
+use Rattle.contract.specs.Expressions.{any, tries, idle, succeeds, fails, Expression, atom, seq, or, star, holdsEmpty}
+use Rattle.contract.specs.Readings.{Reading, pending, accepted, rejected, reading}
+use Rattle.contract.specs.Meaning.{Literal, Clause, literal, both, then, repair, repeat, when, until, only, bothParties, Decision, undecided, satisfied, violated, meaning}
 use Rattle.contract.specs.Verdicts.{verdict, blame, decisionPeriod}
 
 -- "a, b are actions 0, 1"
@@ -28,105 +29,190 @@ ban p n = literal Literal.ban p n
 abbrev pub power : Party → ℕ → Clause
 power p n = literal Literal.power p n
 
--- what a party tries in one period: nothing, one action, or a and b
-abbrev pub nothing : ℕ
-nothing = 0
-
-abbrev pub just-a : ℕ
-just-a = 1
-
-abbrev pub just-b : ℕ
-just-b = 2
-
-abbrev pub a-and-b : ℕ
-a-and-b = 3
-
--- one period, party 1's attempts first
-abbrev pub one-period : ℕ → ℕ → Period
+-- one period, as its masks: bit 0 is set when the party tries a, bit 1 when it tries b
+abbrev pub one-period : (one two : ℕ) → Period
 one-period m n = record { attempts1 = m; attempts2 = n }
+
+-- the periods of the examples, party 1 before the slash; "-" is no attempt
+abbrev pub a/a : Period
+a/a = one-period 1 1
+
+abbrev pub a/- : Period
+a/- = one-period 1 0
+
+abbrev pub -/a : Period
+-/a = one-period 0 1
+
+abbrev pub -/- : Period
+-/- = one-period 0 0
+
+abbrev pub ab/a : Period
+ab/a = one-period 3 1
+
+abbrev pub b/a : Period
+b/a = one-period 2 1
+
+abbrev pub b/b : Period
+b/b = one-period 2 2
+
+abbrev pub b/- : Period
+b/- = one-period 2 0
 
 -- document 01's examples, in its order
 pub record WorkedExamples : Type 0 where
   pub duty-on-none : meaning (duty party1 a) [] ≡ undecided
-  pub duty-by-both : meaning (duty party1 a) (one-period just-a just-a ∷ []) ≡ satisfied 1
-  pub duty-by-other : meaning (duty party1 a) (one-period nothing just-a ∷ []) ≡ violated 1 (only party1)
-  pub duty-by-nobody : meaning (duty party1 a) (one-period nothing nothing ∷ []) ≡ violated 1 (only party1)
-  pub duty-alone : meaning (duty party1 a) (one-period just-a nothing ∷ []) ≡ violated 1 (only party2)
-  pub power-alone : meaning (power party1 a) (one-period just-a nothing ∷ []) ≡ violated 1 (only party2)
-  pub power-by-other : meaning (power party1 a) (one-period nothing just-a ∷ []) ≡ satisfied 1
-  pub ban-by-both : meaning (ban party1 a) (one-period just-a just-a ∷ []) ≡ violated 1 (only party1)
-  pub both-blamed : meaning (both (power party1 a) (duty party1 b)) (one-period just-a nothing ∷ []) ≡ violated 1 bothParties
-  pub both-once :
-      meaning (both (duty party1 a) (then (power party1 b) (duty party2 b))) (one-period nothing just-a ∷ one-period nothing nothing ∷ [])
-      ≡ violated 1 (only party1)
-  pub repaired : meaning (repair (duty party1 a) (duty party1 b)) (one-period nothing nothing ∷ one-period just-b just-b ∷ []) ≡ satisfied 2
-  pub repeated : meaning (repeat (duty party1 a)) (one-period just-a just-a ∷ []) ≡ undecided
-  pub when-rejected : meaning (when (atom (tries party1 b)) (duty party2 a)) (one-period nothing nothing ∷ []) ≡ satisfied 1
+  pub duty-by-both : meaning (duty party1 a) (a/a ∷ []) ≡ satisfied 1
+  pub duty-by-other : meaning (duty party1 a) (-/a ∷ []) ≡ violated 1 (only party1)
+  pub duty-by-nobody : meaning (duty party1 a) (-/- ∷ []) ≡ violated 1 (only party1)
+  pub duty-alone : meaning (duty party1 a) (a/- ∷ []) ≡ violated 1 (only party2)
+  pub power-alone : meaning (power party1 a) (a/- ∷ []) ≡ violated 1 (only party2)
+  pub power-by-other : meaning (power party1 a) (-/a ∷ []) ≡ satisfied 1
+  pub ban-by-both : meaning (ban party1 a) (a/a ∷ []) ≡ violated 1 (only party1)
+  pub both-blamed : meaning (both (power party1 a) (duty party1 b)) (a/- ∷ []) ≡ violated 1 bothParties
+  pub both-once : meaning (both (duty party1 a) (then (power party1 b) (duty party2 b))) (-/a ∷ -/- ∷ []) ≡ violated 1 (only party1)
+  pub repaired : meaning (repair (duty party1 a) (duty party1 b)) (-/- ∷ b/b ∷ []) ≡ satisfied 2
+  pub repeated : meaning (repeat (duty party1 a)) (a/a ∷ []) ≡ undecided
+  pub when-rejected : meaning (when (atom (tries party1 b)) (duty party2 a)) (-/- ∷ []) ≡ satisfied 1
   pub until-accepted :
-      meaning (until (repeat (duty party1 a)) (seq (star (atom any)) (atom (tries party1 b))))
-      (one-period just-a just-a ∷ one-period a-and-b just-a ∷ [])
-      ≡ satisfied 2
+      meaning (until (repeat (duty party1 a)) (seq (star (atom any)) (atom (tries party1 b)))) (a/a ∷ ab/a ∷ []) ≡ satisfied 2
   pub until-violated :
-      meaning (until (repeat (duty party1 a)) (seq (star (atom any)) (atom (tries party1 b))))
-      (one-period just-a just-a ∷ one-period just-b just-a ∷ [])
-      ≡ violated 2 (only party1)
+      meaning (until (repeat (duty party1 a)) (seq (star (atom any)) (atom (tries party1 b)))) (a/a ∷ b/a ∷ []) ≡ violated 2 (only party1)
 
 -- one for each point of "What students hand in", two where it names two; the student's answer stands in brackets
 pub record StudentExamples : Type 0 where
   -- party 2's later breach in the other half adds no blame (violated at 1, blame 3)
-  pub no-later-blame :
-      meaning (both (duty party1 a) (then (ban party2 b) (duty party2 b))) (one-period nothing just-a ∷ one-period just-b nothing ∷ [])
-      ≡ violated 1 (only party1)
+  pub no-later-blame : meaning (both (duty party1 a) (then (ban party2 b) (duty party2 b))) (-/a ∷ b/- ∷ []) ≡ violated 1 (only party1)
   -- the half that owes b in period 3 dies with the whole in period 1, so nothing is to be repaired in period 4 (violated at 4, blame 1)
   pub no-living-half :
       meaning (repeat (repair (both (duty party1 a) (then (ban party1 b) (then (ban party1 b) (duty party2 b)))) (ban party1 a)))
-      (one-period nothing nothing ∷ one-period nothing nothing ∷ one-period just-a just-a ∷ one-period just-a just-a ∷ [])
+      (-/- ∷ -/- ∷ a/a ∷ a/a ∷ [])
       ≡ undecided
   -- the clause that owes a in period 2 dies with the `until` that finished in period 1 (violated at 2, blame 2)
-  pub no-living-clause :
-      meaning (repeat (until (then (ban party1 a) (duty party2 a)) (atom (tries party1 b))))
-      (one-period just-b nothing ∷ one-period nothing nothing ∷ [])
-      ≡ undecided
-  -- party 1 owes b only from period 2 on (violated at 1, blame 1)
-  pub right-starts-after : meaning (then (duty party1 a) (duty party1 b)) (one-period just-a just-a ∷ one-period just-b just-b ∷ []) ≡ satisfied 2
+  pub no-living-clause : meaning (repeat (until (then (ban party1 a) (duty party2 a)) (atom (tries party1 b)))) (b/- ∷ -/- ∷ []) ≡ undecided
+  -- party 1 owes b, is barred from b, only from period 2 on (violated at 1, blame 1)
+  pub then-starts-after : meaning (then (duty party1 a) (duty party1 b)) (a/a ∷ b/b ∷ []) ≡ satisfied 2
+  pub repair-starts-after : meaning (repair (duty party1 a) (ban party1 b)) (b/b ∷ -/- ∷ []) ≡ satisfied 2
   -- the violation in the accepting period counts (satisfied at 1)
-  pub violation-first : meaning (until (duty party1 a) (atom (tries party1 b))) (one-period just-b just-a ∷ []) ≡ violated 1 (only party1)
+  pub violation-first : meaning (until (duty party1 a) (atom (tries party1 b))) (b/a ∷ []) ≡ violated 1 (only party1)
 
--- sentences of "Expressions" and "Meaning of clauses" that no example above reaches
-pub record FurtherExamples : Type 0 where
-  pub no-empty-list : holdsEmpty (seq (star (atom any)) (atom any)) ≡ false
-  pub ban-alone : meaning (ban party1 a) (one-period just-a nothing ∷ []) ≡ satisfied 1
-  pub power-by-both : meaning (power party1 a) (one-period just-a just-a ∷ []) ≡ satisfied 1
-  pub both-at-later-half :
-      meaning (both (duty party1 a) (then (duty party1 a) (duty party2 a))) (one-period just-a just-a ∷ one-period just-a just-a ∷ [])
-      ≡ satisfied 2
-  pub when-pending :
-      meaning (when (seq (atom any) (seq (atom any) (atom any))) (duty party1 a))
-      (one-period nothing nothing ∷ one-period nothing nothing ∷ [])
-      ≡ undecided
-  pub when-accepted :
-      meaning (when (atom (tries party1 b)) (duty party2 a)) (one-period just-b nothing ∷ one-period just-a nothing ∷ [])
-      ≡ violated 2 (only party2)
-  pub until-rejected :
-      meaning (until (repeat (duty party1 a)) (atom (tries party1 b))) (one-period just-a just-a ∷ one-period just-b nothing ∷ [])
-      ≡ violated 2 (only party1)
+-- a/a, a/-, -/a, -/-: what a clause means, and what an expression shows, in each of the four alone
+abbrev pub meanings : Clause → List Decision
+meanings c = map (λ x. meaning c (x ∷ [])) (a/a ∷ a/- ∷ -/a ∷ -/- ∷ [])
 
--- the contract and the periods of "Watch"
-abbrev pub watched : Clause
-watched = repeat (repair (duty party1 a) (duty party1 b))
+abbrev pub readings : Expression → List Reading
+readings e = map (λ x. reading e (x ∷ [])) (a/a ∷ a/- ∷ -/a ∷ -/- ∷ [])
 
-abbrev pub watchedPeriods : List Period
-watchedPeriods = one-period just-a just-a ∷ one-period nothing nothing ∷ one-period just-b nothing ∷ one-period just-a just-a ∷ []
+-- party 1 tries a; it tries b; any number of periods
+abbrev pub tries-a : Expression
+tries-a = atom (tries party1 a)
 
--- a line of "Watch" without its number: the verdict's name and number, and the blame, after n periods
-abbrev pub line : ℕ → String × ℕ × ℕ
-line n =
-    let d = meaning watched (take n watchedPeriods) in
-    (verdictName (verdict d n), verdictNumber (verdict d n), blame d)
+abbrev pub tries-b : Expression
+tries-b = atom (tries party1 b)
 
-pub record WatchExample : Type 0 where
-  pub line1 : line 1 ≡ ("open", 0, 0)
-  pub line2 : line 2 ≡ ("open", 0, 0)
-  pub line3 : line 3 ≡ ("broken", 2, 2)
-  pub line4 : line 4 ≡ ("broken-after", 4, 2)
-  pub decided : decisionPeriod (meaning watched watchedPeriods) ≡ 3
+abbrev pub any* : Expression
+any* = star (atom any)
+
+-- sentences of "Expressions" that no example above reaches
+pub record ExpressionExamples : Type 0 where
+  -- "all; the party tries it; doesn't try it; both try it; not both try it"
+  pub any-in : readings (atom any) ≡ accepted 1 ∷ accepted 1 ∷ accepted 1 ∷ accepted 1 ∷ []
+  pub tries1-in : readings (atom (tries party1 a)) ≡ accepted 1 ∷ accepted 1 ∷ rejected 1 ∷ rejected 1 ∷ []
+  pub tries2-in : readings (atom (tries party2 a)) ≡ accepted 1 ∷ rejected 1 ∷ accepted 1 ∷ rejected 1 ∷ []
+  pub idle1-in : readings (atom (idle party1 a)) ≡ rejected 1 ∷ rejected 1 ∷ accepted 1 ∷ accepted 1 ∷ []
+  pub idle2-in : readings (atom (idle party2 a)) ≡ rejected 1 ∷ accepted 1 ∷ rejected 1 ∷ accepted 1 ∷ []
+  pub succeeds-in : readings (atom (succeeds a)) ≡ accepted 1 ∷ rejected 1 ∷ rejected 1 ∷ rejected 1 ∷ []
+  pub fails-in : readings (atom (fails a)) ≡ rejected 1 ∷ accepted 1 ∷ accepted 1 ∷ accepted 1 ∷ []
+  -- "`seq` joins a list of each"
+  pub seq-in :
+      map (reading (seq tries-a tries-b)) ((a/- ∷ []) ∷ (a/- ∷ b/- ∷ []) ∷ (b/- ∷ []) ∷ (a/- ∷ a/- ∷ []) ∷ [])
+      ≡ pending ∷ accepted 2 ∷ rejected 1 ∷ rejected 2 ∷ []
+  -- "`or` takes either": its left alone, its right alone; rejected where neither can go on
+  pub or-in : map (reading (or tries-a tries-b)) ((a/- ∷ []) ∷ (b/- ∷ []) ∷ (-/- ∷ []) ∷ []) ≡ accepted 1 ∷ accepted 1 ∷ rejected 1 ∷ []
+  pub or-left-goes-on : map (reading (or (seq tries-a tries-b) tries-b)) ((a/- ∷ []) ∷ (a/- ∷ a/- ∷ []) ∷ []) ≡ pending ∷ rejected 2 ∷ []
+  pub or-right-goes-on : map (reading (or tries-b (seq tries-a tries-b))) ((a/- ∷ []) ∷ (a/- ∷ a/- ∷ []) ∷ []) ≡ pending ∷ rejected 2 ∷ []
+  -- "`star` joins zero or more lists"
+  pub star-in :
+      map (reading (seq (star tries-a) tries-b)) ((b/- ∷ []) ∷ (a/- ∷ a/- ∷ []) ∷ (a/- ∷ a/- ∷ b/- ∷ []) ∷ (a/- ∷ -/- ∷ []) ∷ [])
+      ≡ accepted 1 ∷ pending ∷ accepted 3 ∷ rejected 2 ∷ []
+  -- "at the least k", and "provided it wasn't accepted before"
+  pub accepted-once : map (reading (or tries-a (seq tries-a tries-a))) ((a/- ∷ a/- ∷ []) ∷ (a/- ∷ b/- ∷ []) ∷ []) ≡ accepted 1 ∷ accepted 1 ∷ []
+  -- which hold the empty list
+  pub empty-in :
+      map holdsEmpty
+      (tries-a ∷ any* ∷ seq tries-a tries-a ∷ seq any* tries-a ∷ seq tries-a any* ∷ seq any* any*
+      ∷ or tries-a tries-a ∷ or any* tries-a ∷ or tries-a any* ∷ [])
+      ≡ false ∷ true ∷ false ∷ false ∷ false ∷ true ∷ false ∷ true ∷ true ∷ []
+
+-- sentences of "Meaning of clauses" that no example above reaches
+pub record ClauseExamples : Type 0 where
+  -- "Duty: satisfied if both try; blame p if p doesn't try, otherwise q."
+  pub duty2 : meanings (duty party2 a) ≡ satisfied 1 ∷ violated 1 (only party2) ∷ violated 1 (only party1) ∷ violated 1 (only party2) ∷ []
+  -- "Ban: violated if both try, blame p."
+  pub ban1 : meanings (ban party1 a) ≡ violated 1 (only party1) ∷ satisfied 1 ∷ satisfied 1 ∷ satisfied 1 ∷ []
+  pub ban2 : meanings (ban party2 a) ≡ violated 1 (only party2) ∷ satisfied 1 ∷ satisfied 1 ∷ satisfied 1 ∷ []
+  -- "Power: violated if p tries and q doesn't, blame q."
+  pub power1 : meanings (power party1 a) ≡ satisfied 1 ∷ violated 1 (only party2) ∷ satisfied 1 ∷ satisfied 1 ∷ []
+  pub power2 : meanings (power party2 a) ≡ satisfied 1 ∷ satisfied 1 ∷ violated 1 (only party1) ∷ satisfied 1 ∷ []
+  -- "violated at the earlier violation, with that one's blame": the right's, and either half's where the other is satisfied
+  pub both-right-first : meaning (both (then (ban party2 b) (duty party2 b)) (duty party1 a)) (-/a ∷ b/- ∷ []) ≡ violated 1 (only party1)
+  pub both-left-alone : meaning (both (then (duty party1 a) (duty party2 b)) (duty party1 a)) (a/a ∷ -/- ∷ []) ≡ violated 2 (only party2)
+  pub both-right-alone : meaning (both (duty party1 a) (then (duty party1 a) (duty party2 b))) (a/a ∷ -/- ∷ []) ≡ violated 2 (only party2)
+  -- "the two blames are united if they fall in the same period"
+  pub both-blames :
+      map (λ c. blame (meaning c (a/a ∷ [])))
+      (both (ban party1 a) (ban party1 a) ∷ both (ban party2 a) (ban party2 a)
+      ∷ both (ban party1 a) (ban party2 a) ∷ both (ban party2 a) (ban party1 a)
+      ∷ both (ban party1 a) (both (ban party2 a) (ban party1 a)) ∷ both (both (ban party1 a) (ban party2 a)) (ban party2 a) ∷ [])
+      ≡ 1 ∷ 2 ∷ 3 ∷ 3 ∷ 3 ∷ 3 ∷ []
+  -- "Otherwise satisfied when the later half is satisfied."
+  pub both-at-right :
+      map (meaning (both (duty party1 a) (then (duty party1 a) (duty party2 a)))) ((a/a ∷ []) ∷ (a/a ∷ a/a ∷ []) ∷ [])
+      ≡ undecided ∷ satisfied 2 ∷ []
+  pub both-at-left :
+      map (meaning (both (then (duty party1 a) (duty party2 a)) (duty party1 a))) ((a/a ∷ []) ∷ (a/a ∷ a/a ∷ []) ∷ [])
+      ≡ undecided ∷ satisfied 2 ∷ []
+  -- "a left violation is the violation of the whole"; open after the left's satisfaction; the right's own violation
+  pub then-decides :
+      map (meaning (then (duty party1 a) (duty party1 b))) ((-/- ∷ []) ∷ (a/a ∷ []) ∷ (a/a ∷ b/- ∷ []) ∷ [])
+      ≡ violated 1 (only party1) ∷ undecided ∷ violated 2 (only party2) ∷ []
+  -- "a left satisfaction satisfies the whole"; open after the left's violation; "its blame alone counts"
+  pub repair-decides :
+      map (meaning (repair (duty party1 a) (duty party2 b))) ((a/a ∷ []) ∷ (-/- ∷ []) ∷ (-/- ∷ -/- ∷ []) ∷ [])
+      ≡ satisfied 1 ∷ undecided ∷ violated 2 (only party2) ∷ []
+  -- "each satisfaction at k begins the clause anew at k+1"; "its first violation is the whole's"
+  pub repeat-anew : meaning (repeat (then (duty party1 a) (duty party2 b))) (a/a ∷ b/b ∷ a/a ∷ b/- ∷ []) ≡ violated 4 (only party2)
+  pub repeat-first : meaning (repeat (duty party1 a)) (a/a ∷ -/- ∷ a/- ∷ []) ≡ violated 2 (only party1)
+  -- "accepted at k, the clause reads from k+1; rejected at k, satisfied at k"
+  pub when-pending : meaning (when (seq (atom any) (seq (atom any) (atom any))) (duty party1 a)) (-/- ∷ -/- ∷ []) ≡ undecided
+  pub when-accepted : map (meaning (when tries-b (duty party2 a))) ((b/a ∷ []) ∷ (b/- ∷ a/- ∷ []) ∷ []) ≡ undecided ∷ violated 2 (only party2) ∷ []
+  pub when-rejected-later : meaning (when (seq (atom any) tries-b) (duty party2 a)) (-/- ∷ a/a ∷ b/b ∷ []) ≡ satisfied 2
+  -- "the clause's own decision if it comes no later than acceptance; otherwise satisfied at acceptance"
+  pub until-own :
+      map (meaning (until (duty party1 a) (seq (atom any) tries-b))) ((a/a ∷ b/b ∷ []) ∷ (-/- ∷ b/b ∷ []) ∷ [])
+      ≡ satisfied 1 ∷ violated 1 (only party1) ∷ []
+  pub until-over :
+      map (meaning (until (then (duty party1 a) (duty party1 a)) tries-b)) ((ab/a ∷ a/a ∷ []) ∷ (ab/a ∷ -/- ∷ []) ∷ [])
+      ≡ satisfied 1 ∷ satisfied 1 ∷ []
+  -- "A rejected expression leaves the clause alone to decide."
+  pub until-rejected : meaning (until (repeat (duty party1 a)) tries-b) (a/a ∷ b/- ∷ []) ≡ violated 2 (only party1)
+
+-- what is told after the first n periods of a list: the verdict's name and number, blame and decision period
+abbrev pub told : Clause → List Period → (n : ℕ) → String × ℕ × ℕ × ℕ
+told c w n =
+    let d = meaning c (take n w) in
+    (verdictName (verdict d n), verdictNumber (verdict d n), blame d, decisionPeriod d)
+
+-- "open (0) while undecided; met (1) or broken (2) when n is the decision period; met-after (3) or broken-after (4) later"; "blame: 1, 2, or 3 for
+-- both parties"
+pub record VerdictExamples : Type 0 where
+  pub met-at-2 :
+      map (told (then (duty party1 a) (duty party1 b)) (a/a ∷ b/b ∷ -/- ∷ [])) (0 ∷ 1 ∷ 2 ∷ 3 ∷ [])
+      ≡ ("open", 0, 0, 0) ∷ ("open", 0, 0, 0) ∷ ("met", 1, 0, 2) ∷ ("met-after", 3, 0, 2) ∷ []
+  pub broken-at-2 :
+      map (told (then (duty party1 a) (duty party1 b)) (a/a ∷ -/- ∷ b/b ∷ [])) (0 ∷ 1 ∷ 2 ∷ 3 ∷ [])
+      ≡ ("open", 0, 0, 0) ∷ ("open", 0, 0, 0) ∷ ("broken", 2, 1, 2) ∷ ("broken-after", 4, 1, 2) ∷ []
+  pub broken-by-both : told (both (power party1 a) (duty party1 b)) (a/- ∷ []) 1 ≡ ("broken", 2, 3, 1)
+  -- the contract, the periods and the lines of "Watch"
+  pub watched :
+      map (told (repeat (repair (duty party1 a) (duty party1 b))) (a/a ∷ -/- ∷ b/- ∷ a/a ∷ [])) (1 ∷ 2 ∷ 3 ∷ 4 ∷ [])
+      ≡ ("open", 0, 0, 0) ∷ ("open", 0, 0, 0) ∷ ("broken", 2, 2, 3) ∷ ("broken-after", 4, 2, 3) ∷ []

@@ -15,7 +15,7 @@ use Rattle.machine.specs.Machine.{afterPeriod}
 use Rattle.runner.specs.Calls.{stepAnswer, stepReplyBytes, begin, step}
 use Rattle.contract.specs.Expressions.{any, tries, idle, succeeds, fails, atom, seq, or, star}
 use Rattle.contract.specs.Meaning.{Clause, both, then, repair, repeat, when, until}
-use Rattle.contract.specs.Examples.{a, b, duty, ban, power, nothing, just-a, just-b, one-period}
+use Rattle.contract.specs.Examples.{a, b, duty, ban, power, a/a, a/-, -/a, -/-, b/a, b/b, b/-}
 use Rattle.image.specs.Images.{image, imageFor}
 
 -- verdict, blame and decision period
@@ -37,22 +37,22 @@ lines c w = linesFrom (image c) (stateOf (replicate (headBytes + length (image c
 
 pub record KindVectors : Type 0 where
   -- both violated in one period: the blames are united
-  pub powers-and-duties : lines (both (power party1 a) (duty party1 b)) (one-period just-a nothing ∷ []) ≡ (broken, 3, 1) ∷ []
+  pub powers-and-duties : lines (both (power party1 a) (duty party1 b)) (a/- ∷ []) ≡ (broken, 3, 1) ∷ []
   -- accepted in period 2, by the second of the two that may follow; party 1 is barred from b in period 3
   pub accepted-second :
       lines (when (seq (atom (idle party1 b)) (or (atom (tries party2 b)) (atom (succeeds a)))) (ban party1 b))
-      (one-period just-a nothing ∷ one-period just-a just-a ∷ one-period just-b just-b ∷ [])
+      (a/- ∷ a/a ∷ b/b ∷ [])
       ≡ («open», 0, 0) ∷ («open», 0, 0) ∷ (broken, 1, 3) ∷ []
   -- a succeeds, so the expression is rejected
-  pub rejected-fails : lines (when (atom (fails a)) (duty party2 a)) (one-period just-a just-a ∷ []) ≡ (met, 0, 1) ∷ []
+  pub rejected-fails : lines (when (atom (fails a)) (duty party2 a)) (a/a ∷ []) ≡ (met, 0, 1) ∷ []
   -- accepted in the first odd period in which party 1 tries a
   pub accepted-odd :
       lines (until (repeat (ban party1 b)) (seq (star (seq (atom any) (atom any))) (atom (tries party1 a))))
-      (one-period nothing nothing ∷ one-period just-a nothing ∷ one-period just-a nothing ∷ [])
+      (-/- ∷ a/- ∷ a/- ∷ [])
       ≡ («open», 0, 0) ∷ («open», 0, 0) ∷ (met, 0, 3) ∷ []
   -- rejected in period 1, which leaves the clause alone to decide
   pub rejected-until :
-      lines (until (repeat (duty party1 a)) (atom (tries party1 b))) (one-period just-a just-a ∷ one-period just-b nothing ∷ [])
+      lines (until (repeat (duty party1 a)) (atom (tries party1 b))) (a/a ∷ b/- ∷ [])
       ≡ («open», 0, 0) ∷ (broken, 1, 2) ∷ []
 
 -- ---- what students hand in; the student's answer stands in brackets
@@ -60,28 +60,28 @@ pub record KindVectors : Type 0 where
 pub record StudentVectors : Type 0 where
   -- party 2's later breach in the other half adds no blame (blame 3 in period 2)
   pub no-later-blame :
-      lines (both (duty party1 a) (then (ban party2 b) (duty party2 b))) (one-period nothing just-a ∷ one-period just-b nothing ∷ [])
+      lines (both (duty party1 a) (then (ban party2 b) (duty party2 b))) (-/a ∷ b/- ∷ [])
       ≡ (broken, 1, 1) ∷ (broken-after, 1, 1) ∷ []
   -- the half that bars b in period 2 dies with the whole in period 1, so the repair is not begun again in period 3 (broken there, blame 1)
   pub no-living-half :
       lines (repeat (repair (both (ban party1 a) (then (ban party1 b) (ban party2 b))) (then (ban party1 a) (ban party1 b))))
-      (one-period just-a just-a ∷ one-period just-b just-b ∷ one-period just-a just-a ∷ [])
+      (a/a ∷ b/b ∷ a/a ∷ [])
       ≡ («open», 0, 0) ∷ («open», 0, 0) ∷ («open», 0, 0) ∷ []
   -- the clause that owes a in period 2 dies with the `until` that finished in period 1 (broken in 2, blame 2)
   pub no-living-clause :
       lines (repeat (then (until (then (ban party1 a) (duty party2 a)) (atom (tries party1 b))) (ban party1 b)))
-      (one-period just-b nothing ∷ one-period nothing nothing ∷ [])
+      (b/- ∷ -/- ∷ [])
       ≡ («open», 0, 0) ∷ («open», 0, 0) ∷ []
   -- party 1 owes b only from period 2 on (broken in 1, blame 1)
   pub right-of-then :
-      lines (then (duty party1 a) (duty party1 b)) (one-period just-a just-a ∷ one-period just-b just-b ∷ [])
+      lines (then (duty party1 a) (duty party1 b)) (a/a ∷ b/b ∷ [])
       ≡ («open», 0, 0) ∷ (met, 0, 2) ∷ []
   pub right-of-repair :
-      lines (repair (duty party1 a) (duty party1 b)) (one-period nothing nothing ∷ one-period just-b just-b ∷ [])
+      lines (repair (duty party1 a) (duty party1 b)) (-/- ∷ b/b ∷ [])
       ≡ («open», 0, 0) ∷ (met, 0, 2) ∷ []
   -- the violation in the accepting period counts, so it is repaired from period 2 on (met in 1)
   pub violation-first :
-      lines (repair (until (duty party1 a) (atom (tries party1 b))) (duty party2 a)) (one-period just-b just-a ∷ one-period just-a nothing ∷ [])
+      lines (repair (until (duty party1 a) (atom (tries party1 b))) (duty party2 a)) (b/a ∷ a/- ∷ [])
       ≡ («open», 0, 0) ∷ (broken, 2, 2) ∷ []
 
 -- ---- the contract and the periods of "Watch", byte for byte: its image, begin, and a step call for each period
