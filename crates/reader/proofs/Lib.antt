@@ -9,3 +9,4 @@ pub mod Places
 pub mod Answers
 pub mod Codes
 pub mod Stack
+pub mod Examples

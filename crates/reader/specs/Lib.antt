@@ -6,3 +6,4 @@ pub mod Spelling
 pub mod Reader
 pub mod Taken
 pub mod Codes
+pub mod Examples

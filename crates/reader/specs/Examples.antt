@@ -1,0 +1,135 @@
+-- Vectors of the reader: a contract for each kind, its bytes and the clause that they spell; refusals 1 to 7, number and place, and their order.
+-- Document 01, "Records" and "Replies that refuse".
+use Prim.Native.Nat.{ℕ}
+use mathlib.Core.List.{List, [], _∷_, _++_, map}
+use mathlib.Core.Path.{_≡_}
+use lib.ListN.{replicate}
+use Rattle.records.specs.Refusals.{numberOf, placeOf}
+use Rattle.periods.specs.Periods.{party1, party2}
+use Rattle.contract.specs.Expressions.{any, tries, idle, succeeds, fails, atom, seq, or, star}
+use Rattle.contract.specs.Meaning.{Clause, both, then, repair, repeat, when, until}
+use Rattle.contract.specs.Examples.{duty, ban, power}
+use Rattle.reader.specs.Reader.{Result, taken, read, readTest}
+
+-- a record's bytes, the last being 0
+abbrev pub six : (kind party action : ℕ) → List ℕ
+six k p a = 0x54 ∷ 0x43 ∷ k ∷ p ∷ a ∷ 0x00 ∷ []
+
+-- the records that the vectors name
+abbrev pub dutyBytes : List ℕ
+dutyBytes = six 1 1 0
+
+abbrev pub repeatBytes : List ℕ
+repeatBytes = six 7 0 0
+
+abbrev pub whenBytes : List ℕ
+whenBytes = six 8 0 0
+
+abbrev pub untilBytes : List ℕ
+untilBytes = six 9 0 0
+
+abbrev pub anyBytes : List ℕ
+anyBytes = six 16 0 0
+
+abbrev pub starBytes : List ℕ
+starBytes = six 23 0 0
+
+-- records one after the other, as a contract
+abbrev pub joined : List (List ℕ) → List ℕ
+joined [] = []
+joined (r ∷ rs) = r ++ joined rs
+
+abbrev pub reads : List (List ℕ) → Result Clause
+reads rs = read (joined rs)
+
+-- number and place of what is found; of a contract that is taken 0 and 0
+abbrev pub found : List (List ℕ) → ℕ × ℕ
+found rs = (numberOf (readTest (joined rs)), placeOf (readTest (joined rs)))
+
+pub record ReaderVectors : Type 0 where
+  -- ---- kinds
+  pub kinds-1-to-3 :
+      map (λ r. reads (r ∷ [])) (six 1 1 0 ∷ six 1 2 15 ∷ six 2 1 15 ∷ six 2 2 0 ∷ six 3 1 15 ∷ six 3 2 1 ∷ [])
+      ≡ map taken (duty party1 0 ∷ duty party2 15 ∷ ban party1 15 ∷ ban party2 0 ∷ power party1 15 ∷ power party2 1 ∷ [])
+  pub kinds-4-to-6 :
+      map (λ k. reads (six 1 1 0 ∷ six 2 2 1 ∷ six k 0 0 ∷ [])) (4 ∷ 5 ∷ 6 ∷ [])
+      ≡ map taken (both (duty party1 0) (ban party2 1) ∷ then (duty party1 0) (ban party2 1) ∷ repair (duty party1 0) (ban party2 1) ∷ [])
+  pub kind-7 : reads (six 1 1 0 ∷ six 7 0 0 ∷ []) ≡ taken (repeat (duty party1 0))
+  pub kind-8 : reads (six 17 1 0 ∷ six 1 2 1 ∷ six 8 0 0 ∷ []) ≡ taken (when (atom (tries party1 0)) (duty party2 1))
+  pub kind-9 : reads (six 1 2 1 ∷ six 17 1 0 ∷ six 9 0 0 ∷ []) ≡ taken (until (duty party2 1) (atom (tries party1 0)))
+  pub kinds-16-to-20 :
+      map (λ r. reads (r ∷ dutyBytes ∷ whenBytes ∷ []))
+      (six 16 0 0 ∷ six 17 1 15 ∷ six 17 2 0 ∷ six 18 1 15 ∷ six 18 2 0 ∷ six 19 0 15 ∷ six 20 0 15 ∷ [])
+      ≡ map (λ x. taken (when (atom x) (duty party1 0)))
+      (any ∷ tries party1 15 ∷ tries party2 0 ∷ idle party1 15 ∷ idle party2 0 ∷ succeeds 15 ∷ fails 15 ∷ [])
+  pub kinds-21-to-22 :
+      map (λ k. reads (six 17 1 0 ∷ six 18 2 1 ∷ six k 0 0 ∷ dutyBytes ∷ whenBytes ∷ [])) (21 ∷ 22 ∷ [])
+      ≡ map (λ e. taken (when e (duty party1 0)))
+      (seq (atom (tries party1 0)) (atom (idle party2 1)) ∷ or (atom (tries party1 0)) (atom (idle party2 1)) ∷ [])
+  pub kind-23 :
+      reads (anyBytes ∷ six 23 0 0 ∷ six 17 1 0 ∷ six 21 0 0 ∷ dutyBytes ∷ whenBytes ∷ [])
+      ≡ taken (when (seq (star (atom any)) (atom (tries party1 0))) (duty party1 0))
+  -- ---- 1: "contract empty, not a multiple of 6 bytes, or over 64 records; 0". 64 are taken
+  pub lengths :
+      map found ([] ∷ ((0x54 ∷ 0x43 ∷ 0x01 ∷ 0x01 ∷ 0x00 ∷ []) ∷ []) ∷ (dutyBytes ∷ (0x54 ∷ []) ∷ []) ∷ [])
+      ≡ (1, 0) ∷ (1, 0) ∷ (1, 0) ∷ []
+  pub most-records : found (dutyBytes ∷ replicate 63 repeatBytes) ≡ (0, 0)
+  pub too-many-records : found (dutyBytes ∷ replicate 64 repeatBytes) ≡ (1, 0)
+  -- ---- 2: "wrong contract mark"
+  pub marks :
+      map found
+      (((0x54 ∷ 0x44 ∷ 0x01 ∷ 0x01 ∷ 0x00 ∷ 0x00 ∷ []) ∷ [])
+      ∷ ((0x53 ∷ 0x43 ∷ 0x01 ∷ 0x01 ∷ 0x00 ∷ 0x00 ∷ []) ∷ [])
+      ∷ (dutyBytes ∷ (0x54 ∷ 0x52 ∷ 0x07 ∷ 0x00 ∷ 0x00 ∷ 0x00 ∷ []) ∷ []) ∷ [])
+      ≡ (2, 0) ∷ (2, 0) ∷ (2, 1) ∷ []
+  -- ---- 3: "unknown kind"
+  pub unknown-kinds :
+      map (λ k. found (dutyBytes ∷ six k 0 0 ∷ [])) (0 ∷ 10 ∷ 11 ∷ 12 ∷ 13 ∷ 14 ∷ 15 ∷ 24 ∷ 255 ∷ []) ≡ replicate 9 (3, 1)
+  -- ---- 4: "a field out of range, or an unused one not 0"
+  pub party-0 : map (λ k. found (six k 0 0 ∷ [])) (1 ∷ 2 ∷ 3 ∷ 17 ∷ 18 ∷ []) ≡ replicate 5 (4, 0)
+  pub party-3 : map (λ k. found (six k 3 0 ∷ [])) (1 ∷ 2 ∷ 3 ∷ 17 ∷ 18 ∷ []) ≡ replicate 5 (4, 0)
+  pub action-16 :
+      map (λ r. found (r ∷ [])) (six 1 1 16 ∷ six 2 1 16 ∷ six 3 1 16 ∷ six 17 1 16 ∷ six 18 1 16 ∷ six 19 0 16 ∷ six 20 0 16 ∷ [])
+      ≡ replicate 7 (4, 0)
+  pub unused-party :
+      map (λ k. found (six k 1 0 ∷ [])) (4 ∷ 5 ∷ 6 ∷ 7 ∷ 8 ∷ 9 ∷ 16 ∷ 19 ∷ 20 ∷ 21 ∷ 22 ∷ 23 ∷ []) ≡ replicate 12 (4, 0)
+  pub unused-action : map (λ k. found (six k 0 1 ∷ [])) (4 ∷ 5 ∷ 6 ∷ 7 ∷ 8 ∷ 9 ∷ 16 ∷ 21 ∷ 22 ∷ 23 ∷ []) ≡ replicate 10 (4, 0)
+  pub last-byte :
+      map (λ k. found ((0x54 ∷ 0x43 ∷ k ∷ 1 ∷ 0 ∷ 1 ∷ []) ∷ [])) (1 ∷ 2 ∷ 3 ∷ 17 ∷ 18 ∷ [])
+      ++ map (λ k. found ((0x54 ∷ 0x43 ∷ k ∷ 0 ∷ 0 ∷ 1 ∷ []) ∷ [])) (4 ∷ 5 ∷ 6 ∷ 7 ∷ 8 ∷ 9 ∷ 16 ∷ 19 ∷ 20 ∷ 21 ∷ 22 ∷ 23 ∷ [])
+      ≡ replicate 17 (4, 0)
+  pub field-of-second : found (dutyBytes ∷ six 1 3 0 ∷ []) ≡ (4, 1)
+  -- ---- 5: "operands missing or of the wrong sort"
+  pub missing-operands :
+      map (λ k. found (six k 0 0 ∷ [])) (4 ∷ 5 ∷ 6 ∷ 7 ∷ 8 ∷ 9 ∷ 21 ∷ 22 ∷ 23 ∷ []) ≡ replicate 9 (5, 0)
+  pub missing-second :
+      map (λ k. found (dutyBytes ∷ six k 0 0 ∷ [])) (4 ∷ 5 ∷ 6 ∷ 8 ∷ 9 ∷ []) ++ map (λ k. found (anyBytes ∷ six k 0 0 ∷ [])) (8 ∷ 9 ∷ 21 ∷ 22 ∷ [])
+      ≡ replicate 9 (5, 1)
+  pub wrong-sort :
+      map (λ k. found (dutyBytes ∷ anyBytes ∷ six k 0 0 ∷ [])) (4 ∷ 5 ∷ 6 ∷ 7 ∷ 8 ∷ 21 ∷ 22 ∷ [])
+      ++ map (λ k. found (anyBytes ∷ dutyBytes ∷ six k 0 0 ∷ [])) (4 ∷ 5 ∷ 6 ∷ 9 ∷ 21 ∷ 22 ∷ 23 ∷ [])
+      ≡ replicate 14 (5, 2)
+  -- ---- 6: "at the end not just one clause; record count"
+  pub not-one-clause :
+      map found
+      ((anyBytes ∷ []) ∷ (dutyBytes ∷ dutyBytes ∷ []) ∷ (dutyBytes ∷ anyBytes ∷ []) ∷ (anyBytes ∷ dutyBytes ∷ [])
+      ∷ (dutyBytes ∷ repeatBytes ∷ dutyBytes ∷ []) ∷ [])
+      ≡ (6, 1) ∷ (6, 2) ∷ (6, 2) ∷ (6, 2) ∷ (6, 3) ∷ []
+  -- ---- 7: "expression under when or until holds the empty list"
+  pub empty-list :
+      map found
+      ((anyBytes ∷ starBytes ∷ dutyBytes ∷ whenBytes ∷ []) ∷ (dutyBytes ∷ anyBytes ∷ starBytes ∷ untilBytes ∷ []) ∷ [])
+      ≡ (7, 3) ∷ (7, 3) ∷ []
+  -- ---- "for each record 2, 3, 4, 5, 7, then 6"
+  pub one-before-two : found ((0x54 ∷ 0x44 ∷ 0x01 ∷ 0x01 ∷ 0x00 ∷ 0x00 ∷ []) ∷ (0x54 ∷ []) ∷ []) ≡ (1, 0)
+  pub two-before-three : found ((0x54 ∷ 0x44 ∷ 0x0a ∷ 0x00 ∷ 0x00 ∷ 0x00 ∷ []) ∷ []) ≡ (2, 0)
+  pub three-before-four : found (six 10 3 16 ∷ []) ≡ (3, 0)
+  pub four-before-five : found (six 7 1 0 ∷ []) ≡ (4, 0)
+  pub four-before-seven : found (anyBytes ∷ starBytes ∷ dutyBytes ∷ six 8 1 0 ∷ []) ≡ (4, 3)
+  pub five-before-seven : found (anyBytes ∷ starBytes ∷ anyBytes ∷ whenBytes ∷ []) ≡ (5, 3)
+  pub seven-before-six : found (dutyBytes ∷ anyBytes ∷ starBytes ∷ dutyBytes ∷ whenBytes ∷ []) ≡ (7, 4)
+  pub first-record-first :
+      map found
+      ((six 7 0 0 ∷ (0x54 ∷ 0x44 ∷ 0x01 ∷ 0x01 ∷ 0x00 ∷ 0x00 ∷ []) ∷ []) ∷ (six 1 3 0 ∷ six 10 0 0 ∷ [])
+      ∷ (anyBytes ∷ starBytes ∷ dutyBytes ∷ whenBytes ∷ six 7 0 0 ∷ six 10 0 0 ∷ []) ∷ (dutyBytes ∷ dutyBytes ∷ six 10 0 0 ∷ []) ∷ [])
+      ≡ (5, 0) ∷ (4, 0) ∷ (7, 3) ∷ (3, 2) ∷ []
