@@ -3,16 +3,13 @@ use Prim.Native.Nat.{ℕ, _+_}
 use mathlib.Core.List.{List, [], _∷_}
 use mathlib.Core.Path.{_≡_}
 use lib.ListN.{length, replicate}
-use Rattle.records.specs.Verdicts.{Verdict, «open», met, broken, broken-after, verdictNumber}
-use Rattle.records.specs.declared.Test.the-variants.{Passed}
-use Rattle.records.specs.Replies.{replyOf, headSize}
+use Rattle.records.specs.Verdicts.{Verdict, «open», met, broken, broken-after}
 use Rattle.periods.specs.Periods.{party1, party2, Period}
 use Rattle.layout.specs.Images.{Image, rowCount}
-use Rattle.states.specs.Limits.{headBytes}
 use Rattle.states.specs.States.{State, stateOf}
 use Rattle.states.specs.Verdicts.{verdict}
 use Rattle.machine.specs.Machine.{afterPeriod}
-use Rattle.runner.specs.Calls.{stepAnswer, stepReplyBytes, begin, step}
+use Rattle.runner.specs.Calls.{begin, step}
 use Rattle.contract.specs.Expressions.{any, tries, idle, succeeds, fails, atom, seq, or, star}
 use Rattle.contract.specs.Meaning.{Clause, both, then, repair, repeat, when, until}
 use Rattle.contract.specs.Examples.{a, b, duty, ban, power, a/a, a/-, -/a, -/-, b/a, b/b, b/-}
@@ -31,7 +28,7 @@ linesFrom m s (x ∷ w) =
 
 -- on the image of a clause, begun with zeros
 unfoldable pub lines : Clause → List Period → List Line
-lines c w = linesFrom (image c) (stateOf (replicate (headBytes + length (image c .rows)) 0)) w
+lines c w = linesFrom (image c) (stateOf (replicate (10 + length (image c .rows)) 0)) w
 
 -- ---- kinds; those that are not here are among the students' below
 
@@ -40,15 +37,13 @@ pub record KindVectors : Type 0 where
   pub powers-and-duties : lines (both (power party1 a) (duty party1 b)) (a/- ∷ []) ≡ (broken, 3, 1) ∷ []
   -- accepted in period 2, by the second of the two that may follow; party 1 is barred from b in period 3
   pub accepted-second :
-      lines (when (seq (atom (idle party1 b)) (or (atom (tries party2 b)) (atom (succeeds a)))) (ban party1 b))
-      (a/- ∷ a/a ∷ b/b ∷ [])
+      lines (when (seq (atom (idle party1 b)) (or (atom (tries party2 b)) (atom (succeeds a)))) (ban party1 b)) (a/- ∷ a/a ∷ b/b ∷ [])
       ≡ («open», 0, 0) ∷ («open», 0, 0) ∷ (broken, 1, 3) ∷ []
   -- a succeeds, so the expression is rejected
   pub rejected-fails : lines (when (atom (fails a)) (duty party2 a)) (a/a ∷ []) ≡ (met, 0, 1) ∷ []
   -- accepted in the first odd period in which party 1 tries a
   pub accepted-odd :
-      lines (until (repeat (ban party1 b)) (seq (star (seq (atom any) (atom any))) (atom (tries party1 a))))
-      (-/- ∷ a/- ∷ a/- ∷ [])
+      lines (until (repeat (ban party1 b)) (seq (star (seq (atom any) (atom any))) (atom (tries party1 a)))) (-/- ∷ a/- ∷ a/- ∷ [])
       ≡ («open», 0, 0) ∷ («open», 0, 0) ∷ (met, 0, 3) ∷ []
   -- rejected in period 1, which leaves the clause alone to decide
   pub rejected-until :
@@ -64,13 +59,11 @@ pub record StudentVectors : Type 0 where
       ≡ (broken, 1, 1) ∷ (broken-after, 1, 1) ∷ []
   -- the half that bars b in period 2 dies with the whole in period 1, so the repair is not begun again in period 3 (broken there, blame 1)
   pub no-living-half :
-      lines (repeat (repair (both (ban party1 a) (then (ban party1 b) (ban party2 b))) (then (ban party1 a) (ban party1 b))))
-      (a/a ∷ b/b ∷ a/a ∷ [])
+      lines (repeat (repair (both (ban party1 a) (then (ban party1 b) (ban party2 b))) (then (ban party1 a) (ban party1 b)))) (a/a ∷ b/b ∷ a/a ∷ [])
       ≡ («open», 0, 0) ∷ («open», 0, 0) ∷ («open», 0, 0) ∷ []
   -- the clause that owes a in period 2 dies with the `until` that finished in period 1 (broken in 2, blame 2)
   pub no-living-clause :
-      lines (repeat (then (until (then (ban party1 a) (duty party2 a)) (atom (tries party1 b))) (ban party1 b)))
-      (b/- ∷ -/- ∷ [])
+      lines (repeat (then (until (then (ban party1 a) (duty party2 a)) (atom (tries party1 b))) (ban party1 b))) (b/- ∷ -/- ∷ [])
       ≡ («open», 0, 0) ∷ («open», 0, 0) ∷ []
   -- party 1 owes b only from period 2 on (broken in 1, blame 1)
   pub right-of-then :
@@ -108,19 +101,19 @@ area n = replicate n 0xff
 unfoldable pub repliesFrom : (image state : List ℕ) → (records : List (List ℕ)) → List (List ℕ)
 repliesFrom image state [] = []
 repliesFrom image state (r ∷ rs) =
-    let after = step image state r (area stepReplyBytes) in
+    let after = step image state r (area 24) in
     after .reply ∷ repliesFrom image (after .buffers) rs
 
 unfoldable pub replies : (contract : List ℕ) → (records : List (List ℕ)) → List (List ℕ)
 replies contract rs =
     let image = imageFor contract in
-    repliesFrom image (begin image (area (headBytes + rowCount image)) (area headSize) .buffers) rs
+    repliesFrom image (begin image (area (10 + rowCount image)) (area 16) .buffers) rs
 
--- an accepted step's reply
-abbrev pub says : Verdict → (blame decision : ℕ) → List ℕ
-says v p k = replyOf Passed (stepAnswer (verdictNumber v) p k)
+-- an accepted step's reply: number 0, the verdict's number, place 0, blame, decision period
+abbrev pub says : (verdict blame decision : ℕ) → List ℕ
+says v p k = 0 ∷ 0 ∷ 0 ∷ 0 ∷ v ∷ 0 ∷ 0 ∷ 0 ∷ 0 ∷ 0 ∷ 0 ∷ 0 ∷ 0 ∷ 0 ∷ 0 ∷ 0 ∷ p ∷ 0 ∷ 0 ∷ 0 ∷ k ∷ 0 ∷ 0 ∷ 0 ∷ []
 
 pub record WatchVector : Type 0 where
   pub replied :
       replies watchedBytes watchedRecords
-      ≡ says «open» 0 0 ∷ says «open» 0 0 ∷ says broken 2 3 ∷ says broken-after 2 3 ∷ []
+      ≡ says 0 0 0 ∷ says 0 0 0 ∷ says 2 2 3 ∷ says 4 2 3 ∷ []
