@@ -5,10 +5,12 @@ use Rattle.records.specs.Marks.{marked}
 use Rattle.records.specs.Replies.{fieldsBytes, call}
 use Rattle.layout.specs.Rows.{encode}
 use Rattle.layout.specs.Images.{imageBytes, rowsBytes, endBytes, rowCount}
+use Rattle.contract.specs.Expressions.{holdsEmpty}
 use Rattle.reader.specs.Table.{firstNumbered, kindOf}
 use Rattle.reader.specs.Trees.{goodFields, node}
 use Rattle.reader.specs.Reader as Reader
 use Rattle.reader.specs.Reader.{operandsOf, readRecord, readRecords, read, readTest}
+use Rattle.image.specs.Widths.{afterClause}
 use Rattle.image.specs.Blocks.{outputsOf, clauseRows}
 use Rattle.image.specs.Images.{rowsFor, image, imageFor}
 use Rattle.compiler.specs.Examples.{CompileVectors}
@@ -18,5 +20,5 @@ use Rattle.compiler.specs.Calls.{compile}
 pub compile-vectors : CompileVectors
 unfolding
     compile compileTest call fieldsBytes readTest read Reader.goodContractLength Reader.contractRecords readRecords readRecord firstNumbered kindOf goodFields operandsOf node imageFor image
-    rowsFor clauseRows outputsOf imageBytes rowsBytes endBytes encode rowCount marked bytes
-compile-vectors = record { taken = refl; short = refl; clause-first = refl; no-room = refl }
+    rowsFor clauseRows outputsOf afterClause imageBytes rowsBytes endBytes encode rowCount marked bytes holdsEmpty
+compile-vectors = record { taken = refl; small-inputs = refl; short-for-one = refl; short-for-two = refl; enough-for-two = refl; room = refl; no-room = refl }

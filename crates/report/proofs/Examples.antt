@@ -6,6 +6,7 @@ use Rattle.records.specs.Refusals.{firstFailing}
 use Rattle.periods.specs.Forms.{formOf}
 use Rattle.periods.specs.Periods.{tries, bit, periodFrom}
 use Rattle.periods.specs.Traces.{wholePeriods, markedAs, periodAt, marksTest, traceTest, periodsOf}
+use Rattle.contract.specs.Expressions.{holdsEmpty}
 use Rattle.contract.specs.Meaning.{meaning, repeatMeaning}
 use Rattle.reader.specs.Table.{firstNumbered, kindOf}
 use Rattle.reader.specs.Trees.{goodFields, node}
@@ -21,18 +22,20 @@ pub report-vectors : ReportVectors
 unfolding
     report contractLength firstPeriod firstFailing formOf wholePeriods markedAs marked read Reader.goodContractLength Reader.contractRecords readRecords readRecord firstNumbered
     kindOf goodFields operandsOf node onTrace traceTest marksTest lines periodLines meantLine periodsOf periodAt periodFrom field value meaning repeatMeaning
-    tries bit periodLine decidedLine refusedLine decimal digits
+    tries bit periodLine decidedLine refusedLine decimal digits holdsEmpty
 report-vectors =
     record {
       watched = refl;
-      empty-input = refl;
       contract-only = refl;
-      trace-only = refl;
+      text-bytes = refl;
       decided-first = refl;
       never-decided = refl;
+      small-inputs = refl;
+      trace-only = refl;
       cut-record = refl;
       cut-contract = refl;
       too-long = λ input h. longer input h;
+      longest = λ trace e. rw e;
       bad-mark = refl;
       contract-first = refl;
     }
