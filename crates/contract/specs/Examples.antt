@@ -153,10 +153,12 @@ pub record ClauseExamples : Type 0 where
   -- "Power: violated if p tries and q doesn't, blame q."
   pub power1 : meanings (power party1 a) ≡ satisfied 1 ∷ violated 1 (only party2) ∷ satisfied 1 ∷ satisfied 1 ∷ []
   pub power2 : meanings (power party2 a) ≡ satisfied 1 ∷ satisfied 1 ∷ violated 1 (only party1) ∷ satisfied 1 ∷ []
-  -- "violated at the earlier violation, with that one's blame": the right's, and either half's where the other is satisfied
+  -- "violated at the earlier violation, with that one's blame": the right's, and either half's where the other is satisfied or open
   pub both-right-first : meaning (both (then (ban party2 b) (duty party2 b)) (duty party1 a)) (-/a ∷ b/- ∷ []) ≡ violated 1 (only party1)
   pub both-left-alone : meaning (both (then (duty party1 a) (duty party2 b)) (duty party1 a)) (a/a ∷ -/- ∷ []) ≡ violated 2 (only party2)
   pub both-right-alone : meaning (both (duty party1 a) (then (duty party1 a) (duty party2 b))) (a/a ∷ -/- ∷ []) ≡ violated 2 (only party2)
+  pub both-left-open : meaning (both (repeat (duty party1 a)) (ban party1 a)) (a/a ∷ []) ≡ violated 1 (only party1)
+  pub both-right-open : meaning (both (ban party1 a) (repeat (duty party1 a))) (a/a ∷ []) ≡ violated 1 (only party1)
   -- "the two blames are united if they fall in the same period"
   pub both-blames :
       map (λ c. blame (meaning c (a/a ∷ [])))
@@ -179,8 +181,9 @@ pub record ClauseExamples : Type 0 where
   pub repair-decides :
       map (meaning (repair (duty party1 a) (duty party2 b))) ((a/a ∷ []) ∷ (-/- ∷ []) ∷ (-/- ∷ -/- ∷ []) ∷ [])
       ≡ satisfied 1 ∷ undecided ∷ violated 2 (only party2) ∷ []
-  -- "each satisfaction at k begins the clause anew at k+1"; "its first violation is the whole's"
+  -- "each satisfaction at k begins the clause anew at k+1; never satisfied; its first violation is the whole's"
   pub repeat-anew : meaning (repeat (then (duty party1 a) (duty party2 b))) (a/a ∷ b/b ∷ a/a ∷ b/- ∷ []) ≡ violated 4 (only party2)
+  pub repeat-never : meaning (repeat (duty party1 a)) (a/a ∷ a/a ∷ a/a ∷ []) ≡ undecided
   pub repeat-first : meaning (repeat (duty party1 a)) (a/a ∷ -/- ∷ a/- ∷ []) ≡ violated 2 (only party1)
   -- "accepted at k, the clause reads from k+1; rejected at k, satisfied at k"
   pub when-pending : meaning (when (seq (atom any) (seq (atom any) (atom any))) (duty party1 a)) (-/- ∷ -/- ∷ []) ≡ undecided
@@ -188,8 +191,8 @@ pub record ClauseExamples : Type 0 where
   pub when-rejected-later : meaning (when (seq (atom any) tries-b) (duty party2 a)) (-/- ∷ a/a ∷ b/b ∷ []) ≡ satisfied 2
   -- "the clause's own decision if it comes no later than acceptance; otherwise satisfied at acceptance"
   pub until-own :
-      map (meaning (until (duty party1 a) (seq (atom any) tries-b))) ((a/a ∷ b/b ∷ []) ∷ (-/- ∷ b/b ∷ []) ∷ [])
-      ≡ satisfied 1 ∷ violated 1 (only party1) ∷ []
+      map (meaning (until (duty party1 a) (seq (atom any) tries-b))) ((a/a ∷ []) ∷ (a/a ∷ b/b ∷ []) ∷ (-/- ∷ []) ∷ (-/- ∷ b/b ∷ []) ∷ [])
+      ≡ satisfied 1 ∷ satisfied 1 ∷ violated 1 (only party1) ∷ violated 1 (only party1) ∷ []
   pub until-over :
       map (meaning (until (then (duty party1 a) (duty party1 a)) tries-b)) ((ab/a ∷ a/a ∷ []) ∷ (ab/a ∷ -/- ∷ []) ∷ [])
       ≡ satisfied 1 ∷ satisfied 1 ∷ []
