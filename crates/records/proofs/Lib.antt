@@ -7,3 +7,4 @@ pub mod Verdicts
 pub mod Searches
 pub mod Refusals
 pub mod Replies
+pub mod Examples

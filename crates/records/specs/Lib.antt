@@ -5,3 +5,4 @@ pub mod Verdicts
 pub mod Refusals
 pub mod Replies
 pub mod Holding
+pub mod Examples
