@@ -3,3 +3,4 @@ pub mod Forms
 pub mod Periods
 pub mod Recorded
 pub mod Traces
+pub mod Examples

@@ -4,3 +4,4 @@ pub mod Forms
 pub mod Periods
 pub mod Traces
 pub mod Computing
+pub mod Examples
