@@ -2,3 +2,4 @@
 pub mod Rows
 pub mod Images
 pub mod ImageBytes
+pub mod Examples

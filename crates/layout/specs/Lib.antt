@@ -3,3 +3,4 @@ pub mod Limits
 pub mod Rows
 pub mod Images
 pub mod Refusals
+pub mod Examples
