@@ -4,3 +4,4 @@ pub mod Soundness
 pub mod States
 pub mod Refusals
 pub mod Fresh
+pub mod Examples

@@ -4,3 +4,4 @@ pub mod States
 pub mod Verdicts
 pub mod Refusals
 pub mod Premises
+pub mod Examples
