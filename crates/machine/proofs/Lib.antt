@@ -5,3 +5,4 @@ pub mod Computing
 pub mod Deciding
 pub mod Trimming
 pub mod Steps
+pub mod Examples

@@ -2,3 +2,4 @@
 pub mod Machine
 pub mod Premises
 pub mod Computing
+pub mod Examples
