@@ -3,3 +3,4 @@ pub mod Refusals
 pub mod Calls
 pub mod StepCalls
 pub mod Runs
+pub mod Examples

@@ -2,3 +2,4 @@
 pub mod Refusals
 pub mod Calls
 pub mod StepCalls
+pub mod Examples

@@ -1,0 +1,50 @@
+-- The vectors hold of the definitions, by computation.
+use mathlib.Core.Path.{refl}
+use Rattle.records.specs.Fields.{value, bytes, field}
+use Rattle.records.specs.Marks.{marked}
+use Rattle.records.specs.Refusals.{firstFailing}
+use Rattle.records.specs.Replies.{fieldsBytes, call}
+use Rattle.periods.specs.Forms.{formOf}
+use Rattle.periods.specs.Periods.{bit, tries, periodFrom}
+use Rattle.periods.specs.Traces.{wholePeriods, markedAs, periodAt, periodsOf, marksTest, periodTest, traceTest}
+use Rattle.layout.specs.Rows.{rowOf, decode}
+use Rattle.layout.specs.Images.{rowCount, rowsOf, imageOf, goodImageLength, goodRowAt, goodEnd}
+use Rattle.layout.specs.Refusals.{imageTest}
+use Rattle.states.specs.States.{stateBytes, stateOf, allAtMost, allZero, sound}
+use Rattle.states.specs.Refusals.{stateTest, countTest}
+use Rattle.machine.specs.Machine.{newValues, valuesAfter, computed, counted, afterPeriod, afterPeriods}
+use Rattle.runner.specs.Refusals.{beginTest, readyTest, stepTest, runTest}
+use Rattle.runner.specs.Calls.{begin, step, run}
+use Rattle.runner.specs.StepCalls.{accepted, stateAfterCall, stateAfter, acceptedCount}
+use Rattle.runner.specs.Examples.{RefusalVectors, CallVectors, StepCallVectors}
+
+pub call-vectors : RefusalVectors × CallVectors × StepCallVectors
+unfolding
+    value bytes field marked firstFailing fieldsBytes call formOf bit tries periodFrom wholePeriods markedAs periodAt periodsOf marksTest
+    periodTest traceTest rowOf decode rowCount rowsOf imageOf goodImageLength goodRowAt goodEnd imageTest stateBytes stateOf allAtMost allZero sound
+    stateTest countTest newValues valuesAfter computed counted afterPeriod afterPeriods beginTest readyTest stepTest runTest begin step run
+    accepted stateAfterCall stateAfter acceptedCount
+call-vectors = (
+  record {
+    by-9 = refl;
+    by-10 = refl;
+    by-11 = refl;
+    by-12 = refl;
+    bad-row = refl;
+    bad-end = refl;
+    bad-record = refl;
+    full-at-1 = refl;
+  },
+  record {
+    begun = refl;
+    still-open = refl;
+    broken-now = refl;
+    broken-later = refl;
+    last-period = refl;
+    run-of-two = refl;
+    run-of-none = refl;
+    no-room = refl;
+    just-room = refl;
+  },
+  record { counted = refl; left = refl },
+)
