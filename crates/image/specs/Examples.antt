@@ -3,6 +3,7 @@ use Prim.Native.Nat.{ℕ, _+_}
 use mathlib.Core.List.{List, [], _∷_}
 use mathlib.Core.Path.{_≡_}
 use lib.ListN.{length, replicate}
+use Rattle.records.specs.Examples.{area}
 use Rattle.records.specs.Verdicts.{Verdict, «open», met, broken, broken-after}
 use Rattle.periods.specs.Periods.{party1, party2, Period}
 use Rattle.layout.specs.Images.{Image, rowCount}
@@ -10,6 +11,7 @@ use Rattle.states.specs.States.{State, stateOf}
 use Rattle.states.specs.Verdicts.{verdict}
 use Rattle.machine.specs.Machine.{afterPeriod}
 use Rattle.runner.specs.Calls.{begin, step}
+use Rattle.runner.specs.Examples.{reply}
 use Rattle.contract.specs.Expressions.{any, tries, idle, succeeds, fails, atom, seq, or, star}
 use Rattle.contract.specs.Meaning.{Clause, both, then, repair, repeat, when, until}
 use Rattle.contract.specs.Examples.{a, b, duty, ban, power, a/a, a/-, -/a, -/-, b/a, b/b, b/-}
@@ -93,10 +95,6 @@ watchedRecords =
     ∷ (0x54 ∷ 0x50 ∷ 0x02 ∷ 0x00 ∷ 0x00 ∷ 0x00 ∷ [])
     ∷ (0x54 ∷ 0x50 ∷ 0x01 ∷ 0x00 ∷ 0x01 ∷ 0x00 ∷ []) ∷ []
 
--- the bytes of an area, before a call writes them
-abbrev pub area : ℕ → List ℕ
-area n = replicate n 0xff
-
 -- the replies of one step call after another
 unfoldable pub repliesFrom : (image state : List ℕ) → (records : List (List ℕ)) → List (List ℕ)
 repliesFrom image state [] = []
@@ -109,11 +107,8 @@ replies contract rs =
     let image = imageFor contract in
     repliesFrom image (begin image (area (10 + rowCount image)) (area 16) .buffers) rs
 
--- an accepted step's reply: number 0, the verdict's number, place 0, blame, decision period
-abbrev pub says : (verdict blame decision : ℕ) → List ℕ
-says v p k = 0 ∷ 0 ∷ 0 ∷ 0 ∷ v ∷ 0 ∷ 0 ∷ 0 ∷ 0 ∷ 0 ∷ 0 ∷ 0 ∷ 0 ∷ 0 ∷ 0 ∷ 0 ∷ p ∷ 0 ∷ 0 ∷ 0 ∷ k ∷ 0 ∷ 0 ∷ 0 ∷ []
-
+-- number, verdict, place, blame, decision period
 pub record WatchVector : Type 0 where
   pub replied :
       replies watchedBytes watchedRecords
-      ≡ says 0 0 0 ∷ says 0 0 0 ∷ says 2 2 3 ∷ says 4 2 3 ∷ []
+      ≡ reply 0 0 0 0 0 ∷ reply 0 0 0 0 0 ∷ reply 0 2 0 2 3 ∷ reply 0 4 0 2 3 ∷ []

@@ -4,7 +4,7 @@ use Prim.Native.Nat.{ℕ}
 use mathlib.Core.List.{List, [], _∷_, _++_, map}
 use mathlib.Core.Path.{_≡_}
 use lib.ListN.{replicate}
-use Rattle.records.specs.Refusals.{numberOf, placeOf}
+use Rattle.records.specs.Examples.{numberAndPlace}
 use Rattle.periods.specs.Periods.{party1, party2}
 use Rattle.contract.specs.Expressions.{any, tries, idle, succeeds, fails, atom, seq, or, star}
 use Rattle.contract.specs.Meaning.{Clause, both, then, repair, repeat, when, until}
@@ -44,7 +44,7 @@ reads rs = read (joined rs)
 
 -- number and place of what is found; of a contract that is taken 0 and 0
 abbrev pub found : List (List ℕ) → ℕ × ℕ
-found rs = (numberOf (readTest (joined rs)), placeOf (readTest (joined rs)))
+found rs = numberAndPlace (readTest (joined rs))
 
 pub record ReaderVectors : Type 0 where
   -- ---- kinds

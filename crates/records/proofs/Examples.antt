@@ -18,6 +18,7 @@ record-vectors =
       verdict-after = refl;
       accepted = refl;
       refused = refl;
+      place-bytes = refl;
       no-room = refl;
       room = refl;
       head-read = refl;

@@ -1,7 +1,7 @@
 -- Vectors of the records, verdicts and replies. What is expected stands in numbers and bytes alone, from document 01's text.
 use Prim.Native.Nat.{ℕ}
 use mathlib.Core.Bool.{true, false}
-use mathlib.Core.List.{List, [], _∷_, map}
+use mathlib.Core.List.{List, [], _∷_, _++_, map}
 use mathlib.Core.Path.{_≡_}
 use lib.ListN.{replicate}
 use Rattle.records.specs.declared.Fault.the-variants.{BadState}
@@ -20,6 +20,14 @@ numberAndPlace t = (numberOf t, placeOf t)
 -- an area of n bytes, before a call writes it
 abbrev pub area : ℕ → List ℕ
 area n = replicate n 0xff
+
+-- a reply's first fields, of numbers below 256: number (4 bytes), the call's own (4), place (8)
+abbrev pub head : (number own place : ℕ) → List ℕ
+head number own place = number ∷ 0 ∷ 0 ∷ 0 ∷ own ∷ 0 ∷ 0 ∷ 0 ∷ place ∷ 0 ∷ 0 ∷ 0 ∷ 0 ∷ 0 ∷ 0 ∷ 0 ∷ []
+
+-- a call that leaves this buffer and this reply, and the area's one byte past it as it was
+abbrev pub leaves : (buffer reply : List ℕ) → After (List ℕ)
+leaves buffer reply = record { result = 1; buffers = buffer; reply = reply ++ (0xff ∷ []) }
 
 -- a call that answers 7 in its own field and 0x0102 behind the place, a reply of 20 bytes, with a buffer of one byte, 1 before and 2 later, and an
 -- area of n bytes
@@ -46,19 +54,12 @@ pub record RecordVectors : Type 0 where
   -- of a decision at period 2, after one, two and three periods
   pub verdict-after : map (λ (n : ℕ). verdictNumber (since 2 n met met-after)) (1 ∷ 2 ∷ 3 ∷ []) ≡ 0 ∷ 1 ∷ 3 ∷ []
   -- "An accepted call gives number 0 and place 0."; the area's byte past the reply keeps its value
-  pub accepted : callWith Passed 21
-      ≡ record {
-        result = 1;
-        buffers = 2 ∷ [];
-        reply = 0 ∷ 0 ∷ 0 ∷ 0 ∷ 7 ∷ 0 ∷ 0 ∷ 0 ∷ 0 ∷ 0 ∷ 0 ∷ 0 ∷ 0 ∷ 0 ∷ 0 ∷ 0 ∷ 2 ∷ 1 ∷ 0 ∷ 0 ∷ 0xff ∷ [];
-      }
+  pub accepted : callWith Passed 21 ≡ leaves (2 ∷ []) (head 0 7 0 ++ (2 ∷ 1 ∷ 0 ∷ 0 ∷ []))
   -- "A refusal gives its number and a place; every other field is 0 and every lent buffer but the reply's area is unchanged."
-  pub refused : callWith (Refused BadState 0x0103) 21
-      ≡ record {
-        result = 1;
-        buffers = 1 ∷ [];
-        reply = 10 ∷ 0 ∷ 0 ∷ 0 ∷ 0 ∷ 0 ∷ 0 ∷ 0 ∷ 3 ∷ 1 ∷ 0 ∷ 0 ∷ 0 ∷ 0 ∷ 0 ∷ 0 ∷ 0 ∷ 0 ∷ 0 ∷ 0 ∷ 0xff ∷ [];
-      }
+  pub refused : callWith (Refused BadState 3) 21 ≡ leaves (1 ∷ []) (head 10 0 3 ++ (0 ∷ 0 ∷ 0 ∷ 0 ∷ []))
+  -- a place has eight bytes, low byte first
+  pub place-bytes : callWith (Refused BadState 0x0102030405060708) 20 .reply
+      ≡ 10 ∷ 0 ∷ 0 ∷ 0 ∷ 0 ∷ 0 ∷ 0 ∷ 0 ∷ 8 ∷ 7 ∷ 6 ∷ 5 ∷ 4 ∷ 3 ∷ 2 ∷ 1 ∷ 0 ∷ 0 ∷ 0 ∷ 0 ∷ []
   -- "If that area is too short for the reply, the call writes nothing anywhere"
   pub no-room : callWith Passed 3 ≡ record { result = 0; buffers = 1 ∷ []; reply = 0xff ∷ 0xff ∷ 0xff ∷ [] }
   pub room : map (λ (n : ℕ). callWith Passed n .result) (19 ∷ 20 ∷ []) ≡ 0 ∷ 1 ∷ []

@@ -3,14 +3,11 @@ use Prim.Native.Nat.{ℕ, _<_}
 use mathlib.Core.List.{List, [], _∷_, _++_, map}
 use mathlib.Core.Path.{_≡_}
 use lib.ListN.{length}
+use Rattle.periods.specs.Examples.{periodRecord}
 use Rattle.reader.specs.Examples.{six, dutyBytes, repeatBytes, whenBytes, anyBytes, starBytes, joined}
 use Rattle.image.specs.Examples.{watchedBytes}
 use Rattle.report.specs.Texts.{ascii}
 use Rattle.report.specs.Reports.{report}
-
--- a period record, of masks below 256
-abbrev pub periodRecord : (one two : ℕ) → List ℕ
-periodRecord one two = 0x54 ∷ 0x50 ∷ one ∷ 0x00 ∷ two ∷ 0x00 ∷ []
 
 pub record ReportVectors : Type 0 where
   pub watched :

@@ -4,24 +4,16 @@ use mathlib.Core.List.{List, [], _∷_, _++_, map}
 use mathlib.Core.Path.{_≡_}
 use lib.ListN.{replicate}
 use Rattle.records.specs.Replies.{After}
-use Rattle.records.specs.Examples.{area}
+use Rattle.records.specs.Examples.{area, head, leaves}
 use Rattle.periods.specs.Examples.{periodRecord, otherRecord}
 use Rattle.layout.specs.Examples.{row, end}
 use Rattle.states.specs.Examples.{state}
 use Rattle.runner.specs.Calls.{begin, step, run}
 use Rattle.runner.specs.StepCalls.{StepCall, stateAfter, acceptedCount}
 
--- begin's reply: number (4 bytes), 0 (4), place (8); all below 256 here
-abbrev pub head : (number own place : ℕ) → List ℕ
-head number own place = number ∷ 0 ∷ 0 ∷ 0 ∷ own ∷ 0 ∷ 0 ∷ 0 ∷ place ∷ 0 ∷ 0 ∷ 0 ∷ 0 ∷ 0 ∷ 0 ∷ 0 ∷ []
-
--- step's and run's: number, verdict, place, then blame (4) and decision period (4)
+-- step's and run's reply: number, verdict, place, then blame (4 bytes) and decision period (4)
 abbrev pub reply : (number verdict place blame decision : ℕ) → List ℕ
 reply number verdict place blame decision = head number verdict place ++ (blame ∷ 0 ∷ 0 ∷ 0 ∷ decision ∷ 0 ∷ 0 ∷ 0 ∷ [])
-
--- a call that leaves this state and this reply, and the area's one byte past it as it was
-abbrev pub leaves : (state reply : List ℕ) → After (List ℕ)
-leaves state reply = record { result = 1; buffers = state; reply = reply ++ (0xff ∷ []) }
 
 -- step and run on one record
 abbrev pub stepAndRun : (image state period : List ℕ) → List (After (List ℕ))
