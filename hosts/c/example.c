@@ -12,7 +12,7 @@ enum {
     CORRECTION = 1 /* the plugin hands over a correction, the host takes it */
 };
 
-/* In each recalculation the plugin owes its values, or if that fails, a correction in the next one. */
+/* Again and again the plugin owes its values, or if that fails, a correction in the next recalculation. */
 /* Operands stand before their operator: repeat (repair (duty values, duty correction)). */
 static const uint8_t contract[] = {
     MONITOR_RECORD(MONITOR_KIND_DUTY, PLUGIN, VALUES),

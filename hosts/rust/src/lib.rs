@@ -3,7 +3,8 @@
 //! A contract binds two parties, say a plugin and the host that runs it. In each period (say a
 //! recalculation) each party tries some actions; an action succeeds when both try it. The monitor
 //! is given both parties' attempts and says whether the contract is open, met or broken, since
-//! which period, and who is to blame. "Document 01" in these pages is the monitor's definition.
+//! which period, and who is to blame. `docs/FORMAT.md` says what contracts, periods, images and
+//! states are; it says what "document 01" says, which these pages cite.
 //!
 //! A host builds a [`Clause`] and makes a [`Contract`] from it, compiles that to an [`Image`] once,
 //! begins a [`Monitor`] for each spreadsheet under the contract, and steps each of them with

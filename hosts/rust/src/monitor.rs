@@ -7,8 +7,9 @@ use crate::{answers, Image, Period, Refusal, Reply, RunReply};
 
 /// A contract under way: its image and a state.
 ///
-/// Its state is sound, of the image's length, and written by nobody else, so typed calls are
-/// refused only where the count of periods is full (refusal 12). A refused call changes nothing.
+/// Its state is sound, has 10 + rows bytes, and is written by nobody else, so [`step`](Monitor::step)
+/// and [`run`](Monitor::run) are refused only where the count of periods is full (refusal 12). A
+/// refused call changes nothing.
 #[derive(Clone, Debug, PartialEq, Eq)]
 pub struct Monitor {
     image: Image,
@@ -31,8 +32,8 @@ impl Monitor {
     /// Goes on from a stored state, as [`state`](Monitor::state) gave it. A run of no records
     /// checks it.
     ///
-    /// The check is that the state is sound and has the image's length. That it was left by this
-    /// very image isn't to be seen from it: store the two together.
+    /// The check is that the state has 10 + rows bytes and is sound. That it was left by this very
+    /// image isn't to be seen from it: store the two together.
     ///
     /// # Errors
     /// Refusal 10, if the state's length is wrong or it isn't sound.

@@ -34,7 +34,8 @@ impl Period {
         Period { one, two }
     }
 
-    /// The period in which party 1 tries the first actions and party 2 the second.
+    /// The period in which party 1 tries the actions of the first list, and party 2 those of the
+    /// second.
     #[must_use]
     pub fn from_actions(one: &[Action], two: &[Action]) -> Period {
         let mask = |actions: &[Action]| actions.iter().fold(0, |mask, a| mask | a.bit());
