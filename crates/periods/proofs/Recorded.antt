@@ -25,8 +25,8 @@ pub record Recorded (x : Period) : Type 0 where
   pub holds : periodAt record-bytes 0 ≡ x
 
 -- the period without the bits above the last action
-abbrev pub stripped : Period → Period
-stripped x = record { attempts1 = x .attempts1 % 2 ^ actions; attempts2 = x .attempts2 % 2 ^ actions }
+abbrev pub masked : Period → Period
+masked x = record { attempts1 = x .attempts1 % 2 ^ actions; attempts2 = x .attempts2 % 2 ^ actions }
 
 -- ---- it has the same attempts
 
@@ -39,10 +39,10 @@ low-bit mask n a h =
     let i : mask % 2 ^ n / 2 ^ a % 2 ≡ mask / 2 ^ a % 2 = rw (e, Pow.field mask (j + 1) a) (Pow.mod-mod-pow (mask / 2 ^ a) j 1) in
     rw i
 
-pub stripped-tries : (x : Period) (p : Party) (a : ℕ) → a < actions → tries (stripped x) p a ≡ tries x p a
+pub masked-tries : (x : Period) (p : Party) (a : ℕ) → a < actions → tries (masked x) p a ≡ tries x p a
 unfolding tries
-stripped-tries x party1 a h = low-bit (x .attempts1) actions a h
-stripped-tries x party2 a h = low-bit (x .attempts2) actions a h
+masked-tries x party1 a h = low-bit (x .attempts1) actions a h
+masked-tries x party2 a h = low-bit (x .attempts2) actions a h
 
 -- ---- and a record holds it
 
@@ -50,9 +50,9 @@ both-bytes : (m n : ℕ) → AllBytes (bytes 2 m ++ bytes 2 n)
 unfolding bytes
 both-bytes m n = allBelow-cons (mod-lt m (lit< tt)) (allBelow-cons (mod-lt (m / 256) (lit< tt)) (allBytes-bytes 2 n))
 
-pub stripped-recorded : (x : Period) → Recorded (stripped x)
+pub masked-recorded : (x : Period) → Recorded (masked x)
 unfolding periodTest marksTest wholePeriods formOf markedAs marked firstFailing periodAt periodFrom field value bytes
-stripped-recorded x =
+masked-recorded x =
     record {
       record-bytes = periodMark ++ bytes 2 (x .attempts1) ++ bytes 2 (x .attempts2);
       are-bytes = allBelow-cons (lit< tt) (allBelow-cons (lit< tt) (both-bytes (x .attempts1) (x .attempts2)));

@@ -9,7 +9,7 @@ use lib.ListN.{length, take, drop}
 use Rattle.periods.specs.Limits.{actions}
 use Rattle.periods.specs.Periods.{Party, party1, party2, other, Period, tries}
 use Rattle.periods.specs.Periods as Periods
-use Rattle.periods.proofs.Recorded.{Recorded, stripped, stripped-tries, stripped-recorded}
+use Rattle.periods.proofs.Recorded.{Recorded, masked, masked-tries, masked-recorded}
 use Rattle.contract.specs.Expressions.{Atom, any, idle, succeeds, fails, holds, Expression, Holds, one, join, left, right, none, more, member, begins}
 use Rattle.contract.specs.Expressions as Expressions
 use Rattle.contract.specs.Readings.{Dead, Reading, pending, accepted, rejected, judged, readingTo, reading}
@@ -175,23 +175,23 @@ pub data AllRecorded : List Period → Type 0 where
   end : AllRecorded []
   next : {x : Period} {w : List Period} → Recorded x → AllRecorded w → AllRecorded (x ∷ w)
 
-stripped-alike : (w : List Period) → AllAlike (map stripped w) w
-stripped-alike [] = end
-stripped-alike (x ∷ w) = next record { same = stripped-tries x } (stripped-alike w)
+masked-alike : (w : List Period) → AllAlike (map masked w) w
+masked-alike [] = end
+masked-alike (x ∷ w) = next record { same = masked-tries x } (masked-alike w)
 
-stripped-all : (w : List Period) → AllRecorded (map stripped w)
-stripped-all [] = end
-stripped-all (x ∷ w) = next (stripped-recorded x) (stripped-all w)
+masked-all : (w : List Period) → AllRecorded (map masked w)
+masked-all [] = end
+masked-all (x ∷ w) = next (masked-recorded x) (masked-all w)
 
 -- accepted and rejected at the same periods, if at any
-pub reading-stripped : (e : Expression) → ExpressionInRange e → (w : List Period) → reading e (map stripped w) ≡ reading e w
-reading-stripped e r w = reading-alike e r (stripped-alike w)
+pub reading-masked : (e : Expression) → ExpressionInRange e → (w : List Period) → reading e (map masked w) ≡ reading e w
+reading-masked e r w = reading-alike e r (masked-alike w)
 
-pub meaning-stripped : (c : Clause) → InRange c → (w : List Period) → meaning c (map stripped w) ≡ meaning c w
-meaning-stripped c r w = meaning-alike c r (map stripped w) w (stripped-alike w)
+pub meaning-masked : (c : Clause) → InRange c → (w : List Period) → meaning c (map masked w) ≡ meaning c w
+meaning-masked c r w = meaning-alike c r (map masked w) w (masked-alike w)
 
 -- "no list at all" of periods that records can hold is no list at all
 pub dead-recorded : (e : Expression) → ExpressionInRange e → (w : List Period)
     → Dead e w ↔ ((v : List Period) → AllRecorded v → ¬ Holds e (w ++ v))
 dead-recorded e r w =
-    (λ d v a. d v, λ d v h. d (map stripped v) (stripped-all v) (held-alike r h (alike-join (all-same w) (alike-back (stripped-alike v)))))
+    (λ d v a. d v, λ d v h. d (map masked v) (masked-all v) (held-alike r h (alike-join (all-same w) (alike-back (masked-alike v)))))
