@@ -20,7 +20,7 @@ use Rattle.contract.specs.Meaning.{Clause}
 use Rattle.reader.specs.Spelling.{Spells}
 use Rattle.reader.specs.Reader.{taken, read, contractRecords}
 use Rattle.reader.proofs.Reader.{spells-taken}
-use Rattle.image.specs.Limits.{bufferBytes}
+use Rattle.image.specs.Limits.{bufferFor}
 use Rattle.image.specs.Images.{imageFor}
 use Rattle.image.proofs.Images.{right-for, sized-for}
 use Rattle.image.proofs.Monitors.{monitors}
@@ -31,7 +31,7 @@ use Rattle.compiler.specs.Calls.{firstImage, compile, Usable, Compiles}
 -- ---- the image and the reply in their places
 
 module _ (contract buffer reply : List ℕ) (c : Clause) (s : Spells contract c) (h : headSize ≤ length reply)
-    (i : bufferBytes (contractRecords contract) ≤ length buffer) where
+    (i : bufferFor contract ≤ length buffer) where
   e : read contract ≡ taken c
   e = spells-taken contract c s
 

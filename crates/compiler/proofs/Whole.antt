@@ -15,7 +15,11 @@ use Rattle.layout.proofs.ImageBytes.{length-rowsBytes, rowCount-imageBytes}
 use Rattle.contract.specs.Meaning.{Clause}
 use Rattle.reader.specs.Limits.{recordBytes}
 use Rattle.reader.specs.Table.{clause}
+use Rattle.reader.specs.Spelling.{records, windows}
+use Rattle.reader.specs.Reader.{contractRecords, contractWindows}
 use Rattle.reader.proofs.Spelling.{length-spell}
+use Rattle.reader.proofs.Reader.{taken-count}
+use Rattle.reader.proofs.WindowSum.{spelled-windows, windows-max}
 use Rattle.image.specs.Widths.{neverRow, firstRow, laterRow, fixedRows, afterClause}
 use Rattle.image.specs.Blocks.{clauseRows}
 use Rattle.image.specs.Images as Images
@@ -83,9 +87,15 @@ module _ (contract : List ℕ) (n : ℕ) (image : List ℕ) (w : Writes contract
         spelled = take-all (recordBytes * n) contract (omega (arith, length-contract)) ∙ w .taken .spells .bytes;
       }
 
+  records-are : contractRecords contract ≡ records c
+  records-are = taken-count contract c (w .taken .is)
+
+  windows-are : contractWindows contract ≡ windows c
+  windows-are = spelled-windows contract c (w .taken .spells)
+
   -- there is room for the rows and the end record
   room : rowBytes * (afterClause c fixedRows + 1) ≤ length image
-  room = omega (arith, after-rows c, rows-allowed c, w .taken .count, w .room)
+  room = omega (arith, after-rows c, rows-allowed c, records-are, windows-are, w .room)
 
   pub emits : Emits contract n (withFixedRows image) fixedRows firstRow laterRow
   emits =
@@ -95,7 +105,7 @@ module _ (contract : List ℕ) (n : ℕ) (image : List ℕ) (w : Writes contract
         tree = c;
         ends = ends;
         room = rw length-written (omega (arith, room));
-        few = omega (arith, after-rows c, rows-allowed c, w .taken .spells .few-records);
+        few = omega (arith, after-rows c, rows-allowed c, windows-max c (w .taken .spells .in-range), w .taken .spells .few-records);
         begins = omega arith;
         goes-on = omega arith;
       }

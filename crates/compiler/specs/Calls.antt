@@ -14,7 +14,7 @@ use Rattle.layout.specs.Refusals.{imageTest}
 use Rattle.contract.specs.Meaning.{Clause}
 use Rattle.reader.specs.Spelling.{Spells}
 use Rattle.reader.specs.Reader.{contractRecords}
-use Rattle.image.specs.Limits.{allowedRows, bufferBytes}
+use Rattle.image.specs.Limits.{allowedFor, bufferFor}
 use Rattle.image.specs.Images.{imageFor}
 use Rattle.image.specs.Monitors.{Monitors}
 use Rattle.compiler.specs.Refusals.{compileTest}
@@ -29,12 +29,12 @@ compile contract buffer reply =
 abbrev pub firstImage : (count : ℕ) (buffer : List ℕ) → List ℕ
 firstImage count buffer = take (rowBytes * (count + 1)) buffer
 
--- What a host may rely on in the bytes at exit: the reply gives number 0 and a row count, at most 32 × records + 64, and the image of so many rows is
--- a good one that monitors the contract.
+-- What a host may rely on in the bytes at exit: the reply gives number 0 and a row count, at most 32 × records + 64 and 4 more for each
+-- period of each window, and the image of so many rows is a good one that monitors the contract.
 pub record Usable (contract buffer reply : List ℕ) : Type 0 where
   pub count : ℕ
   pub head-is : headOf reply ≡ record { number = 0; own = count; place = 0 }
-  pub few : count ≤ allowedRows (contractRecords contract)
+  pub few : count ≤ allowedFor contract
   pub rows : rowCount (firstImage count buffer) ≡ count
   pub good : imageTest (firstImage count buffer) ≡ Passed
   pub monitors : Monitors contract (firstImage count buffer)
@@ -47,5 +47,5 @@ pub record Compiles (contract buffer reply : List ℕ) (result : ℕ) (later-buf
   pub gives : Gives (compile contract buffer reply) result later-buffer later-reply
   pub takes : headSize ≤ length reply
       → ((headOf later-reply .number ≡ 0) ⊎ (headOf later-reply .number ≡ 8)) ↔ ((c : Clause) × Spells contract c)
-  pub usable : (c : Clause) → Spells contract c → headSize ≤ length reply → bufferBytes (contractRecords contract) ≤ length buffer
+  pub usable : (c : Clause) → Spells contract c → headSize ≤ length reply → bufferFor contract ≤ length buffer
       → Usable contract later-buffer later-reply

@@ -42,8 +42,10 @@ fn put_image(contract: &[u8], n: usize, image: &mut [u8]) -> u32
 // Compile's reply: number (4 bytes), rows (4), place (8).
 pub const COMPILE_REPLY_BYTES: usize = records::REPLY_HEAD;
 
-// An image buffer must have room for so many rows for each record, and so many more with the end record.
+// An image buffer must have room for so many rows for each record, so many for each period of each window, and so many more with the end record.
 const RECORD_ROWS: usize = 32;
+
+const WINDOW_ROWS: usize = 4;
 
 const MORE_ROWS: usize = 65;
 
@@ -56,7 +58,8 @@ fn compile_test(contract: &[u8], image: &[u8]) -> Test
         return t;
     };
     let n = reader::contract_records(contract);
-    if image.len() < layout::ROW_BYTES * (RECORD_ROWS * n + MORE_ROWS) {
+    let windows = reader::windows(contract, n);
+    if image.len() < layout::ROW_BYTES * (RECORD_ROWS * n + WINDOW_ROWS * windows + MORE_ROWS) {
         return Test::Refused(Fault::ShortBuffer, 0);
     }
     Test::Passed

@@ -3,11 +3,11 @@ use mathlib.Core.Path.{refl}
 use Rattle.periods.specs.Periods.{tries, succeeds, bit}
 use Rattle.contract.specs.Expressions.{holds, splits, joins, member, begins, holdsEmpty}
 use Rattle.contract.specs.Readings.{readingTo, reading}
-use Rattle.contract.specs.Meaning.{repeatMeaning, meaning}
-use Rattle.contract.specs.Examples.{WorkedExamples, StudentExamples, ExpressionExamples, ClauseExamples, VerdictExamples}
+use Rattle.contract.specs.Meaning.{repeatMeaning, firstSuccess, meaning}
+use Rattle.contract.specs.Examples.{WorkedExamples, StudentExamples, ExpressionExamples, ClauseExamples, VerdictExamples, DeadlineExamples}
 
-pub examples : WorkedExamples × StudentExamples × ExpressionExamples × ClauseExamples × VerdictExamples
-unfolding meaning repeatMeaning reading readingTo member begins holdsEmpty splits joins holds tries succeeds bit
+pub examples : WorkedExamples × StudentExamples × ExpressionExamples × ClauseExamples × VerdictExamples × DeadlineExamples
+unfolding meaning repeatMeaning firstSuccess reading readingTo member begins holdsEmpty splits joins holds tries succeeds bit
 examples = (
   record {
     duty-on-none = refl;
@@ -81,5 +81,22 @@ examples = (
     broken-at-2 = refl;
     broken-by-both = refl;
     watched = refl;
+  },
+  record {
+    met-in-window = refl;
+    open-in-window = refl;
+    missed1 = refl;
+    missed2 = refl;
+    nothing-after = refl;
+    window-of-1 = refl;
+    window-of-15 = refl;
+    begun-anew = refl;
+    no-living-window = refl;
+    no-living-success = refl;
+    no-living-deadline = refl;
+    repaired-after-window = refl;
+    begun-later = refl;
+    accepted-in-window = refl;
+    told-missed = refl;
   },
 )

@@ -15,9 +15,10 @@ use Rattle.records.proofs.Written.{drop-take}
 use Rattle.periods.specs.Periods.{Party, other, Period, tries}
 use Rattle.contract.specs.Expressions.{Expression, Holds}
 use Rattle.contract.specs.Readings.{Reading, pending, accepted, rejected, reading}
-use Rattle.contract.specs.Meaning.{Literal, duty, ban, power, Clause, literal, both, then, repair, repeat, when, until, Blame, bothParties, unite, Decision, undecided, satisfied, violated, literalDecision, literalMeaning, earlier, bothMeaning, later, after, thenMeaning, repairMeaning, repeatMeaning, whenMeaning, noLater, untilMeaning, meaning, EmptyFree}
+use Rattle.contract.specs.Meaning.{Literal, duty, ban, power, Clause, literal, deadline, both, then, repair, repeat, when, until, Blame, bothParties, unite, Decision, undecided, satisfied, violated, literalDecision, literalMeaning, earlier, bothMeaning, later, after, thenMeaning, repairMeaning, repeatMeaning, whenMeaning, noLater, untilMeaning, meaning, EmptyFree}
 use Rattle.contract.specs.Verdicts.{decisionPeriod}
 use Rattle.contract.proofs.Expressions.{some-list}
+use Rattle.contract.proofs.Windows.{deadline-none, deadline-one, deadline-more}
 use Rattle.contract.proofs.Readings.{accepted-iff, rejected-iff, readingBy, reading-take}
 
 -- what has been decided by period n
@@ -121,11 +122,25 @@ within-repeat m bounded zero w = tt
 within-repeat m bounded (suc f) w =
     within-then (length w) (m w) (after (repeatMeaning m f) w) (bounded w) (within-after (repeatMeaning m f) (within-repeat m bounded f) w)
 
+within-first : (l : Literal) (p : Party) (a : ℕ) (w : List Period) → Within (length w) (meaning (literal l p a) w)
+unfolding meaning
+within-first l p a [] = tt
+within-first l p a (x ∷ w) = within-literal l p (tries x p a) (tries x (other p) a) (length w)
+
+within-deadline : (p : Party) (a d : ℕ) (w : List Period) → Within (length w) (meaning (deadline p a d) w)
+unfolding meaning
+within-deadline p a zero w = rw (deadline-none p a w) (within-first duty p a w)
+within-deadline p a (suc zero) w = rw (deadline-one p a w) (within-first duty p a w)
+within-deadline p a (suc (suc n)) w =
+    rw (deadline-more p a n w)
+    (within-repair (length w) (meaning (literal duty p a) w) (after (meaning (deadline p a (suc n))) w) (within-first duty p a w)
+    (within-after (meaning (deadline p a (suc n))) (within-deadline p a (suc n)) w))
+
 -- the deciding period lies between 1 and the length
 pub decision-within : (c : Clause) → EmptyFree c → (w : List Period) → Within (length w) (meaning c w)
 unfolding meaning EmptyFree
-decision-within (literal l p a) g [] = tt
-decision-within (literal l p a) g (x ∷ w) = within-literal l p (tries x p a) (tries x (other p) a) (length w)
+decision-within (literal l p a) g w = within-first l p a w
+decision-within (deadline p a d) g w = within-deadline p a d w
 decision-within (both l r) g w = within-both (length w) (meaning l w) (meaning r w) (decision-within l (g .0) w) (decision-within r (g .1) w)
 decision-within (then l r) g w =
     within-then (length w) (meaning l w) (after (meaning r) w) (decision-within l (g .0) w) (within-after (meaning r) (decision-within r (g .1)) w)
@@ -336,13 +351,27 @@ module _ (m : List Period → Decision) (bounded : (w : List Period) → Within 
 literal-by-now : (l : Literal) (p : Party) (s t : Bool) (n : ℕ) → literalDecision l p s t ≡ decidedBy (suc n) (literalDecision l p s t)
 literal-by-now l p s t n = sym (by-now (suc n) (literalDecision l p s t) (within-period (suc n) (literalDecision l p s t) (within-literal l p s t n)))
 
+stable-literal : (l : Literal) (p : Party) (a : ℕ) → Stable (meaning (literal l p a))
+unfolding meaning
+stable-literal l p a zero [] = refl
+stable-literal l p a zero (x ∷ w) = sym (not-at-start 1 (literalMeaning l p a (x ∷ w)) (within-literal l p (tries x p a) (tries x (other p) a) 0))
+stable-literal l p a (suc n) [] = refl
+stable-literal l p a (suc n) (x ∷ w) = literal-by-now l p (tries x p a) (tries x (other p) a) n
+
+stable-deadline : (p : Party) (a d : ℕ) → Stable (meaning (deadline p a d))
+unfolding meaning
+stable-deadline p a zero n w = rw (deadline-none p a w, deadline-none p a (take n w)) (stable-literal duty p a n w)
+stable-deadline p a (suc zero) n w = rw (deadline-one p a w, deadline-one p a (take n w)) (stable-literal duty p a n w)
+stable-deadline p a (suc (suc d)) n w =
+    rw (deadline-more p a d w, deadline-more p a d (take n w), stable-literal duty p a n w)
+    (by-repair (meaning (deadline p a (suc d))) (meaning (deadline p a (suc d))) n w (meaning (literal duty p a) w)
+    (λ k h. stable-deadline p a (suc d) (n - k) (drop k w)))
+
 -- what a clause means on the first n periods is what it has decided by period n
 pub stable : (c : Clause) → EmptyFree c → Stable (meaning c)
 unfolding meaning EmptyFree
-stable (literal l p a) g zero [] = refl
-stable (literal l p a) g zero (x ∷ w) = sym (not-at-start 1 (literalMeaning l p a (x ∷ w)) (within-literal l p (tries x p a) (tries x (other p) a) 0))
-stable (literal l p a) g (suc n) [] = refl
-stable (literal l p a) g (suc n) (x ∷ w) = literal-by-now l p (tries x p a) (tries x (other p) a) n
+stable (literal l p a) g n w = stable-literal l p a n w
+stable (deadline p a d) g n w = stable-deadline p a d n w
 stable (both l r) g n w = rw (stable l (g .0) n w, stable r (g .1) n w) (by-both n (meaning l w) (meaning r w))
 stable (then l r) g n w =
     rw (stable l (g .0) n w) (by-then (meaning r) (meaning r) n w (meaning l w) (λ k e h. stable r (g .1) (n - k) (drop k w)))

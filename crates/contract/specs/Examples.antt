@@ -1,15 +1,15 @@
--- The worked examples. Document 01, "Contracts and examples", "What students hand in" and "Watch".
+-- The worked examples. Document 01, "Contracts and examples", "What students hand in" and "Watch"; of deadlines document 02, card 1.
 use Prim.Native.Nat.{ℕ}
 use Prim.Native.String.{String}
 use mathlib.Core.Bool.{true, false}
-use mathlib.Core.List.{List, [], _∷_, map}
+use mathlib.Core.List.{List, [], _∷_, _++_, map}
 use mathlib.Core.Path.{_≡_}
-use lib.ListN.{take}
+use lib.ListN.{take, replicate}
 use Rattle.records.specs.Verdicts.{verdictNumber, verdictName}
 use Rattle.periods.specs.Periods.{Party, party1, party2, Period}
 use Rattle.contract.specs.Expressions.{any, tries, idle, succeeds, fails, Expression, atom, seq, or, star, holdsEmpty}
 use Rattle.contract.specs.Readings.{Reading, pending, accepted, rejected, reading}
-use Rattle.contract.specs.Meaning.{Literal, Clause, literal, both, then, repair, repeat, when, until, only, bothParties, Decision, undecided, satisfied, violated, meaning}
+use Rattle.contract.specs.Meaning.{Literal, Clause, literal, deadline, both, then, repair, repeat, when, until, only, bothParties, Decision, undecided, satisfied, violated, meaning}
 use Rattle.contract.specs.Verdicts.{verdict, blame, decisionPeriod}
 
 -- "a, b are actions 0, 1"
@@ -219,3 +219,72 @@ pub record VerdictExamples : Type 0 where
   pub watched :
       map (told (repeat (repair (duty party1 a) (duty party1 b))) (a/a ∷ -/- ∷ b/- ∷ a/a ∷ [])) (1 ∷ 2 ∷ 3 ∷ 4 ∷ [])
       ≡ ("open", 0, 0, 0) ∷ ("open", 0, 0, 0) ∷ ("broken", 2, 2, 3) ∷ ("broken-after", 4, 2, 3) ∷ []
+
+-- document 02, card 1; what a wrong reading would give stands in brackets
+pub record DeadlineExamples : Type 0 where
+  -- "satisfied in the first of its d periods in which both try"
+  pub met-in-window :
+      map (meaning (deadline party1 a 3)) ((a/a ∷ []) ∷ (-/- ∷ a/a ∷ []) ∷ (a/- ∷ -/a ∷ a/a ∷ []) ∷ [])
+      ≡ satisfied 1 ∷ satisfied 2 ∷ satisfied 3 ∷ []
+  -- open before the d-th period, also where the parties try in different periods or another action succeeds
+  pub open-in-window :
+      map (meaning (deadline party1 a 3)) ([] ∷ (-/- ∷ []) ∷ (a/- ∷ -/a ∷ []) ∷ (b/b ∷ b/b ∷ []) ∷ [])
+      ≡ undecided ∷ undecided ∷ undecided ∷ undecided ∷ []
+  -- "violated at the d-th, with a plain duty's blame for that period" (the other party, by an earlier period; both, by all periods)
+  pub missed1 :
+      map (meaning (deadline party1 a 3)) ((a/- ∷ a/- ∷ -/- ∷ []) ∷ (-/- ∷ -/a ∷ a/- ∷ []) ∷ (a/- ∷ a/- ∷ -/a ∷ []) ∷ [])
+      ≡ violated 3 (only party1) ∷ violated 3 (only party2) ∷ violated 3 (only party1) ∷ []
+  pub missed2 :
+      map (meaning (deadline party2 a 3)) ((-/a ∷ -/a ∷ -/- ∷ []) ∷ (-/a ∷ -/a ∷ a/- ∷ []) ∷ (-/- ∷ a/- ∷ -/a ∷ []) ∷ [])
+      ≡ violated 3 (only party2) ∷ violated 3 (only party2) ∷ violated 3 (only party1) ∷ []
+  -- no period after the decision counts (satisfied at 3; violated at 3 or at 5; satisfied at 4)
+  pub nothing-after :
+      map (meaning (deadline party1 a 3)) ((a/a ∷ a/a ∷ a/a ∷ []) ∷ (-/- ∷ a/a ∷ -/- ∷ -/- ∷ -/- ∷ []) ∷ (-/- ∷ -/- ∷ a/- ∷ a/a ∷ []) ∷ [])
+      ≡ satisfied 1 ∷ satisfied 2 ∷ violated 3 (only party2) ∷ []
+  -- the least window and the greatest
+  pub window-of-1 :
+      map (λ p. meanings (deadline p a 1)) (party1 ∷ party2 ∷ [])
+      ≡ (satisfied 1 ∷ violated 1 (only party2) ∷ violated 1 (only party1) ∷ violated 1 (only party1) ∷ [])
+      ∷ (satisfied 1 ∷ violated 1 (only party2) ∷ violated 1 (only party1) ∷ violated 1 (only party2) ∷ []) ∷ []
+  pub window-of-15 :
+      map (meaning (deadline party1 a 15)) (replicate 14 -/- ∷ (replicate 14 -/- ++ (a/a ∷ [])) ∷ (replicate 14 a/- ++ (-/- ∷ [])) ∷ [])
+      ≡ undecided ∷ satisfied 15 ∷ violated 15 (only party1) ∷ []
+  -- met in period 2, it is begun anew in period 3 (violated at 3, counted from period 1; at 4, from period 2)
+  pub begun-anew :
+      map (meaning (repeat (deadline party1 a 3)))
+      ((-/- ∷ a/a ∷ a/- ∷ a/- ∷ []) ∷ (-/- ∷ a/a ∷ a/- ∷ a/- ∷ a/a ∷ []) ∷ (-/- ∷ a/a ∷ a/- ∷ a/- ∷ -/a ∷ []) ∷ [])
+      ≡ undecided ∷ undecided ∷ violated 5 (only party1) ∷ []
+  -- the deadline of period 1 dies with `both` in period 1: it is not missed in period 3, so nothing is to be repaired in period 4 (violated at 4)
+  pub no-living-window :
+      map (meaning (repeat (repair (both (duty party1 b) (deadline party1 a 3)) (ban party1 b))))
+      ((-/- ∷ -/- ∷ b/b ∷ b/b ∷ []) ∷ (-/- ∷ -/- ∷ b/b ∷ b/b ∷ -/- ∷ b/b ∷ []) ∷ [])
+      ≡ undecided ∷ violated 6 (only party1) ∷ []
+  -- nor is it met in period 2, so `both` is not satisfied in period 3 and b is not owed in period 4 (violated at 5)
+  pub no-living-success :
+      map (meaning (repeat (repair (both (deadline party1 a 3) (duty party1 b)) (ban party1 b))))
+      ((-/- ∷ a/a ∷ b/b ∷ -/- ∷ b/b ∷ []) ∷ (-/- ∷ a/a ∷ b/b ∷ -/- ∷ b/b ∷ b/b ∷ []) ∷ [])
+      ≡ undecided ∷ violated 6 (only party1) ∷ []
+  -- it dies with the `until` that finished in period 1 (violated at 3)
+  pub no-living-deadline :
+      map (meaning (repeat (until (deadline party1 a 3) tries-b))) ((b/- ∷ -/- ∷ -/- ∷ []) ∷ (b/- ∷ -/- ∷ -/- ∷ a/- ∷ []) ∷ [])
+      ≡ undecided ∷ violated 4 (only party2) ∷ []
+  -- missed, it is repaired from period d + 1 on (satisfied or violated at 1, 2 or 3)
+  pub repaired-after-window :
+      map (meaning (repair (deadline party1 a 3) (duty party2 b)))
+      ((-/- ∷ -/- ∷ a/a ∷ []) ∷ (b/b ∷ b/b ∷ b/b ∷ []) ∷ (b/b ∷ b/b ∷ b/b ∷ b/- ∷ []) ∷ (b/- ∷ b/- ∷ b/- ∷ []) ∷ (b/- ∷ b/- ∷ b/- ∷ b/b ∷ []) ∷ [])
+      ≡ satisfied 3 ∷ undecided ∷ violated 4 (only party2) ∷ undecided ∷ satisfied 4 ∷ []
+  -- begun in period 2 by `then`, `repair` and `when`, its window is counted from there (satisfied at 1, violated at 2)
+  pub begun-later :
+      map
+      (λ c. map (meaning c) ((a/a ∷ -/- ∷ []) ∷ (a/a ∷ -/- ∷ a/a ∷ []) ∷ (a/a ∷ a/- ∷ -/a ∷ []) ∷ []))
+      (then (duty party1 a) (deadline party1 a 2) ∷ repair (duty party1 b) (deadline party1 a 2) ∷ when tries-a (deadline party1 a 2) ∷ [])
+      ≡ replicate 3 (undecided ∷ satisfied 3 ∷ violated 3 (only party1) ∷ [])
+  -- acceptance in the d-th period does not undo its violation there (satisfied at 3); acceptance before satisfies
+  pub accepted-in-window :
+      map (meaning (until (deadline party1 a 3) (seq any* tries-b)))
+      ((-/- ∷ -/- ∷ b/a ∷ []) ∷ (-/- ∷ -/- ∷ ab/a ∷ []) ∷ (-/- ∷ b/- ∷ -/- ∷ []) ∷ (a/a ∷ b/- ∷ []) ∷ (-/- ∷ -/- ∷ a/- ∷ b/- ∷ []) ∷ [])
+      ≡ violated 3 (only party1) ∷ satisfied 3 ∷ satisfied 2 ∷ satisfied 1 ∷ violated 3 (only party2) ∷ []
+  -- what is told of it
+  pub told-missed :
+      map (told (deadline party1 a 2) (a/- ∷ -/- ∷ a/a ∷ [])) (0 ∷ 1 ∷ 2 ∷ 3 ∷ [])
+      ≡ ("open", 0, 0, 0) ∷ ("open", 0, 0, 0) ∷ ("broken", 2, 1, 2) ∷ ("broken-after", 4, 1, 2) ∷ []

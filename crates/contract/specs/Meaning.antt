@@ -1,11 +1,11 @@
 -- Clauses, their decisions and blame, and what a clause means on a list of periods.
--- Document 01, "Meaning of clauses".
-use Prim.Native.Nat.{ℕ, zero, suc, _+_, max}
+-- Document 01, "Meaning of clauses"; of kind 10 document 02, card 1.
+use Prim.Native.Nat.{ℕ, zero, suc, _+_, _-_, max}
 use mathlib.Core.Bool.{Bool, true, false, cond}
 use mathlib.Core.List.{List, [], _∷_}
 use lib.Dec.{leb, ltb}
-use lib.ListN.{length, drop}
-use Rattle.periods.specs.Periods.{Party, party1, party2, other, Period, tries}
+use lib.ListN.{length, take, drop}
+use Rattle.periods.specs.Periods.{Party, party1, party2, other, Period, tries, succeeds}
 use Rattle.contract.specs.Expressions.{Expression, Holds}
 use Rattle.contract.specs.Readings.{Reading, pending, accepted, rejected, reading}
 
@@ -13,9 +13,10 @@ use Rattle.contract.specs.Readings.{Reading, pending, accepted, rejected
 pub data Literal : Type 0 where
   duty ban power : Literal
 
--- kinds 1 to 9
+-- kinds 1 to 10; a deadline has a party, an action and a window
 pub data Clause : Type 0 where
   literal : Literal → Party → ℕ → Clause
+  deadline : Party → (action window : ℕ) → Clause
   both : Clause → Clause → Clause
   then : Clause → Clause → Clause
   repair : Clause → Clause → Clause
@@ -126,9 +127,22 @@ untilMeaning d pending = d
 untilMeaning d (accepted k) = noLater k d
 untilMeaning d (rejected k) = d
 
+-- satisfied at the first period of a list in which both try
+unfoldable pub firstSuccess : (action : ℕ) → List Period → Decision
+firstSuccess a [] = undecided
+firstSuccess a (x ∷ w) = cond (succeeds x a) (satisfied 1) (later 1 (firstSuccess a w))
+
+-- Deadline: satisfied in the first of its d periods in which both try. If none of them succeeds it is violated at the d-th, with a plain duty's blame
+-- for that period: as a plain duty decides that reads from period d.
+abbrev pub deadlineMeaning : (success last : Decision) → Decision
+deadlineMeaning undecided last = last
+deadlineMeaning (satisfied k) last = satisfied k
+deadlineMeaning (violated k b) last = violated k b
+
 -- what a clause means on a list of periods
 unfoldable pub meaning : Clause → List Period → Decision
 meaning (literal l p a) w = literalMeaning l p a w
+meaning (deadline p a d) w = deadlineMeaning (firstSuccess a (take d w)) (after (literalMeaning duty p a) w (d - 1))
 meaning (both l r) w = bothMeaning (meaning l w) (meaning r w)
 meaning (then l r) w = thenMeaning (meaning l w) (after (meaning r) w)
 meaning (repair l r) w = repairMeaning (meaning l w) (after (meaning r) w)
@@ -139,6 +153,7 @@ meaning (until c e) w = untilMeaning (meaning c w) (reading e w)
 -- "An expression under `when` or `until` must not hold the empty list." (Document 01, "Expressions")
 unfoldable pub EmptyFree : Clause → Type 0
 EmptyFree (literal l p a) = Unit {0}
+EmptyFree (deadline p a d) = Unit {0}
 EmptyFree (both l r) = EmptyFree l × EmptyFree r
 EmptyFree (then l r) = EmptyFree l × EmptyFree r
 EmptyFree (repair l r) = EmptyFree l × EmptyFree r

@@ -12,48 +12,50 @@ use Rattle.reader.specs.Codes.{operandCount}
 use Rattle.reader.proofs.Table.{kind-number}
 use Rattle.reader.proofs.Codes.{few-operands}
 use Rattle.reader.proofs.Fields.{recordOf}
-use Rattle.image.specs.Widths.{operandsFrom}
+use Rattle.image.specs.Widths.{laterPeriods, inside}
 use Rattle.emitter.specs.declared.RecordBody.{RecordBody}
 use Rattle.emitter.specs.declared.Block.{Block}
 use Rattle.emitter.specs.declared.Plan.{Plan}
 use Rattle.emitter.specs.declared.Wires.{Wires}
 use Rattle.emitter.specs.Rows.{numbersOf, writtenRows}
 use Rattle.emitter.specs.Plans.{planOf}
-use Rattle.emitter.specs.Blocks.{lastRecord, recordFrom, noBlock, basesOf, recordWritten, recordBlock, wiresOf, treeRows, afterTree, blockOf, EndsWith, Emitted}
-use Rattle.emitter.proofs.Writing.{written-none, written-after, written-around}
+use Rattle.emitter.specs.Blocks.{lastRecord, recordFrom, noBlock, windowBlock, laterRows, basesOf, recordWritten, recordBlock, wiresOf, treeRows, afterTree, blockOf, EndsWith, Emitted}
+use Rattle.image.proofs.Sizes.{after-periods, length-window}
+use Rattle.emitter.proofs.Writing.{written-after, written-around}
 use Rattle.emitter.proofs.Plans.{leftBlock, rightBlock, operandRows, nodeBases, rows-node, block-node, after-tree}
 use Rattle.emitter.proofs.Tables.{inside-is, length-kindRows}
 use Rattle.emitter.proofs.Operands.{View, view, seen, bodyOf, Last, ends-last, OperandsEnd, ends-operands}
 
 -- ---- the operands' rows
 
--- the rows of these operands, with m records before them, are written from row b on, and these are their blocks
-pub record Placed (image : List ℕ) (b S : ℕ) (w : Wires) (later : List ℕ) (left right : Block) (m : ℕ) (ss : List Sort) (ts : Trees ss) : Type 0 where
-  pub rows-are : later ≡ writtenRows image b (map numbersOf (operandRows ss ts b S w))
-  pub left-is : left ≡ leftBlock ss ts m b S
-  pub right-is : right ≡ rightBlock ss ts m b (w .start)
+-- the rows of these operands, or of a window of d later periods, with m records before them, are written from row b on, and these are their blocks
+pub record Placed (image : List ℕ) (b S : ℕ) (w : Wires) (later : List ℕ) (left right : Block) (d m : ℕ) (ss : List Sort) (ts : Trees ss) : Type 0 where
+  pub rows-are : later ≡ writtenRows image b (map numbersOf (operandRows d ss ts b S w))
+  pub left-is : left ≡ leftBlock d ss ts m b S
+  pub right-is : right ≡ rightBlock d ss ts m b (w .start)
 
 -- so it is with whichever operands, as many as `count`, the first `last` records end with
-pub record Written (contract : List ℕ) (last count : ℕ) (image : List ℕ) (b S : ℕ) (w : Wires) (later : List ℕ) (left right : Block) : Type 0 where
+pub record Written (contract : List ℕ) (last count d : ℕ) (image : List ℕ) (b S : ℕ) (w : Wires) (later : List ℕ) (left right : Block) : Type 0 where
   pub placed : (m : ℕ) (ss : List Sort) (ts : Trees ss) → length ss ≡ count → OperandsEnd contract last m ss ts
-      → Placed image b S w later left right m ss ts
+      → Placed image b S w later left right d m ss ts
 
-module _ {contract : List ℕ} {last : ℕ} {image : List ℕ} {b S : ℕ} {w : Wires} where
-  pub written-no : Written contract last 0 image b S w image (noBlock last b) (noBlock last b)
-  written-no = record { placed = each }
+module _ {contract : List ℕ} {last d : ℕ} {image : List ℕ} {b S : ℕ} {w : Wires} where
+  pub written-no : {later : List ℕ} {window : Block} → later ≡ writtenRows image b (map numbersOf (laterRows d b)) → window ≡ windowBlock last d b
+      → Written contract last 0 d image b S w later window window
+  written-no {later} {window} g i = record { placed = each }
     where
       each : (m : ℕ) (ss : List Sort) (ts : Trees ss) → length ss ≡ 0 → OperandsEnd contract last m ss ts
-          → Placed image b S w image (noBlock last b) (noBlock last b) m ss ts
-      each m [] ts h e = record { rows-are = sym (written-none image b); left-is = rw e; right-is = rw e }
+          → Placed image b S w later window window d m ss ts
+      each m [] ts h e = record { rows-are = g; left-is = rw (i, e); right-is = rw (i, e) }
       each m (s ∷ []) ts h e = absurd (omega arith)
       each m (s ∷ s′ ∷ ss) ts h e = absurd (omega arith)
 
   pub written-one : {later : List ℕ} {r : Block} → Emitted contract last image b (w .start) (w .go) later r
-      → Written contract last 1 image b S w later (noBlock (r .before) (r .next)) r
+      → Written contract last 1 d image b S w later (noBlock (r .before) (r .next)) r
   written-one {later} {r} g = record { placed = each }
     where
       each : (m : ℕ) (ss : List Sort) (ts : Trees ss) → length ss ≡ 1 → OperandsEnd contract last m ss ts
-          → Placed image b S w later (noBlock (r .before) (r .next)) r m ss ts
+          → Placed image b S w later (noBlock (r .before) (r .next)) r d m ss ts
       each m [] ts h e = absurd (omega arith)
       each m (s ∷ []) ts h e =
           let is = g .tree-is m s (ts .0) e in
@@ -61,10 +63,10 @@ module _ {contract : List ℕ} {last : ℕ} {image : List ℕ} {b S : ℕ} {w : 
       each m (s ∷ s′ ∷ ss) ts h e = absurd (omega arith)
 
   pub written-two : {later latest : List ℕ} {r l : Block} → Emitted contract last image b (w .start) (w .go) later r
-      → Emitted contract (r .before) later (r .next) S (w .keep) latest l → Written contract last 2 image b S w latest l r
+      → Emitted contract (r .before) later (r .next) S (w .keep) latest l → Written contract last 2 d image b S w latest l r
   written-two {later} {latest} {r} {l} g h = record { placed = each }
     where
-      each : (m : ℕ) (ss : List Sort) (ts : Trees ss) → length ss ≡ 2 → OperandsEnd contract last m ss ts → Placed image b S w latest l r m ss ts
+      each : (m : ℕ) (ss : List Sort) (ts : Trees ss) → length ss ≡ 2 → OperandsEnd contract last m ss ts → Placed image b S w latest l r d m ss ts
       each m [] ts i e = absurd (omega arith)
       each m (s ∷ []) ts i e = absurd (omega arith)
       each m (s ∷ s′ ∷ []) ts i e =
@@ -97,14 +99,14 @@ pub record Known (own : Record) (r : RecordBody) (count : ℕ) (p : Plan) : Type
   pub count-is : length (line (own .kind) .operands) ≡ count
 
 -- the operands' rows reach to the row after the left one's
-next-left : (ss : List Sort) (ts : Trees ss) (m b S : ℕ) (w : Wires) → length ss ≤ 2
-    → leftBlock ss ts m b S .next ≡ b + length (operandRows ss ts b S w)
-next-left [] ts m b S w h = omega arith
-next-left (s ∷ []) ts m b S w h = after-tree s (ts .0) b (w .start) (w .go)
-next-left (s ∷ s′ ∷ []) ts m b S w h =
+next-left : (d : ℕ) (ss : List Sort) (ts : Trees ss) (m b S : ℕ) (w : Wires) → length ss ≤ 2
+    → leftBlock d ss ts m b S .next ≡ b + length (operandRows d ss ts b S w)
+next-left d [] ts m b S w h = rw (after-periods d b, length-window d) (omega arith)
+next-left d (s ∷ []) ts m b S w h = after-tree s (ts .0) b (w .start) (w .go)
+next-left d (s ∷ s′ ∷ []) ts m b S w h =
     rw length-append
     (omega (arith, after-tree s′ (ts .1 .0) b (w .start) (w .go), after-tree s (ts .0) (afterTree s′ (ts .1 .0) b) S (w .keep)))
-next-left (s ∷ s′ ∷ s″ ∷ ss) ts m b S w h = absurd (omega arith)
+next-left d (s ∷ s′ ∷ s″ ∷ ss) ts m b S w h = absurd (omega arith)
 
 module _ {contract : List ℕ} {n : ℕ} {r : RecordBody} {count : ℕ} {p : Plan} (reads : RecordRead contract n r count p) where
   pub known : (own : Record) → Last contract n own → Known own r count p
@@ -120,19 +122,19 @@ module _ {contract : List ℕ} {n : ℕ} {r : RecordBody} {count : ℕ} {p : Pla
   -- ---- the record's own rows round its operands' rows are the tree's
 
   module _ (b S K : ℕ) {image later latest : List ℕ} {left right block : Block}
-      (w : Written contract (n - 1) count image (b + p .before) S (wiresOf p b S K) later left right)
+      (w : Written contract (n - 1) count (r .last - 1) image (b + p .before) S (wiresOf p b S K) later left right)
       (rows : latest ≡ recordWritten later (basesOf b S K left right (r .party) (r .action)) p b (left .next))
       (gives : block ≡ recordBlock (basesOf b S K left right (r .party) (r .action)) p (r .kind) (r .party) left right) where
     module _ (m : ℕ) (k : Kind) (f : Fields) (ts : Trees (line k .operands)) (e : EndsWith contract n m (line k .completes) (node k f ts)) where
       abbrev own : Record
       own = recordOf k f
 
-      placed : Placed image (operandsFrom own b) S (wiresOf (planOf own) b S K) later left right m (line k .operands) ts
+      placed : Placed image (inside k b) S (wiresOf (planOf own) b S K) later left right (laterPeriods own) m (line k .operands) ts
       placed =
           let i = known own (ends-last contract n m k f ts e) in
           let o = ends-operands contract n m k f ts e in
           let d = w .placed m (line k .operands) ts (i .count-is) o in
-          rw (i .plan-is, inside-is own b) at d
+          rw (i .plan-is, i .body-is, inside-is own b) at d
 
       node-rows : latest ≡ writtenRows image b (map numbersOf (treeRows (line k .completes) (node k f ts) b S K))
       unfolding recordWritten
@@ -141,8 +143,8 @@ module _ {contract : List ℕ} {n : ℕ} {r : RecordBody} {count : ℕ} {p : Pla
           let d = placed in
           let l = length-kindRows (nodeBases k f ts m b S K) own in
           rw (rows, i .plan-is, i .body-is, d .rows-are, d .left-is, d .right-is, rows-node k f ts m b S K)
-          (written-around image b (operandsFrom own b) _ _ _ _ (rw (l .0) (sym (inside-is own b)))
-          (rw length-map (next-left (line k .operands) ts m (operandsFrom own b) S (wiresOf (planOf own) b S K) (few-operands k))))
+          (written-around image b (inside k b) _ _ _ _ (rw (l .0) (sym (inside-is own b)))
+          (rw length-map (next-left (laterPeriods own) (line k .operands) ts m (inside k b) S (wiresOf (planOf own) b S K) (few-operands k))))
 
       node-block : block ≡ blockOf (line k .completes) (node k f ts) m b S
       node-block =

@@ -3,5 +3,6 @@ pub mod Writing
 pub mod Plans
 pub mod Tables
 pub mod Operands
+pub mod Periods
 pub mod Emitting
 pub mod Room

@@ -1,11 +1,12 @@
 -- What the recursive writer may do: there is room for the rows of a record and of its operands, and every row that they name is a small number.
 use Prim.Native.Nat.{ℕ, _+_, _*_, _-_, _^_, _≤_, _<_}
 use native.Mathlib.Omega.{arith}
-use mathlib.Core.Bool.{Bool, true, false, cond}
+use mathlib.Core.Bool.{Bool, true, false, not, _||_, cond}
 use mathlib.Core.List.{List, [], _∷_}
 use mathlib.Core.Logic.{_⊎_, inl, inr, ⊎-elim}
 use mathlib.Core.Path.{_≡_, refl, sym, _∙_}
-use lib.Dec.{eqb, lit<}
+use borrow.Author.Tests.{leb-true}
+use lib.Dec.{eqb, leb, lit<}
 use lib.ListN.{length}
 use Rattle.records.specs.Holding.{AllBelow}
 use Rattle.records.proofs.Fields.{allBelow-nil, allBelow-cons}
@@ -16,17 +17,19 @@ use Rattle.reader.specs.Table.{Sort, clause, expression, Kind, line}
 use Rattle.reader.specs.Trees.{Tree, Trees, Fields, partyNamed}
 use Rattle.reader.specs.Spelling.{treeRecords}
 use Rattle.reader.specs.Codes.{emptyCode}
-use Rattle.reader.proofs.Fields.{recordOf}
-use Rattle.image.proofs.Sizes.{inside-expression, inside-clause}
+use Rattle.reader.proofs.Table.{of-all}
+use Rattle.reader.proofs.Fields.{uses, recordOf}
+use Rattle.image.specs.Widths.{width, laterPeriods, neverRow}
+use Rattle.image.proofs.Sizes.{after-periods, inside-expression, inside-clause, inside-window}
 use Rattle.emitter.specs.declared.RecordBody.{RecordBody}
 use Rattle.emitter.specs.declared.Block.{Block}
 use Rattle.emitter.specs.declared.Plan.{Plan}
 use Rattle.emitter.specs.declared.Wires.{Wires}
 use Rattle.emitter.specs.Rows.{leafRows, rowTable}
 use Rattle.emitter.specs.Blocks.{noBlock, basesOf, wiresOf, afterTree, blockOf, EndsWith, Emitted}
-use Rattle.emitter.specs.Premises.{RecordRows, Emits}
+use Rattle.emitter.specs.Premises.{RecordRows, WindowRoom, Emits}
 use Rattle.emitter.proofs.Plans.{leftBlock, rightBlock, after-node}
-use Rattle.emitter.proofs.Tables.{inside-is, end, listed, in-one-table, WiresInside, wires-inside}
+use Rattle.emitter.proofs.Tables.{before-is, inside-is, end, listed, in-one-table, WiresInside, wires-inside}
 use Rattle.emitter.proofs.Operands.{View, view, seen, ends-last, OperandsEnd, ends-operands}
 use Rattle.emitter.proofs.Emitting.{Written, RecordRead, Known, known}
 
@@ -73,24 +76,37 @@ small-bases n b S K left right party action m h i j e l r p a =
     (allBelow-cons (small-number (other (partyNamed party)))
     (allBelow-cons (omega arith) (allBelow-nil (lit< tt)))))))))))))))))
 
--- ---- there is room for the operands' rows
+-- ---- there is room for a window's rows, or the operands'
 
-record Room (contract : List ℕ) (last : ℕ) (image : List ℕ) (b S : ℕ) (w : Wires) (m : ℕ) (ss : List Sort) (ts : Trees ss) : Type 0 where
+-- a record with a window of several periods has two rows before those of the later ones
+unmet-row : (k : Kind) (f : Fields) → 1 ≤ laterPeriods (recordOf k f) → 2 ≤ width k .before
+unmet-row k f = each (uses (line k .last)) (of-all (λ J. not (uses (line J .last)) || leb 2 (width J .before)) refl k)
+  where
+    each : (u : Bool) → (not u || leb 2 (width k .before)) ≡ true → 1 ≤ cond u (f .last) 0 - 1 → 2 ≤ width k .before
+    each true e h = leb-true 2 (width k .before) e
+    each false e h = absurd (omega arith)
+
+record Room (contract : List ℕ) (last : ℕ) (image : List ℕ) (b S : ℕ) (w : Wires) (d m : ℕ) (ss : List Sort) (ts : Trees ss) : Type 0 where
   ends : OperandsEnd contract last m ss ts
-  room : rowBytes * leftBlock ss ts m b S .next ≤ length image
-  few : leftBlock ss ts m b S .next ≤ maxRows
+  room : rowBytes * leftBlock d ss ts m b S .next ≤ length image
+  few : leftBlock d ss ts m b S .next ≤ maxRows
   begins : S < b
   wires : WiresInside w b
 
 -- the rows that the blocks give out stand before the row after the left operand's
-record Ordered (b S : ℕ) (w : Wires) (m : ℕ) (ss : List Sort) (ts : Trees ss) : Type 0 where
-  not-before : b ≤ leftBlock ss ts m b S .next
-  left-given : Given (leftBlock ss ts m b S) (leftBlock ss ts m b S .next)
-  right-given : Given (rightBlock ss ts m b (w .start)) (leftBlock ss ts m b S .next)
+record Ordered (b S : ℕ) (w : Wires) (d m : ℕ) (ss : List Sort) (ts : Trees ss) : Type 0 where
+  not-before : b ≤ leftBlock d ss ts m b S .next
+  left-given : Given (leftBlock d ss ts m b S) (leftBlock d ss ts m b S .next)
+  right-given : Given (rightBlock d ss ts m b (w .start)) (leftBlock d ss ts m b S .next)
 
-module _ {contract : List ℕ} {last : ℕ} {image : List ℕ} {b S : ℕ} {w : Wires} where
-  ordered : (m : ℕ) (ss : List Sort) (ts : Trees ss) → Room contract last image b S w m ss ts → Ordered b S w m ss ts
-  ordered m [] ts r = let h = r .begins in omega arith
+module _ {contract : List ℕ} {last : ℕ} {image : List ℕ} {b S : ℕ} {w : Wires} {d : ℕ} where
+  ordered : (m : ℕ) (ss : List Sort) (ts : Trees ss) → Room contract last image b S w d m ss ts → Ordered b S w d m ss ts
+  ordered m [] ts r =
+      let h = r .begins in
+      let n = after-periods d b in
+      let earlier = inside-window d 1 neverRow b (omega arith) (omega arith) in
+      let missed = inside-window d 2 (b - 1) b (omega arith) (omega arith) in
+      omega arith
   ordered m (s ∷ []) ts r =
       let t = r .wires in
       let i = block-inside s (ts .0) m b (w .start) (t .start-is) in
@@ -102,7 +118,7 @@ module _ {contract : List ℕ} {last : ℕ} {image : List ℕ} {b S : ℕ} {w : 
       let j = block-inside s (ts .0) m (afterTree s′ (ts .1 .0) b) S (omega arith) in
       omega arith
 
-  right-room : (m : ℕ) (ss : List Sort) (ts : Trees ss) → Room contract last image b S w m ss ts → ¬ (length ss ≡ 0)
+  right-room : (m : ℕ) (ss : List Sort) (ts : Trees ss) → Room contract last image b S w d m ss ts → ¬ (length ss ≡ 0)
       → Emits contract last image b (w .start) (w .go)
   right-room m [] ts r h = absurd (h refl)
   right-room m (s ∷ []) ts r h =
@@ -135,7 +151,7 @@ module _ {contract : List ℕ} {last : ℕ} {image : List ℕ} {b S : ℕ} {w : 
         goes-on = t .go-is;
       }
 
-  left-room : {later : List ℕ} {right : Block} (m : ℕ) (ss : List Sort) (ts : Trees ss) → Room contract last image b S w m ss ts
+  left-room : {later : List ℕ} {right : Block} (m : ℕ) (ss : List Sort) (ts : Trees ss) → Room contract last image b S w d m ss ts
       → ¬ (length ss ≡ 0) → ¬ (length ss ≡ 1) → Emitted contract last image b (w .start) (w .go) later right → length later ≡ length image
       → Emits contract (right .before) later (right .next) S (w .keep) × (right .before ≤ last)
   left-room m [] ts r h i g l = absurd (h refl)
@@ -170,9 +186,9 @@ record Opened (contract : List ℕ) (n : ℕ) (image : List ℕ) (b S K : ℕ) (
   f : Fields
   ts : Trees (line k .operands)
   is : Known (recordOf k f) r count p
-  operands : Room contract (n - 1) image (b + p .before) S (wiresOf p b S K) before (line k .operands) ts
-  room : rowBytes * (leftBlock (line k .operands) ts before (b + p .before) S .next + p .after) ≤ length image
-  few : leftBlock (line k .operands) ts before (b + p .before) S .next + p .after ≤ maxRows
+  operands : Room contract (n - 1) image (b + p .before) S (wiresOf p b S K) (r .last - 1) before (line k .operands) ts
+  room : rowBytes * (leftBlock (r .last - 1) (line k .operands) ts before (b + p .before) S .next + p .after) ≤ length image
+  few : leftBlock (r .last - 1) (line k .operands) ts before (b + p .before) S .next + p .after ≤ maxRows
 
 module _ {contract : List ℕ} {n : ℕ} {image : List ℕ} {b S K : ℕ} (e : Emits contract n image b S K) where
   pub some-record : (1 ≤ n) × (recordBytes * n ≤ length contract)
@@ -202,15 +218,15 @@ module _ {contract : List ℕ} {n : ℕ} {image : List ℕ} {b S K : ℕ} (e : E
               ts = ts;
               is = is;
               operands =
-                  rw (is .plan-is, inside-is own b) record {
+                  rw (is .plan-is, is .body-is, inside-is own b) record {
                     ends = ends;
                     room = omega arith;
                     few = omega arith;
                     begins = omega (arith, e .begins, inside-is own b);
                     wires = wires-inside own b S K (e .begins) (e .goes-on);
                   };
-              room = rw (is .plan-is, inside-is own b) rm;
-              few = rw (is .plan-is, inside-is own b) fw;
+              room = rw (is .plan-is, is .body-is, inside-is own b) rm;
+              few = rw (is .plan-is, is .body-is, inside-is own b) fw;
             }
 
     pub few-inside : b + p .before ≤ maxRows
@@ -226,6 +242,23 @@ module _ {contract : List ℕ} {n : ℕ} {image : List ℕ} {b S K : ℕ} (e : E
         small-bases maxRows b S K (noBlock 0 0) (noBlock 0 0) 0 0 (omega arith) (omega arith) i (e .goes-on) (omega arith) (omega arith) (omega arith)
         (omega arith) (omega arith)
 
+    pub window-room : count ≡ 0 → WindowRoom (length image) (r .last - 1) (b + p .before)
+    window-room h =
+        let o = opened in
+        none (o .k) (o .f) (o .is) (line (o .k) .operands) (o .ts) (o .is .count-is ∙ h) (o .operands)
+      where
+        none : (k : Kind) (f : Fields) → Known (recordOf k f) r count p → (ss : List Sort) (ts : Trees ss) → length ss ≡ 0 → {m : ℕ}
+            → Room contract (n - 1) image (b + p .before) S (wiresOf p b S K) (r .last - 1) m ss ts
+            → WindowRoom (length image) (r .last - 1) (b + p .before)
+        none k f i [] ts e g =
+            record {
+              room = g .room;
+              few = g .few;
+              first-missed = omega (arith, g .begins);
+              goes-unmet = rw (i .body-is, i .plan-is) (λ j. omega (arith, unmet-row k f j, before-is (recordOf k f)));
+            }
+        none k f i (s ∷ ss) ts e g = absurd (omega arith)
+
     pub right-emits : ¬ (count ≡ 0) → Emits contract (n - 1) image (b + p .before) (wiresOf p b S K .start) (wiresOf p b S K .go)
     right-emits h =
         let o = opened in
@@ -238,7 +271,7 @@ module _ {contract : List ℕ} {n : ℕ} {image : List ℕ} {b S K : ℕ} (e : E
         let o = opened in
         left-room (o .before) (line (o .k) .operands) (o .ts) (o .operands) (λ z. h (sym (o .is .count-is) ∙ z)) (λ z. i (sym (o .is .count-is) ∙ z)) g l
 
-    pub record-rows : {later : List ℕ} {left right : Block} → Written contract (n - 1) count image (b + p .before) S (wiresOf p b S K) later left right
+    pub record-rows : {later : List ℕ} {left right : Block} → Written contract (n - 1) count (r .last - 1) image (b + p .before) S (wiresOf p b S K) later left right
         → length later ≡ length image → (r .party < 256) × (r .action < 256)
         → RecordRows (length later) p b (left .next) (basesOf b S K left right (r .party) (r .action))
     record-rows {later} {left} {right} w l small-fields =

@@ -11,7 +11,7 @@ use borrow.Author.Tests.{eqb-true, ltb-true, leb-true}
 use Rattle.records.proofs.Cases.{or-cases}
 use Rattle.reader.specs.Trees.{Record}
 use Rattle.reader.proofs.Table.{of-records}
-use Rattle.image.specs.Widths.{width, operandsFrom}
+use Rattle.image.specs.Widths.{width, inside}
 use Rattle.image.proofs.Sizes.{⊹-plus}
 use Rattle.emitter.specs.declared.Plan.{Plan}
 use Rattle.emitter.specs.declared.Wires.{Wires}
@@ -21,11 +21,12 @@ use Rattle.emitter.specs.Blocks.{noBlock, basesOf, wiresOf}
 use Rattle.emitter.proofs.Writing.{length-listed}
 
 -- as many rows stand before the operands' rows as the widths say
-before-is : (r : Record) → planOf r .before ≡ width r .before
-before-is r = eqb-true (planOf r .before) (width r .before) (of-records (λ r. eqb (planOf r .before) (width r .before)) (λ f. refl) r)
+pub before-is : (r : Record) → planOf r .before ≡ width (r .kind) .before
+before-is r =
+    eqb-true (planOf r .before) (width (r .kind) .before) (of-records (λ r. eqb (planOf r .before) (width (r .kind) .before)) (λ f. refl) r)
 
-pub inside-is : (r : Record) (b : ℕ) → b + planOf r .before ≡ operandsFrom r b
-inside-is r b = rw (before-is r) (sym (⊹-plus b (width r .before)))
+pub inside-is : (r : Record) (b : ℕ) → b + planOf r .before ≡ inside (r .kind) b
+inside-is r b = rw (before-is r) (sym (⊹-plus b (width (r .kind) .before)))
 
 -- where a record's own rows end in the tables
 abbrev pub end : Plan → ℕ
@@ -53,21 +54,21 @@ length-kindRows bases r =
 
 -- what tells the operands when they read is what tells the record itself, or one of its own rows before theirs
 abbrev knownWire : Record → ℕ → Bool
-knownWire r x = eqb x ZERO || (eqb x S || (eqb x K || (leb B x && ltb x N && ltb x (B + width r .before))))
+knownWire r x = eqb x ZERO || (eqb x S || (eqb x K || (leb B x && ltb x N && ltb x (B + width (r .kind) .before))))
 
 wire-inside : (r : Record) (x b s k : ℕ) → s < b → k < b → knownWire r x ≡ true
-    → valueAt (basesOf b s k (noBlock 0 0) (noBlock 0 0) 0 0) x < operandsFrom r b
+    → valueAt (basesOf b s k (noBlock 0 0) (noBlock 0 0) 0 0) x < inside (r .kind) b
 wire-inside r x b s k h i t =
-    let m = ⊹-plus b (width r .before) in
+    let m = ⊹-plus b (width (r .kind) .before) in
     ⊎-elim (λ e. rw (eqb-true x ZERO e) (omega arith))
-    (λ (t : (eqb x S || (eqb x K || (leb B x && ltb x N && ltb x (B + width r .before)))) ≡ true). ⊎-elim (λ e. rw (eqb-true x S e) (omega arith))
-    (λ (t : (eqb x K || (leb B x && ltb x N && ltb x (B + width r .before))) ≡ true). ⊎-elim (λ e. rw (eqb-true x K e) (omega arith))
-    (λ (t : (leb B x && ltb x N && ltb x (B + width r .before)) ≡ true).
-    let u = and-eq-true-iff (leb B x && ltb x N) (ltb x (B + width r .before)) .0 t in
+    (λ (t : (eqb x S || (eqb x K || (leb B x && ltb x N && ltb x (B + width (r .kind) .before)))) ≡ true). ⊎-elim (λ e. rw (eqb-true x S e) (omega arith))
+    (λ (t : (eqb x K || (leb B x && ltb x N && ltb x (B + width (r .kind) .before))) ≡ true). ⊎-elim (λ e. rw (eqb-true x K e) (omega arith))
+    (λ (t : (leb B x && ltb x N && ltb x (B + width (r .kind) .before)) ≡ true).
+    let u = and-eq-true-iff (leb B x && ltb x N) (ltb x (B + width (r .kind) .before)) .0 t in
     let v = and-eq-true-iff (leb B x) (ltb x N) .0 (u .0) in
     let from : B ≤ x = leb-true B x (v .0) in
     let to : x < N = ltb-true x N (v .1) in
-    let few : x < B + width r .before = ltb-true x (B + width r .before) (u .1) in
+    let few : x < B + width (r .kind) .before = ltb-true x (B + width (r .kind) .before) (u .1) in
     let base : x / 16 ≡ 3 = omega arith in
     rw (base, ⊹-plus b (x % 16)) (omega arith))
     (or-cases (eqb x K) _ .0 t)) (or-cases (eqb x S) _ .0 t)) (or-cases (eqb x ZERO) _ .0 t)
@@ -77,7 +78,7 @@ pub record WiresInside (w : Wires) (b : ℕ) : Type 0 where
   pub go-is : w .go < b
   pub keep-is : w .keep < b
 
-pub wires-inside : (r : Record) (b s k : ℕ) → s < b → k < b → WiresInside (wiresOf (planOf r) b s k) (operandsFrom r b)
+pub wires-inside : (r : Record) (b s k : ℕ) → s < b → k < b → WiresInside (wiresOf (planOf r) b s k) (inside (r .kind) b)
 unfolding wiresOf
 wires-inside r b s k h i =
     record {

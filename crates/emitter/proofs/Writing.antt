@@ -40,7 +40,7 @@ unfolding writtenRows numbersBytes
 written-none image b = refl
 
 -- a row is a run
-sets-row : (image : List ℕ) (b : ℕ) (r : RowNumbers)
+pub sets-row : (image : List ℕ) (b : ℕ) (r : RowNumbers)
     → sets image (rowBytes * b) (rowRecord (r .kind) (r .x) (r .y)) ≡ writtenRows image b (r ∷ [])
 unfolding writtenRows numbersBytes bytes
 sets-row image b r = refl

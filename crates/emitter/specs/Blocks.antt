@@ -13,8 +13,8 @@ use Rattle.reader.specs.Trees.{Tree, Record, partyNamed}
 use Rattle.reader.specs.Spelling.{spellTree, treeRecords}
 use Rattle.reader.specs.Reader.{kindAt, fieldsAt, operand}
 use Rattle.reader.specs.Codes.{emptyCode, codeOf, completed}
-use Rattle.image.specs.Widths.{neverRow, afterExpression, afterClause}
-use Rattle.image.specs.Blocks.{endRow, liveRow, expressionRows, Outputs, outputsOf, clauseRows}
+use Rattle.image.specs.Widths.{neverRow, afterPeriods, afterExpression, afterClause}
+use Rattle.image.specs.Blocks.{endRow, liveRow, expressionRows, Outputs, outputsOf, windowRows, lastRow, clauseRows}
 use Rattle.emitter.specs.declared.RecordBody.{RecordBody}
 use Rattle.emitter.specs.declared.Plan.{Plan}
 use Rattle.emitter.specs.declared.Block.{Block}
@@ -39,6 +39,16 @@ recordFrom k r = record { kind = k; fields = record { party = r .party; action =
 -- the block of an operand that a record does not have
 abbrev pub noBlock : (before next : ℕ) → Block
 noBlock m n = record { before = m; next = n; sat = 0; one = 0; two = 0; code = 0 }
+
+-- The block of n later periods of a window from row c on: `sat` is that the duty was missed in the period before, in one of the window's periods but the
+-- last, and `one` that it is missed now, in the last. In the window's first period row c - 1 tells that.
+abbrev pub windowBlock : (before n c : ℕ) → Block
+windowBlock m n c =
+    record { before = m; next = afterPeriods n c; sat = lastRow n 1 neverRow c; one = lastRow n 2 (c - 1) c; two = 0; code = 0 }
+
+-- its rows; row c - 2 tells that the duty goes on and not both try
+abbrev pub laterRows : (n c : ℕ) → List Row
+laterRows n c = windowRows n (c - 2) neverRow (c - 1) c []
 
 -- the other party's number
 abbrev pub otherNumber : ℕ → ℕ

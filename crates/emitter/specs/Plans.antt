@@ -1,8 +1,7 @@
 -- How the rows of each record are laid out. That the tables and plans give the rows of image/specs/Blocks.antt is shown in proofs/Plans.antt.
 use Prim.Native.Nat.{ℕ}
-use Rattle.reader.specs.Table.{Kind, duty, ban, power, both, then, repair, repeat, when, until, any, tries, idle, succeeds, fails, seq, or, star}
+use Rattle.reader.specs.Table.{Kind, duty, ban, power, both, then, repair, repeat, when, until, deadline, any, tries, idle, succeeds, fails, seq, or, star}
 use Rattle.reader.specs.Trees.{Record}
-use Rattle.reader.specs.Spelling.{plainRecord}
 use Rattle.image.specs.Widths.{width, _⊹_}
 use Rattle.emitter.specs.declared.PlanLine.{PlanLine}
 use Rattle.emitter.specs.declared.Plan.{Plan}
@@ -12,27 +11,28 @@ use Rattle.emitter.specs.Rows.{ZERO, S, K, B, N, LONE, LTWO, RSAT, RONE,
 -- and what its block gives out
 abbrev plan : Kind → (from start go keep sat one two : ℕ) → PlanLine
 plan j from s k l x y z =
-    let w = width (plainRecord j) in
+    let w = width j in
     record { 0 = from; 1 = w .before; 2 = w .after; 3 = s; 4 = k; 5 = l; 6 = x; 7 = y; 8 = z }
 
 abbrev pub planLine : Kind → PlanLine
 planLine duty = plan duty 0 ZERO ZERO ZERO (B ⊹ 3) (B ⊹ 5) (B ⊹ 7)
 planLine ban = plan ban 8 ZERO ZERO ZERO (B ⊹ 5) (B ⊹ 3) ZERO
 planLine power = plan power 14 ZERO ZERO ZERO (B ⊹ 6) ZERO (B ⊹ 4)
-planLine both = plan both 35 S (B ⊹ 2) (B ⊹ 2) (N ⊹ 6) (N ⊹ 7) (N ⊹ 8)
-planLine then = plan then 49 (B ⊹ 1) (B ⊹ 3) K RSAT N (N ⊹ 1)
-planLine repair = plan repair 55 (B ⊹ 1) (B ⊹ 3) K (N ⊹ 1) RONE RTWO
-planLine repeat = plan repeat 61 (B ⊹ 4) (B ⊹ 3) ZERO ZERO RONE RTWO
-planLine when = plan when 66 (B ⊹ 1) (B ⊹ 3) (B ⊹ 3) (N ⊹ 6) RONE RTWO
-planLine until = plan until 77 S (B ⊹ 2) (B ⊹ 2) (N ⊹ 3) LONE LTWO
-planLine any = plan any 21 ZERO ZERO ZERO S ZERO ZERO
-planLine tries = plan tries 21 ZERO ZERO ZERO (B ⊹ 1) ZERO ZERO
-planLine idle = plan idle 23 ZERO ZERO ZERO (B ⊹ 2) ZERO ZERO
-planLine succeeds = plan succeeds 26 ZERO ZERO ZERO (B ⊹ 3) ZERO ZERO
-planLine fails = plan fails 30 ZERO ZERO ZERO (B ⊹ 4) ZERO ZERO
-planLine seq = plan seq 85 (B ⊹ 2) K K N (N ⊹ 2) ZERO
-planLine or = plan or 91 S K K N (N ⊹ 1) ZERO
-planLine star = plan star 93 (B ⊹ 2) K ZERO RSAT N ZERO
+planLine both = plan both 47 S (B ⊹ 2) (B ⊹ 2) (N ⊹ 6) (N ⊹ 7) (N ⊹ 8)
+planLine then = plan then 61 (B ⊹ 1) (B ⊹ 3) K RSAT N (N ⊹ 1)
+planLine repair = plan repair 67 (B ⊹ 1) (B ⊹ 3) K (N ⊹ 1) RONE RTWO
+planLine repeat = plan repeat 73 (B ⊹ 4) (B ⊹ 3) ZERO ZERO RONE RTWO
+planLine when = plan when 78 (B ⊹ 1) (B ⊹ 3) (B ⊹ 3) (N ⊹ 6) RONE RTWO
+planLine until = plan until 89 S (B ⊹ 2) (B ⊹ 2) (N ⊹ 3) LONE LTWO
+planLine deadline = plan deadline 21 ZERO ZERO ZERO (N ⊹ 2) (N ⊹ 4) (N ⊹ 5)
+planLine any = plan any 33 ZERO ZERO ZERO S ZERO ZERO
+planLine tries = plan tries 33 ZERO ZERO ZERO (B ⊹ 1) ZERO ZERO
+planLine idle = plan idle 35 ZERO ZERO ZERO (B ⊹ 2) ZERO ZERO
+planLine succeeds = plan succeeds 38 ZERO ZERO ZERO (B ⊹ 3) ZERO ZERO
+planLine fails = plan fails 42 ZERO ZERO ZERO (B ⊹ 4) ZERO ZERO
+planLine seq = plan seq 97 (B ⊹ 2) K K N (N ⊹ 2) ZERO
+planLine or = plan or 103 S K K N (N ⊹ 1) ZERO
+planLine star = plan star 105 (B ⊹ 2) K ZERO RSAT N ZERO
 
 -- a line's fields by their names
 abbrev pub named : PlanLine → Plan

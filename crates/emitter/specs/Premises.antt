@@ -8,7 +8,8 @@ use Rattle.reader.specs.Table.{Sort}
 use Rattle.records.specs.Holding.{AllBelow}
 use Rattle.reader.specs.Trees.{Tree}
 use Rattle.reader.specs.Taken.{Contract}
-use Rattle.image.specs.Limits.{bufferBytes}
+use Rattle.image.specs.Limits.{bufferFor}
+use Rattle.image.specs.Widths.{periodRows, afterPeriods}
 use Rattle.emitter.specs.declared.Plan.{Plan}
 use Rattle.emitter.specs.Rows.{leafRows, rowTable}
 use Rattle.emitter.specs.Blocks.{afterTree, EndsWith}
@@ -25,6 +26,21 @@ pub record RoomFrom (size b : ℕ) (bases : List ℕ) (rows from count : ℕ) : 
 pub record RoomForRows (size b : ℕ) (bases : List ℕ) (from count : ℕ) : Type 0 where
   pub has-room : RoomFrom size b bases (length rowTable) from count
   pub in-one : (from + count ≤ length leafRows) ⊎ (length leafRows ≤ from)
+
+-- the same for the rows of one period from row c on, which name lower rows
+pub record PeriodRoom (size c unmet earlier missed : ℕ) : Type 0 where
+  pub room : rowBytes * (c + periodRows) ≤ size
+  pub few : c + periodRows ≤ maxRows
+  pub unmet-lower : unmet < c
+  pub earlier-lower : earlier < c
+  pub missed-lower : missed < c
+
+-- an image buffer of so many bytes has room for the rows of a window's n later periods from row c on, and the rows that these name stand before them
+pub record WindowRoom (size n c : ℕ) : Type 0 where
+  pub room : rowBytes * afterPeriods n c ≤ size
+  pub few : afterPeriods n c ≤ maxRows
+  pub first-missed : 1 ≤ c
+  pub goes-unmet : 1 ≤ n → 2 ≤ c
 
 -- there is room for a record's own rows, n being the first row after its operands' rows
 pub record RecordRows (size : ℕ) (p : Plan) (b n : ℕ) (bases : List ℕ) : Type 0 where
@@ -45,4 +61,4 @@ pub record Emits (contract : List ℕ) (n : ℕ) (image : List ℕ) (b S K : ℕ
 -- the contract is taken with n records, and there is room for as many rows as it may have
 pub record Writes (contract : List ℕ) (n : ℕ) (image : List ℕ) : Type 0 where
   pub taken : Contract contract n
-  pub room : bufferBytes n ≤ length image
+  pub room : bufferFor contract ≤ length image

@@ -7,7 +7,7 @@ use Rattle.periods.specs.Periods.{party1}
 use Rattle.layout.specs.Limits.{rowBytes}
 use Rattle.layout.specs.Rows as L
 use Rattle.layout.specs.Rows.{Row, kind, fieldX, fieldY, rowRecord}
-use Rattle.reader.specs.Table.{Kind, duty, ban, power, both, then, repair, repeat, when, until, any, tries, idle, succeeds, fails, seq, or, star}
+use Rattle.reader.specs.Table.{Kind, duty, ban, power, both, then, repair, repeat, when, until, deadline, any, tries, idle, succeeds, fails, seq, or, star}
 use Rattle.image.specs.Widths.{_⊹_}
 use Rattle.emitter.specs.declared.TableRow.{TableRow}
 
@@ -117,6 +117,9 @@ kindRows when =
 kindRows until =
     previous (N ⊹ 4) ∷ negation B ∷ conjunction K (B ⊹ 1)
     ∷ disjunction LONE LTWO ∷ negation N ∷ conjunction RSAT (N ⊹ 1) ∷ disjunction LSAT (N ⊹ 2) ∷ disjunction (N ⊹ 3) N ∷ []
+kindRows deadline =
+    attempt P ∷ attempt Q ∷ conjunction B (B ⊹ 1) ∷ negation (B ⊹ 2) ∷ conjunction K (B ⊹ 3) ∷ conjunction S (B ⊹ 3)
+    ∷ conjunction K LSAT ∷ disjunction S N ∷ conjunction (N ⊹ 1) (B ⊹ 2) ∷ negation B ∷ conjunction LONE (N ⊹ 3) ∷ conjunction LONE B ∷ []
 kindRows any = []
 kindRows tries = attempt P ∷ conjunction S B ∷ []
 kindRows idle = attempt P ∷ negation B ∷ conjunction S (B ⊹ 1) ∷ []
@@ -132,7 +135,7 @@ joined (k ∷ ks) = kindRows k ++ joined ks
 
 -- the rows of the kinds without operands, and of those with operands: the program's two tables, which plans count as one
 abbrev pub leafRows : List TableRow
-leafRows = joined (duty ∷ ban ∷ power ∷ any ∷ tries ∷ idle ∷ succeeds ∷ fails ∷ [])
+leafRows = joined (duty ∷ ban ∷ power ∷ deadline ∷ any ∷ tries ∷ idle ∷ succeeds ∷ fails ∷ [])
 
 abbrev pub nodeRows : List TableRow
 nodeRows = joined (both ∷ then ∷ repair ∷ repeat ∷ when ∷ until ∷ seq ∷ or ∷ star ∷ [])

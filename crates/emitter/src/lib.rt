@@ -1,18 +1,19 @@
 // Writes the rows of a contract's clause. Document 01, "Image and row machine".
 ghost use mathlib.Core.Path.{_≡_};
 ghost use mathlib.Core.Bool.{cond};
-ghost use mathlib.Core.List.{map};
+ghost use mathlib.Core.List.{[], map};
 ghost use mathlib.Core.Option.{some};
-ghost use Prim.Native.Nat.{_+_, _*_, _^_, _<_, _≤_};
+ghost use Prim.Native.Nat.{_+_, _*_, _-_, _^_, _<_, _≤_};
 ghost use lib.ListN.{length, getD};
 ghost use Rattle.records.specs.Holding.{AllBelow};
 ghost use Rattle.layout.specs.Limits.{maxRows};
 ghost use Rattle.reader.specs.Limits.{recordBytes};
 ghost use Rattle.reader.specs.Table.{Kind, kindOf};
-ghost use Rattle.emitter.specs.Rows.{leafRows, nodeRows, rowTable, unpacked, valueAt, tableRows, writtenRows};
+ghost use Rattle.image.specs.Blocks.{windowRows};
+ghost use Rattle.emitter.specs.Rows.{numbersOf, leafRows, nodeRows, rowTable, unpacked, valueAt, tableRows, writtenRows};
 ghost use Rattle.emitter.specs.Plans.{named, planOf};
-ghost use Rattle.emitter.specs.Blocks.{lastRecord, recordFrom, otherNumber, basesOf, wiresOf, noBlock, recordBlock, recordWritten, Emitted};
-ghost use Rattle.emitter.specs.Premises.{RoomFrom, RoomForRows, RecordRows, Emits};
+ghost use Rattle.emitter.specs.Blocks.{lastRecord, recordFrom, otherNumber, basesOf, wiresOf, noBlock, windowBlock, laterRows, recordBlock, recordWritten, Emitted};
+ghost use Rattle.emitter.specs.Premises.{RoomFrom, RoomForRows, RecordRows, PeriodRoom, WindowRoom, Emits};
 use layout::AND;
 use layout::ATTEMPT;
 use layout::NOT;
@@ -68,7 +69,7 @@ const X: u32 = 256;
 const Y: u32 = 1;
 
 // The rows of the kinds without operands.
-const LEAF_ROWS: [u32; 35] = [
+const LEAF_ROWS: [u32; 47] = [
     // duty
     KIND * ATTEMPT as u32 + X * P as u32 + Y * A as u32,
     KIND * ATTEMPT as u32 + X * Q as u32 + Y * A as u32,
@@ -93,6 +94,19 @@ const LEAF_ROWS: [u32; 35] = [
     KIND * AND as u32 + X * (B + 2) as u32 + Y * (B + 3) as u32,
     KIND * NOT as u32 + X * (B + 4) as u32,
     KIND * AND as u32 + X * S as u32 + Y * (B + 5) as u32,
+    // deadline, those before its window's rows and then those after them
+    KIND * ATTEMPT as u32 + X * P as u32 + Y * A as u32,
+    KIND * ATTEMPT as u32 + X * Q as u32 + Y * A as u32,
+    KIND * AND as u32 + X * B as u32 + Y * (B + 1) as u32,
+    KIND * NOT as u32 + X * (B + 2) as u32,
+    KIND * AND as u32 + X * K as u32 + Y * (B + 3) as u32,
+    KIND * AND as u32 + X * S as u32 + Y * (B + 3) as u32,
+    KIND * AND as u32 + X * K as u32 + Y * LSAT as u32,
+    KIND * OR as u32 + X * S as u32 + Y * N as u32,
+    KIND * AND as u32 + X * (N + 1) as u32 + Y * (B + 2) as u32,
+    KIND * NOT as u32 + X * B as u32,
+    KIND * AND as u32 + X * LONE as u32 + Y * (N + 3) as u32,
+    KIND * AND as u32 + X * LONE as u32 + Y * B as u32,
     // tries
     KIND * ATTEMPT as u32 + X * P as u32 + Y * A as u32,
     KIND * AND as u32 + X * S as u32 + Y * B as u32,
@@ -188,8 +202,11 @@ const NODE_ROWS: [u32; 62] = [
     KIND * OR as u32 + X * RONE as u32 + Y * RSAT as u32,
 ];
 
+// The rows of each period of a window after its first.
+const PERIOD_ROWS: u32 = 3;
+
 // The rows of the first table.
-const LEAF_COUNT: u8 = 35;
+const LEAF_COUNT: u8 = 47;
 
 // A row of a record's own: its kind and its fields x and y.
 pub struct TableRow {
@@ -249,25 +266,26 @@ pub struct PlanLine(
     pub u8,
 );
 
-// A plan for each of the kinds 1 to 9, then 16 to 23.
-const PLANS: [PlanLine; 17] = [
+// A plan for each of the kinds 1 to 10, then 16 to 23.
+const PLANS: [PlanLine; 18] = [
     PlanLine(0, 8, 0, ZERO, ZERO, ZERO, B + 3, B + 5, B + 7), // 1 duty
     PlanLine(8, 6, 0, ZERO, ZERO, ZERO, B + 5, B + 3, ZERO), // 2 ban
     PlanLine(14, 7, 0, ZERO, ZERO, ZERO, B + 6, ZERO, B + 4), // 3 power
-    PlanLine(35, 3, 11, S, B + 2, B + 2, N + 6, N + 7, N + 8), // 4 both
-    PlanLine(49, 4, 2, B + 1, B + 3, K, RSAT, N, N + 1), // 5 then
-    PlanLine(55, 4, 2, B + 1, B + 3, K, N + 1, RONE, RTWO), // 6 repair
-    PlanLine(61, 5, 0, B + 4, B + 3, ZERO, ZERO, RONE, RTWO), // 7 repeat
-    PlanLine(66, 4, 7, B + 1, B + 3, B + 3, N + 6, RONE, RTWO), // 8 when
-    PlanLine(77, 3, 5, S, B + 2, B + 2, N + 3, LONE, LTWO), // 9 until
-    PlanLine(21, 0, 0, ZERO, ZERO, ZERO, S, ZERO, ZERO), // 16 any
-    PlanLine(21, 2, 0, ZERO, ZERO, ZERO, B + 1, ZERO, ZERO), // 17 tries
-    PlanLine(23, 3, 0, ZERO, ZERO, ZERO, B + 2, ZERO, ZERO), // 18 idle
-    PlanLine(26, 4, 0, ZERO, ZERO, ZERO, B + 3, ZERO, ZERO), // 19 succeeds
-    PlanLine(30, 5, 0, ZERO, ZERO, ZERO, B + 4, ZERO, ZERO), // 20 fails
-    PlanLine(85, 3, 3, B + 2, K, K, N, N + 2, ZERO), // 21 seq
-    PlanLine(91, 0, 2, S, K, K, N, N + 1, ZERO), // 22 or
-    PlanLine(93, 3, 1, B + 2, K, ZERO, RSAT, N, ZERO), // 23 star
+    PlanLine(47, 3, 11, S, B + 2, B + 2, N + 6, N + 7, N + 8), // 4 both
+    PlanLine(61, 4, 2, B + 1, B + 3, K, RSAT, N, N + 1), // 5 then
+    PlanLine(67, 4, 2, B + 1, B + 3, K, N + 1, RONE, RTWO), // 6 repair
+    PlanLine(73, 5, 0, B + 4, B + 3, ZERO, ZERO, RONE, RTWO), // 7 repeat
+    PlanLine(78, 4, 7, B + 1, B + 3, B + 3, N + 6, RONE, RTWO), // 8 when
+    PlanLine(89, 3, 5, S, B + 2, B + 2, N + 3, LONE, LTWO), // 9 until
+    PlanLine(21, 6, 6, ZERO, ZERO, ZERO, N + 2, N + 4, N + 5), // 10 deadline
+    PlanLine(33, 0, 0, ZERO, ZERO, ZERO, S, ZERO, ZERO), // 16 any
+    PlanLine(33, 2, 0, ZERO, ZERO, ZERO, B + 1, ZERO, ZERO), // 17 tries
+    PlanLine(35, 3, 0, ZERO, ZERO, ZERO, B + 2, ZERO, ZERO), // 18 idle
+    PlanLine(38, 4, 0, ZERO, ZERO, ZERO, B + 3, ZERO, ZERO), // 19 succeeds
+    PlanLine(42, 5, 0, ZERO, ZERO, ZERO, B + 4, ZERO, ZERO), // 20 fails
+    PlanLine(97, 3, 3, B + 2, K, K, N, N + 2, ZERO), // 21 seq
+    PlanLine(103, 0, 2, S, K, K, N, N + 1, ZERO), // 22 or
+    PlanLine(105, 3, 1, B + 2, K, ZERO, RSAT, N, ZERO), // 23 star
 ];
 
 // How a kind's rows are laid out: the first of its own rows in the tables, how many stand before its operands' rows and how many after them; the
@@ -308,8 +326,8 @@ fn plan_of(r: RecordBody) -> Plan
     let plans = PLANS;
     let kind = r.kind;
     match kind {
-        1..=9 => named(plans[kind as usize - 1]),
-        16..=23 => named(plans[kind as usize - 7]),
+        1..=10 => named(plans[kind as usize - 1]),
+        16..=23 => named(plans[kind as usize - 6]),
         // No contract that is taken has such a record.
         _ => named(PlanLine(0, 0, 0, ZERO, ZERO, ZERO, ZERO, ZERO, ZERO)),
     }
@@ -495,6 +513,46 @@ fn put_record(
     block_of(&meant, plan, r, left, right)
 }
 
+// ---- the rows of a window
+
+// Writes the rows of one later period of a window from row `at` on. `unmet`: the duty goes on and not both try; `earlier`: it was missed in the
+// period before, in one of the window's periods so far; `missed`: it was missed in the last of these.
+fn put_period(image: &mut [u8], at: u32, unmet: u32, earlier: u32, missed: u32)
+    requires { ⌜ PeriodRoom (length (now image)) at unmet earlier missed ⌝ }
+    ensures { λ _. ⌜ now (image .exit) ≡ writtenRows (now (image .entry)) at (map numbersOf (windowRows 1 unmet earlier missed at [])) ⌝ }
+{
+    layout::put_row(image, at, PREVIOUS, missed, 0);
+    layout::put_row(image, at + 1, OR, earlier, at);
+    layout::put_row(image, at + 2, AND, unmet, at);
+}
+
+// Writes the rows of a window's later periods, where the record's own rows before them end at row `at`, and gives their block.
+fn put_window(image: &mut [u8], before: usize, at: u32, window: u8) -> Block
+    requires { ⌜ WindowRoom (length (now image)) (window - 1) at ⌝ }
+    ensures written { λ _. ⌜ now (image .exit) ≡ writtenRows (now (image .entry)) at (map numbersOf (laterRows (window - 1) at)) ⌝ }
+    ensures gives { λ r. ⌜ r ≡ windowBlock before (window - 1) at ⌝ }
+{
+    let mut next = at;
+    let mut earlier = 0;
+    let mut missed = at - 1;
+    let mut j = 1;
+    while j < window {
+        put_period(image, next, at - 2, earlier, missed);
+        earlier = next + 1;
+        missed = next + 2;
+        next += PERIOD_ROWS;
+        j += 1;
+    }
+    Block {
+        before: before,
+        next: next,
+        sat: earlier,
+        one: missed,
+        two: 0,
+        code: 0,
+    }
+}
+
 // ---- the rows of a tree
 
 // The rows that tell a record's operands when they read: the right one when it begins and when it goes on, the left one when it goes on.
@@ -528,8 +586,8 @@ pub fn emit(contract: &[u8], n: usize, image: &mut [u8], at: u32, s: u32, k: u32
     let operands = reader::operands(r.kind);
     let inside = at + plan.before as u32;
     if operands == 0 {
-        let none = no_block(before, inside);
-        return put_record(image, plan, r, at, s, k, none, none);
+        let window = put_window(image, before, inside, r.last);
+        return put_record(image, plan, r, at, s, k, window, window);
     }
     let wires = wires_of(plan, at, s, k);
     let right = emit(contract, before, image, inside, wires.start, wires.go);

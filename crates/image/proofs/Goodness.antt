@@ -1,5 +1,5 @@
 -- The image of a contract is good.
-use Prim.Native.Nat.{ℕ, zero, suc, _+_, _^_, _≤_, _<_}
+use Prim.Native.Nat.{ℕ, zero, suc, _+_, _-_, _^_, _≤_, _<_}
 use native.Mathlib.Nat.{add-zero, zero-add}
 use native.Mathlib.Omega.{arith}
 use mathlib.Core.Bool.{true}
@@ -11,16 +11,17 @@ use Rattle.periods.specs.Limits.{actions}
 use Rattle.layout.specs.Rows.{Row, never, initial, attempt, negation, conjunction, disjunction, previous, Fits, namesRows}
 use Rattle.layout.proofs.ImageBytes.{Writable}
 use Rattle.contract.specs.Expressions.{any, tries, idle, succeeds, fails, Expression, atom, seq, or, star}
-use Rattle.contract.specs.Meaning.{duty, ban, power, Clause, literal, both, then, repair, repeat, when, until}
+use Rattle.contract.specs.Meaning.{duty, ban, power, Clause, literal, deadline, both, then, repair, repeat, when, until}
 use Rattle.reader.specs.Limits.{maxRecords}
 use Rattle.reader.specs.Table
-use Rattle.reader.specs.Trees.{Record}
-use Rattle.reader.specs.Spelling.{plainRecord, atomRecord, literalRecord, records, ExpressionInRange, InRange}
+use Rattle.reader.specs.Table.{Kind}
+use Rattle.reader.specs.Spelling.{atomRecord, literalRecord, deadlineRecord, records, ExpressionInRange, InRange}
 use Rattle.reader.proofs.Fields.{allowed-action}
-use Rattle.image.specs.Widths.{width, _⊹_, inside, fixedRows, afterExpression, afterClause}
-use Rattle.image.specs.Blocks.{joinRow, endRow, expressionRows, outputsOf, clauseRows}
+use Rattle.reader.proofs.WindowSum.{windows-max}
+use Rattle.image.specs.Widths.{width, neverRow, periodRows, _⊹_, afterPeriods, inside, fixedRows, afterExpression, afterClause}
+use Rattle.image.specs.Blocks.{joinRow, endRow, expressionRows, outputsOf, windowRows, lastRow, clauseRows}
 use Rattle.image.specs.Images.{rowsFor, image}
-use Rattle.image.proofs.Sizes.{after-clause, length-rowsFor, rows-max, inside-expression, inside-ifEmpty, inside-clause, inside-two}
+use Rattle.image.proofs.Sizes.{after-periods, after-clause, length-rowsFor, rows-max, inside-expression, inside-ifEmpty, inside-clause, inside-window, inside-two}
 
 -- ---- good rows
 
@@ -81,11 +82,11 @@ first {rs = []} (suc m) f g = end
 first {rs = r ∷ rs} (suc m) f g = next (f .0) (first m (f .1) g)
 
 -- a record's own rows, before and after those of its operands
-before : (r : Record) {n b : ℕ} {rs : List Row} → First n b (width r .before) rs → Rest n b (width r .before) rs → GoodFrom n b rs
-before r = first (width r .before)
+before : (k : Kind) {n b : ℕ} {rs : List Row} → First n b (width k .before) rs → Rest n b (width k .before) rs → GoodFrom n b rs
+before k = first (width k .before)
 
-after : (r : Record) {n b : ℕ} {rs : List Row} → First n b (width r .after) rs → Rest n b (width r .after) rs → GoodFrom n b rs
-after r = first (width r .after)
+after : (k : Kind) {n b : ℕ} {rs : List Row} → First n b (width k .after) rs → Rest n b (width k .after) rs → GoodFrom n b rs
+after k = first (width k .after)
 
 -- the rows that tell a block when it reads stand before it, and the block stands in the image
 record InPlace (n b S K after : ℕ) : Type 0 where
@@ -100,64 +101,78 @@ module _ (n : ℕ) where
   good-expression (atom any) i h g = g
   good-expression (atom (tries p a)) i h g =
       let j = allowed-action (atomRecord (tries p a)) i in
-      before (atomRecord (tries p a)) (omega arith) g
+      before Table.tries (omega arith) g
   good-expression (atom (idle p a)) i h g =
       let j = allowed-action (atomRecord (idle p a)) i in
-      before (atomRecord (idle p a)) (omega arith) g
+      before Table.idle (omega arith) g
   good-expression (atom (succeeds a)) i h g =
       let j = allowed-action (atomRecord (succeeds a)) i in
-      before (atomRecord (succeeds a)) (omega arith) g
+      before Table.succeeds (omega arith) g
   good-expression (atom (fails a)) i h g =
       let j = allowed-action (atomRecord (fails a)) i in
-      before (atomRecord (fails a)) (omega arith) g
+      before Table.fails (omega arith) g
   good-expression (seq l r) {b} {S} i h g =
       let inR = inside-expression r (inside Table.seq b) (joinRow b) (omega arith) in
       let inL = inside-expression l (afterExpression r (inside Table.seq b)) S (omega arith) in
       let whole = inside-ifEmpty l S b (h .begins) in
       let ended = inside-ifEmpty r _ _ (inL .end-inside) in
-      before (plainRecord Table.seq) (omega arith) (good-expression r (i .1) (omega arith) (good-expression l (i .0) (omega arith) (after (plainRecord Table.seq) (omega arith) g)))
+      before Table.seq (omega arith) (good-expression r (i .1) (omega arith) (good-expression l (i .0) (omega arith) (after Table.seq (omega arith) g)))
   good-expression (or l r) {b} {S} i h g =
       let inR = inside-expression r (inside Table.or b) S (h .begins) in
       let inL = inside-expression l (afterExpression r (inside Table.or b)) S (omega arith) in
-      good-expression r (i .1) (omega arith) (good-expression l (i .0) (omega arith) (after (plainRecord Table.or) (omega arith) g))
+      good-expression r (i .1) (omega arith) (good-expression l (i .0) (omega arith) (after Table.or (omega arith) g))
   good-expression (star e) {b} i h g =
       let parts = inside-expression e (inside Table.star b) (joinRow b) (omega arith) in
-      before (plainRecord Table.star) (omega arith) (good-expression e i (omega arith) (after (plainRecord Table.star) (omega arith) g))
+      before Table.star (omega arith) (good-expression e i (omega arith) (after Table.star (omega arith) g))
+
+  good-window : (m : ℕ) {g e x c : ℕ} {rest : List Row} → (g < c) × (e < c) × (x < c) → afterPeriods m c ≤ n
+      → GoodFrom n (afterPeriods m c) rest → GoodFrom n c (windowRows m g e x c rest)
+  unfolding windowRows
+  good-window zero h i r = r
+  good-window (suc m) {c = c} h i r =
+      let l = after-periods m (c ⊹ periodRows) in
+      first periodRows (omega arith) (good-window m (omega arith) i r)
 
   good-clause : (c : Clause) {b S K : ℕ} {rest : List Row} → InRange c → InPlace n b S K (afterClause c b)
       → GoodFrom n (afterClause c b) rest → GoodFrom n b (clauseRows c b S K rest)
   unfolding InRange afterClause outputsOf clauseRows
   good-clause (literal duty p a) i h g =
       let j = allowed-action (literalRecord duty p a) i in
-      before (literalRecord duty p a) (omega arith) g
+      before Table.duty (omega arith) g
   good-clause (literal ban p a) i h g =
       let j = allowed-action (literalRecord ban p a) i in
-      before (literalRecord ban p a) (omega arith) g
+      before Table.ban (omega arith) g
   good-clause (literal power p a) i h g =
       let j = allowed-action (literalRecord power p a) i in
-      before (literalRecord power p a) (omega arith) g
+      before Table.power (omega arith) g
+  good-clause (deadline p a d) {b} i h g =
+      let j = allowed-action (deadlineRecord p a d) i in
+      let l = after-periods (d - 1) (inside Table.deadline b) in
+      let earlier = inside-window (d - 1) 1 neverRow (inside Table.deadline b) (omega arith) (omega arith) in
+      let missed = inside-window (d - 1) 2 (b ⊹ 5) (inside Table.deadline b) (omega arith) (omega arith) in
+      before Table.deadline (omega arith) (good-window (d - 1) (omega arith) (omega arith) (after Table.deadline (omega arith) g))
   good-clause (both l r) {b} i h g =
       inside-two l r (inside Table.both b) (omega arith) (λ inR inL.
-      before (plainRecord Table.both) (omega arith) (good-clause r (i .1) (omega arith) (good-clause l (i .0) (omega arith) (after (plainRecord Table.both) (omega arith) g))))
+      before Table.both (omega arith) (good-clause r (i .1) (omega arith) (good-clause l (i .0) (omega arith) (after Table.both (omega arith) g))))
   good-clause (then l r) {b} i h g =
       inside-two l r (inside Table.then b) (omega arith) (λ inR inL.
-      before (plainRecord Table.then) (omega arith) (good-clause r (i .1) (omega arith) (good-clause l (i .0) (omega arith) (after (plainRecord Table.then) (omega arith) g))))
+      before Table.then (omega arith) (good-clause r (i .1) (omega arith) (good-clause l (i .0) (omega arith) (after Table.then (omega arith) g))))
   good-clause (repair l r) {b} i h g =
       inside-two l r (inside Table.repair b) (omega arith) (λ inR inL.
-      before (plainRecord Table.repair) (omega arith) (good-clause r (i .1) (omega arith) (good-clause l (i .0) (omega arith) (after (plainRecord Table.repair) (omega arith) g))))
+      before Table.repair (omega arith) (good-clause r (i .1) (omega arith) (good-clause l (i .0) (omega arith) (after Table.repair (omega arith) g))))
   good-clause (repeat c) {b} i h g =
       let parts = inside-clause c (inside Table.repeat b) (omega arith) in
-      before (plainRecord Table.repeat) (omega arith) (good-clause c i (omega arith) g)
+      before Table.repeat (omega arith) (good-clause c i (omega arith) g)
   good-clause (when e c) {b} {S} i h g =
       let inR = inside-clause c (inside Table.when b) (omega arith) in
       let inL = inside-expression e (afterClause c (inside Table.when b)) S (omega arith) in
-      before (plainRecord Table.when) (omega arith) (good-clause c (i .1) (omega arith) (good-expression e (i .0) (omega arith) (after (plainRecord Table.when) (omega arith) g)))
+      before Table.when (omega arith) (good-clause c (i .1) (omega arith) (good-expression e (i .0) (omega arith) (after Table.when (omega arith) g)))
   good-clause (until c e) {b} {S} i h g =
       let inR = inside-expression e (inside Table.until b) S (omega arith) in
       let inL = inside-clause c (afterExpression e (inside Table.until b)) (omega arith) in
-      before (plainRecord Table.until) (omega arith)
+      before Table.until (omega arith)
       (good-expression e {rest = clauseRows c (afterExpression e (inside Table.until b)) S (b ⊹ 2) _} (i .1) (omega arith)
-      (good-clause c (i .0) (omega arith) (after (plainRecord Table.until) (omega arith) g)))
+      (good-clause c (i .0) (omega arith) (after Table.until (omega arith) g)))
 
 -- ---- the image
 
@@ -177,6 +192,7 @@ module _ (c : Clause) (i : InRange c) where
   writable h =
       let l = length-rowsFor c in
       let m = rows-max c in
+      let d = windows-max c i in
       let a = after-clause c fixedRows in
       let o = inside-clause c fixedRows (omega arith) in
       record {

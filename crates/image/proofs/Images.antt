@@ -7,6 +7,7 @@ use Rattle.states.proofs.Fresh.{fresh-read}
 use Rattle.contract.specs.Meaning.{Clause}
 use Rattle.reader.specs.Reader.{taken, read}
 use Rattle.reader.proofs.Reader.{taken-spells, taken-count}
+use Rattle.reader.proofs.WindowSum.{spelled-windows}
 use Rattle.image.specs.Images.{image, imageFor}
 use Rattle.image.specs.Rightness.{RightFor, SizedFor}
 use Rattle.image.proofs.Sizes.{length-rowsFor, rows-max, rows-allowed}
@@ -29,6 +30,6 @@ unfolding imageFor image
 sized-for contract c e =
     rw e record {
       rows-are = rw rowCount-imageBytes (length-rowsFor c);
-      rows-max = rw (rowCount-imageBytes, taken-count contract c e) (rows-max c);
-      rows-allowed = rw (rowCount-imageBytes, taken-count contract c e) (rows-allowed c);
+      rows-max = rw (rowCount-imageBytes, taken-count contract c e, spelled-windows contract c (taken-spells contract c e)) (rows-max c);
+      rows-allowed = rw (rowCount-imageBytes, taken-count contract c e, spelled-windows contract c (taken-spells contract c e)) (rows-allowed c);
     }

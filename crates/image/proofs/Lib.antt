@@ -18,6 +18,7 @@ pub mod Stopping
 pub mod Both
 pub mod Until
 pub mod Literals
+pub mod Deadlines
 pub mod Repeating
 pub mod Clauses
 pub mod Root

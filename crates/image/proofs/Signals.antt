@@ -1,13 +1,13 @@
 -- The vocabulary of the layers above: signals, what it means that they obey rows, what a decision reports, and the equations between the signals
 -- of each kind's block.
-use Prim.Native.Nat.{ℕ, suc}
+use Prim.Native.Nat.{ℕ, suc, _-_}
 use mathlib.Core.Bool.{Bool, true, false, not, _&&_, _||_, cond}
 use mathlib.Core.List.{List, [], _∷_}
 use mathlib.Core.Path.{_≡_, refl}
-use Rattle.periods.specs.Periods.{Party, party1, party2, other, Period, tries}
+use Rattle.periods.specs.Periods.{Party, party1, party2, other, Period, tries, succeeds}
 use Rattle.layout.specs.Rows.{Row, never, initial, attempt, negation, conjunction, disjunction, previous}
 use Rattle.contract.specs.Expressions.{Atom, holds, Expression, atom, seq, or, star, holdsEmpty}
-use Rattle.contract.specs.Meaning.{Literal, Clause, literal, both, then, repair, repeat, when, until, Blame, only, bothParties, Decision, undecided, satisfied, violated, literalDecision}
+use Rattle.contract.specs.Meaning.{Literal, duty, Clause, literal, deadline, both, then, repair, repeat, when, until, Blame, only, bothParties, Decision, undecided, satisfied, violated, literalDecision}
 
 -- A signal has a value in each period: given the period and those before it, the latest first.
 abbrev pub Signal : Type 0
@@ -111,6 +111,23 @@ pub record JoinsOn (ended S K start : Signal) : Type 0 where
 pub record Remembers (now go kept : Signal) : Type 0 where
   pub stays : kept ≐ λ p h. go p h && at kept h || now p h
 
+-- The periods of a window from one in which the duty is `missed`, n more after it. `last`: missed in the window's last period. `earlier`: missed in the
+-- period before, in one of the window's periods but the last.
+pub data Window (a : ℕ) (K : Signal) : ℕ → (missed earlier last : Signal) → Type 0 where
+  at-last : {missed earlier last : Signal}
+      → (earlier ≐ λ p h. false)
+      → (last ≐ missed)
+      → Window a K 0 missed earlier last
+  more : {n : ℕ} {missed next later earlier last : Signal}
+      → (next ≐ λ p h. K p h && not (succeeds p a) && at missed h)
+      → Window a K n next later last
+      → (earlier ≐ λ p h. at missed h || later p h)
+      → Window a K (suc n) missed earlier last
+
+-- what a deadline says by whether it waits now, whether it is missed in the last period of its window, and by the two parties' attempts
+abbrev pub deadlineReport : Party → (action : ℕ) → (waits last : Bool) → Period → Report
+deadlineReport q a w z p = literalReport duty q (cond (succeeds p a) w z) (tries p q a) (tries p (other q) a)
+
 -- S where the expression holds the empty list
 abbrev pub whereEmpty : Expression → Signal → Signal
 whereEmpty e x p h = holdsEmpty e && x p h
@@ -146,6 +163,12 @@ pub data WiredClause : Clause → (S K sat one two : Signal) → Type 0 where
       → ((p : Period) (h : List Period)
       → Says (sat p h) (one p h) (two p h) (literalReport l q (S p h) (tries p q a) (tries p (other q) a)))
       → WiredClause (literal l q a) S K sat one two
+  wired-deadline : {q : Party} {a d : ℕ} {S K missed earlier last sat one two : Signal}
+      → (missed ≐ λ p h. S p h && not (succeeds p a))
+      → Window a K (d - 1) missed earlier last
+      → ((p : Period) (h : List Period)
+      → Says (sat p h) (one p h) (two p h) (deadlineReport q a (S p h || K p h && earlier p h) (last p h) p))
+      → WiredClause (deadline q a d) S K sat one two
   wired-both : {l r : Clause} {S K go done satL oneL twoL satR oneR twoR metL metR sat one two : Signal}
       → UntilDone done K go
       → WiredClause l S go satL oneL twoL

@@ -1,5 +1,5 @@
 -- How many rows a tree has, and that the rows which its block gives out stand among them.
-use Prim.Native.Nat.{ℕ, zero, suc, _+_, _*_, _≤_, _<_}
+use Prim.Native.Nat.{ℕ, zero, suc, _+_, _*_, _-_, _≤_, _<_}
 use native.Mathlib.Omega.{arith}
 use mathlib.Core.Bool.{Bool, true, false, cond}
 use mathlib.Core.List.{List}
@@ -9,15 +9,15 @@ use lib.ListN.{length}
 use borrow.Author.Tests.{leb-true}
 use Rattle.periods.specs.Periods.{Party, party1, party2}
 use Rattle.layout.specs.Rows.{Row}
-use Rattle.contract.specs.Expressions.{any, tries, idle, succeeds, fails, Expression, atom, seq, or, star, holdsEmpty}
-use Rattle.contract.specs.Meaning.{duty, ban, power, Clause, literal, both, then, repair, repeat, when, until}
+use Rattle.contract.specs.Expressions.{Atom, any, tries, idle, succeeds, fails, Expression, atom, seq, or, star, holdsEmpty}
+use Rattle.contract.specs.Meaning.{duty, ban, power, Literal, Clause, literal, deadline, both, then, repair, repeat, when, until}
 use Rattle.reader.specs.Table
 use Rattle.reader.specs.Trees.{Record}
-use Rattle.reader.specs.Spelling.{atomRecord, literalRecord, expressionRecords, records}
-use Rattle.reader.proofs.Table.{of-records}
+use Rattle.reader.specs.Spelling.{atomRecord, literalRecord, deadlineRecord, expressionRecords, records, windows}
+use Rattle.reader.proofs.Table.{of-all}
 use Rattle.image.specs.Limits.{allowedRows}
-use Rattle.image.specs.Widths.{width, size, maxSize, neverRow, maxRowsFor, _⊹_, inside, operandsFrom, afterRecord, expressionSize, clauseSize, fixedRows, afterExpression, afterClause}
-use Rattle.image.specs.Blocks.{joinRow, endRow, liveRow, ifEmpty, expressionRows, Outputs, blaming, outputsOf, clauseRows}
+use Rattle.image.specs.Widths.{width, periodRows, laterPeriods, size, maxSize, neverRow, maxRowsFor, _⊹_, afterPeriods, inside, afterRecord, expressionSize, clauseSize, fixedRows, afterExpression, afterClause}
+use Rattle.image.specs.Blocks.{joinRow, endRow, liveRow, ifEmpty, expressionRows, Outputs, blaming, windowEnd, outputsOf, windowRows, lastRow, clauseRows}
 use Rattle.image.specs.Images.{rowsFor}
 
 -- ---- row numbers
@@ -27,11 +27,18 @@ pub ⊹-plus : (b k : ℕ) → b ⊹ k ≡ b + k
 ⊹-plus b zero = omega arith
 ⊹-plus b (suc k) = omega (arith, ⊹-plus b k)
 
+-- the first row after those of n later periods of a window
+pub after-periods : (n c : ℕ) → afterPeriods n c ≡ c + periodRows * n
+after-periods zero c = omega arith
+after-periods (suc n) c = rw (after-periods n (c ⊹ periodRows)) (omega arith)
+
 -- ---- how many rows
 
 -- the first row after a record without operands, and after a tree's rows
 after-record : (r : Record) (b : ℕ) → afterRecord r (λ n. n) b ≡ b + size r
-after-record r b = omega (arith, ⊹-plus (operandsFrom r b) (width r .after), ⊹-plus b (width r .before))
+after-record r b =
+    let k = r .kind in
+    omega (arith, ⊹-plus (afterPeriods (laterPeriods r) (inside k b)) (width k .after), after-periods (laterPeriods r) (inside k b), ⊹-plus b (width k .before))
 
 pub after-expression : (e : Expression) (b : ℕ) → afterExpression e b ≡ b + expressionSize e
 unfolding afterExpression expressionSize
@@ -43,6 +50,7 @@ after-expression (star e) b = rw (after-expression e) (omega arith)
 pub after-clause : (c : Clause) (b : ℕ) → afterClause c b ≡ b + clauseSize c
 unfolding afterClause clauseSize
 after-clause (literal l p a) b = after-record (literalRecord l p a) b
+after-clause (deadline p a d) b = after-record (deadlineRecord p a d) b
 after-clause (both l r) b = rw (after-clause l, after-clause r) (omega arith)
 after-clause (then l r) b = rw (after-clause l, after-clause r) (omega arith)
 after-clause (repair l r) b = rw (after-clause l, after-clause r) (omega arith)
@@ -62,11 +70,17 @@ length-expression (seq l r) b S K rest = rw (length-expression r, length-express
 length-expression (or l r) b S K rest = rw (length-expression r, length-expression l) (omega arith)
 length-expression (star e) b S K rest = rw (length-expression e) (omega arith)
 
+pub length-window : (n g e m c : ℕ) (rest : List Row) → length (windowRows n g e m c rest) ≡ periodRows * n + length rest
+unfolding windowRows
+length-window zero g e m c rest = omega arith
+length-window (suc n) g e m c rest = rw (length-window n) (omega arith)
+
 pub length-clause : (c : Clause) (b S K : ℕ) (rest : List Row) → length (clauseRows c b S K rest) ≡ clauseSize c + length rest
 unfolding clauseRows clauseSize
 length-clause (literal duty p a) b S K rest = omega arith
 length-clause (literal ban p a) b S K rest = omega arith
 length-clause (literal power p a) b S K rest = omega arith
+length-clause (deadline p a d) b S K rest = rw (length-window (d - 1)) (omega arith)
 length-clause (both l r) b S K rest = rw (length-clause r, length-clause l) (omega arith)
 length-clause (then l r) b S K rest = rw (length-clause r, length-clause l) (omega arith)
 length-clause (repair l r) b S K rest = rw (length-clause r, length-clause l) (omega arith)
@@ -78,20 +92,35 @@ pub length-rowsFor : (c : Clause) → length (rowsFor c) ≡ clauseSize c + fixe
 unfolding rowsFor
 length-rowsFor c = rw (length-clause c) (omega arith)
 
--- no record has more rows than the widest
-size-max : (r : Record) → size r ≤ maxSize
-size-max r = leb-true (size r) maxSize (of-records (λ r. leb (size r) maxSize) (λ f. refl) r)
+-- no record has more rows than the widest beside its window's
+size-max : (r : Record) → size r ≤ maxSize + periodRows * r .fields .last
+size-max r =
+    let w = width (r .kind) in
+    omega (arith, leb-true (w .before + w .after) maxSize (of-all (λ k. leb (width k .before + width k .after) maxSize) refl (r .kind)))
+
+atom-last : (x : Atom) → atomRecord x .fields .last ≡ 0
+atom-last any = refl
+atom-last (tries p a) = refl
+atom-last (idle p a) = refl
+atom-last (succeeds a) = refl
+atom-last (fails a) = refl
+
+literal-last : (l : Literal) (p : Party) (a : ℕ) → literalRecord l p a .fields .last ≡ 0
+literal-last duty p a = refl
+literal-last ban p a = refl
+literal-last power p a = refl
 
 expression-max : (e : Expression) → expressionSize e ≤ maxSize * expressionRecords e
 unfolding expressionSize expressionRecords
-expression-max (atom x) = size-max (atomRecord x)
+expression-max (atom x) = omega (arith, size-max (atomRecord x), atom-last x)
 expression-max (seq l r) = omega (arith, expression-max l, expression-max r)
 expression-max (or l r) = omega (arith, expression-max l, expression-max r)
 expression-max (star e) = omega (arith, expression-max e)
 
-clause-max : (c : Clause) → clauseSize c ≤ maxSize * records c
-unfolding clauseSize records
-clause-max (literal l p a) = size-max (literalRecord l p a)
+clause-max : (c : Clause) → clauseSize c ≤ maxSize * records c + periodRows * windows c
+unfolding clauseSize records windows
+clause-max (literal l p a) = omega (arith, size-max (literalRecord l p a), literal-last l p a)
+clause-max (deadline p a d) = size-max (deadlineRecord p a d)
 clause-max (both l r) = omega (arith, clause-max l, clause-max r)
 clause-max (then l r) = omega (arith, clause-max l, clause-max r)
 clause-max (repair l r) = omega (arith, clause-max l, clause-max r)
@@ -99,11 +128,11 @@ clause-max (repeat c) = omega (arith, clause-max c)
 clause-max (when e c) = omega (arith, expression-max e, clause-max c)
 clause-max (until c e) = omega (arith, clause-max c, expression-max e)
 
-pub rows-max : (c : Clause) → length (rowsFor c) ≤ maxRowsFor (records c)
+pub rows-max : (c : Clause) → length (rowsFor c) ≤ maxRowsFor (records c) (windows c)
 rows-max c = omega (arith, length-rowsFor c, clause-max c)
 
 -- no more than every image buffer has room for
-pub rows-allowed : (c : Clause) → length (rowsFor c) ≤ allowedRows (records c)
+pub rows-allowed : (c : Clause) → length (rowsFor c) ≤ allowedRows (records c) (windows c)
 rows-allowed c = omega (arith, rows-max c)
 
 -- ---- the rows that a block gives out stand before its end
@@ -147,6 +176,7 @@ unfolding outputsOf afterClause
 inside-clause (literal duty p a) b h = inside-literal p (omega arith) (omega arith)
 inside-clause (literal ban p a) b h = inside-literal p (omega arith) (omega arith)
 inside-clause (literal power p a) b h = inside-literal p (omega arith) (omega arith)
+inside-clause (deadline p a d) b h = let e = after-periods (d - 1) (inside Table.deadline b) in inside-literal p (omega arith) (omega arith)
 inside-clause (both l r) b h = omega (arith, after-clause l (afterClause r (inside Table.both b)), after-clause r (inside Table.both b))
 inside-clause (then l r) b h = omega (arith, inside-clause r (inside Table.then b) (omega arith), after-clause l (afterClause r (inside Table.then b)))
 inside-clause (repair l r) b h = omega (arith, inside-clause r (inside Table.repair b) (omega arith), after-clause l (afterClause r (inside Table.repair b)))
@@ -155,6 +185,11 @@ inside-clause (when e c) b h = omega (arith, inside-clause c (inside Table.when 
 inside-clause (until c e) b h =
     let p = after-expression e (inside Table.until b) in
     omega (arith, inside-clause c (afterExpression e (inside Table.until b)) (omega arith))
+
+-- the last row of a window that is given out
+pub inside-window : (n k x c : ℕ) → k < periodRows → x < c → lastRow n k x c < afterPeriods n c
+inside-window zero k x c h i = i
+inside-window (suc n) k x c h i = inside-window n k (c ⊹ k) (c ⊹ periodRows) h (omega (arith, ⊹-plus c k))
 
 -- of two clauses, the right one's rows first
 pub inside-two : {A : Type 0} (l r : Clause) (b : ℕ) → 0 < b

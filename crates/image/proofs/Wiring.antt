@@ -1,16 +1,17 @@
 -- The signals that obey a block's rows are wired as its tree. No row number is computed here.
-use Prim.Native.Nat.{ℕ}
-use mathlib.Core.Bool.{Bool, true, false, not, _&&_, cond, and-true}
+use Prim.Native.Nat.{ℕ, zero, suc, _-_}
+use mathlib.Core.Bool.{Bool, true, false, not, _&&_, _||_, cond, and-true, or-false, or-assoc, and-eq-true-iff, false≢true}
 use mathlib.Core.List.{List}
 use mathlib.Core.Path.{_≡_, refl, sym, _∙_}
 use Rattle.periods.specs.Periods
 use Rattle.periods.specs.Periods.{Party, party1, party2, other, Period}
 use Rattle.layout.specs.Rows.{Row}
 use Rattle.contract.specs.Expressions.{Atom, any, tries, idle, succeeds, fails, holds, Expression, atom, seq, or, star, holdsEmpty}
-use Rattle.contract.specs.Meaning.{Literal, duty, ban, power, Clause, literal, both, then, repair, repeat, when, until, only}
-use Rattle.image.specs.Widths.{neverRow, _⊹_, afterExpression, afterClause}
-use Rattle.image.specs.Blocks.{untilDone, handOver, joinOn, remember, endRow, liveRow, ifEmpty, expressionRows, blaming, outputsOf, clauseRows}
-use Rattle.image.proofs.Signals.{Signal, _≐_, Obeys, Report, isMet, isBroken, literalReport, UntilDone, HandsOver, JoinsOn, Remembers, whereEmpty, WiredExpression, wired-atom, wired-seq, wired-or, wired-star, WiredClause, wired-literal, wired-both, wired-then, wired-repair, wired-repeat, wired-when, wired-until}
+use Rattle.contract.specs.Meaning.{Literal, duty, ban, power, Clause, literal, deadline, both, then, repair, repeat, when, until, only}
+use Rattle.contract.proofs.Windows.{by-party}
+use Rattle.image.specs.Widths.{neverRow, periodRows, _⊹_, afterPeriods, afterExpression, afterClause}
+use Rattle.image.specs.Blocks.{untilDone, handOver, joinOn, remember, endRow, liveRow, ifEmpty, expressionRows, blaming, outputsOf, windowRows, lastRow, clauseRows}
+use Rattle.image.proofs.Signals.{Signal, at, _≐_, Obeys, Report, isMet, isBroken, literalReport, Says, Window, at-last, more, deadlineReport, UntilDone, HandsOver, JoinsOn, Remembers, whereEmpty, WiredExpression, wired-atom, wired-seq, wired-or, wired-star, WiredClause, wired-literal, wired-deadline, wired-both, wired-then, wired-repair, wired-repeat, wired-when, wired-until}
 
 -- that signals obey rows, as a type that shows the rows: each law below reads its own rows there and hands the rest on
 record GivesRows (v : ℕ → Signal) (b : ℕ) (rows : List Row) : Type 0 where
@@ -81,14 +82,61 @@ power-says q true false u = says-met
 power-says q true true false = blames-other q
 power-says q true true true = says-met
 
+-- the same with party 1's blame before party 2's
+says-blaming : (v : ℕ → Signal) (q : Party) (sat own others : ℕ) {p : Period} {h : List Period} {s : Report}
+    → LiteralSays q s (v sat p h) (v own p h) (v others p h)
+    → let out = blaming q sat own others in Says (v (out .sat) p h) (v (out .one) p h) (v (out .two) p h) s
+says-blaming v party1 sat own others t = record { sat-is = t .sat-is; one-is = t .own-is; two-is = t .others-is }
+says-blaming v party2 sat own others t = record { sat-is = t .sat-is; one-is = t .others-is; two-is = t .own-is }
+
 wire-literal : (v : ℕ → Signal) (l : Literal) (q : Party) (a S K sat own others : ℕ)
     → ((p : Period) (h : List Period)
     → LiteralSays q (literalReport l q (v S p h) (Periods.tries p q a) (Periods.tries p (other q) a)) (v sat p h) (v own p h) (v others p h))
     → let out = blaming q sat own others in WiredClause (literal l q a) (v S) (v K) (v (out .sat)) (v (out .one)) (v (out .two))
-wire-literal v l party1 a S K sat own others t =
-    wired-literal λ p h. record { sat-is = t p h .sat-is; one-is = t p h .own-is; two-is = t p h .others-is }
-wire-literal v l party2 a S K sat own others t =
-    wired-literal λ p h. record { sat-is = t p h .sat-is; one-is = t p h .others-is; two-is = t p h .own-is }
+wire-literal v l q a S K sat own others t = wired-literal λ p h. says-blaming v q sat own others (t p h)
+
+-- ---- deadlines
+
+-- what the rows compute from whether the duty waits, whether it is missed in the last period, and the two attempts
+deadline-says : (q : Party) (w z t u : Bool) → (z ≡ true → (t && u) ≡ false)
+    → LiteralSays q (literalReport duty q (cond (t && u) w z) t u) (w && (t && u)) (z && not t) (z && t)
+deadline-says q w true true true e = absurd (false≢true (sym (e refl)))
+deadline-says q true false true true e = says-met
+deadline-says q false false true true e = says-nothing
+deadline-says q true true true false e = blames-other q
+deadline-says q false true true false e = blames-other q
+deadline-says q true false true false e = says-nothing
+deadline-says q false false true false e = says-nothing
+deadline-says q true true false u e = blames-own q
+deadline-says q false true false u e = blames-own q
+deadline-says q true false false u e = says-nothing
+deadline-says q false false false u e = says-nothing
+
+-- an action does not succeed where the duty is missed
+unmet : (x s : Bool) → (x && not s) ≡ true → s ≡ false
+unmet x false e = refl
+unmet true true e = absurd (false≢true e)
+unmet false true e = absurd (false≢true e)
+
+last-unmet : {a n : ℕ} {K missed earlier last : Signal} → Window a K n missed earlier last
+    → ((p : Period) (h : List Period) → missed p h ≡ true → Periods.succeeds p a ≡ false)
+    → (p : Period) (h : List Period) → last p h ≡ true → Periods.succeeds p a ≡ false
+last-unmet (at-last e l) m p h i = m p h (sym (l p h) ∙ i)
+last-unmet {a} {K = K} (more {missed = missed} n w e) m p h i =
+    last-unmet w (λ p h j. unmet (K p h) (Periods.succeeds p a) (and-eq-true-iff _ _ .0 (sym (n p h) ∙ j) .0)) p h i
+
+wire-window : (v : ℕ → Signal) (a K n g e m c : ℕ) {rest : List Row} {G : Type 0}
+    → (v g ≐ λ p h. v K p h && not (Periods.succeeds p a)) → GivesRows v c (windowRows n g e m c rest)
+    → ((later : Signal) → Window a (v K) n (v m) later (v (lastRow n 2 m c)) → (v (lastRow n 1 e c) ≐ λ p h. v e p h || later p h)
+    → GivesRows v (afterPeriods n c) rest → G)
+    → G
+unfolding windowRows
+wire-window v a K zero g e m c goesUnmet o k = k (λ p h. false) (at-last (λ p h. refl) (λ p h. refl)) (λ p h. sym (or-false (v e p h))) o
+wire-window v a K (suc n) g e m c goesUnmet o k =
+    let (was, (collects, (misses, o′))) = o .signals in
+    wire-window v a K n g (c ⊹ 1) (c ⊹ 2) (c ⊹ periodRows) goesUnmet (record { signals = o′ }) λ later w either o″.
+    k (λ p h. at (v m) h || later p h) (more (λ p h. misses p h ∙ rw (goesUnmet p h, was p h)) w (λ p h. refl))
+    (λ p h. either p h ∙ rw (collects p h, was p h) (or-assoc (v e p h) (at (v m) h) (later p h))) o″
 
 module _ (v : ℕ → Signal) (never-is : v neverRow ≐ λ p h. false) where
   -- ---- expressions
@@ -160,6 +208,16 @@ module _ (v : ℕ → Signal) (never-is : v neverRow ≐ λ p h. false) where
       let (tryOwn, (tryOther, (asked, (notOther, (others, (clear, (sat, o′))))))) = o .signals in
       k (wire-literal v power q a _ _ _ _ _ λ p h.
       rw (sat p h, clear p h, others p h, asked p h, notOther p h, tryOwn p h, tryOther p h, never-is p h) (power-says q (v S p h) _ _))
+      (record { signals = o′ })
+  wire-clause (deadline q a d) {b} {S} {K} o k =
+      let (tryOwn, (tryOther, (success, (failure, (goesUnmet, (misses, o₁)))))) = o .signals in
+      let met : (v (b ⊹ 2) ≐ λ p h. Periods.succeeds p a) = λ p h. success p h ∙ rw (tryOwn p h, tryOther p h) (sym (by-party q p a)) in
+      let missed : (v (b ⊹ 5) ≐ λ p h. v S p h && not (Periods.succeeds p a)) = λ p h. misses p h ∙ rw (failure p h, met p h) in
+      wire-window v a K (d - 1) (b ⊹ 4) neverRow (b ⊹ 5) (b ⊹ 6) (λ p h. goesUnmet p h ∙ rw (failure p h, met p h)) (record { signals = o₁ }) λ later w either o₂.
+      let (on, (waits, (sat, (notOwn, (own, (others, o′)))))) = o₂ .signals in
+      k (wired-deadline missed w λ p h. says-blaming v q _ _ _
+      (rw (sat p h, waits p h, on p h, either p h, never-is p h, own p h, others p h, notOwn p h, success p h, tryOwn p h, tryOther p h, by-party q p a)
+      (deadline-says q _ _ _ _ λ i. sym (by-party q p a) ∙ last-unmet w (λ p h j. unmet (v S p h) (Periods.succeeds p a) (sym (missed p h) ∙ j)) p h i)))
       (record { signals = o′ })
   wire-clause (both l r) o k =
       until-done o λ stops o₁.

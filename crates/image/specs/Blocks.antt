@@ -4,15 +4,15 @@
 -- true. A block gives out rows: of a clause, whether it is satisfied in this very period, or violated with party 1, with party 2 to blame; of
 -- an expression, whether a list of its set ends in this period, and whether one that has begun may still go on. (The image's own S is the row
 -- `sat` of the whole clause.)
-use Prim.Native.Nat.{ℕ}
+use Prim.Native.Nat.{ℕ, zero, suc, _-_}
 use mathlib.Core.Bool.{cond}
 use mathlib.Core.List.{List, _∷_}
 use Rattle.periods.specs.Periods.{Party, party1, party2, other}
 use Rattle.layout.specs.Rows.{Row, attempt, negation, conjunction, disjunction, previous}
 use Rattle.contract.specs.Expressions.{Atom, any, tries, idle, succeeds, fails, Expression, atom, seq, or, star, holdsEmpty}
-use Rattle.contract.specs.Meaning.{Literal, duty, ban, power, Clause, literal, both, then, repair, repeat, when, until}
+use Rattle.contract.specs.Meaning.{Literal, duty, ban, power, Clause, literal, deadline, both, then, repair, repeat, when, until}
 use Rattle.reader.specs.Table
-use Rattle.image.specs.Widths.{neverRow, _⊹_, inside, afterExpression, afterClause}
+use Rattle.image.specs.Widths.{neverRow, periodRows, _⊹_, afterPeriods, inside, afterExpression, afterClause}
 
 -- ---- rows that several kinds have, from row b on; what follows them is told where the rows stand that it needs
 
@@ -120,9 +120,16 @@ literalOutputs duty p b = blaming p (b ⊹ 3) (b ⊹ 5) (b ⊹ 7)
 literalOutputs ban p b = blaming p (b ⊹ 5) (b ⊹ 3) neverRow
 literalOutputs power p b = blaming p (b ⊹ 6) neverRow (b ⊹ 4)
 
+-- the first row after those of a deadline's window
+abbrev pub windowEnd : (window b : ℕ) → ℕ
+windowEnd d b = afterPeriods (d - 1) (inside Table.deadline b)
+
 -- where the block of a clause that starts at row b gives them out
 unfoldable pub outputsOf : Clause → (b : ℕ) → Outputs
 outputsOf (literal l p a) b = literalOutputs l p b
+outputsOf (deadline p a d) b =
+    let n = windowEnd d b in
+    blaming p (n ⊹ 2) (n ⊹ 4) (n ⊹ 5)
 outputsOf (both l r) b =
     let n = afterClause l (afterClause r (inside Table.both b)) in
     outputs (n ⊹ 6) (n ⊹ 7) (n ⊹ 8)
@@ -155,6 +162,29 @@ literalRows power p a b S rest =
     attempt p a ∷ attempt (other p) a ∷ conjunction S b ∷ negation (b ⊹ 1) ∷ conjunction (b ⊹ 2) (b ⊹ 3)
     ∷ negation (b ⊹ 4) ∷ conjunction S (b ⊹ 5) ∷ rest
 
+-- The later periods of a window, from row c on. A duty is `missed` where it waits and not both try; in a later period of its window it waits
+-- where it goes on and was missed in the period before. `goesUnmet`: it goes on and not both try. `earlier`: it was missed in the period before, in one
+-- of the window's periods so far.
+unfoldable pub windowRows : (n : ℕ) → (goesUnmet earlier missed c : ℕ) → List Row → List Row
+windowRows zero g e m c rest = rest
+windowRows (suc n) g e m c rest = previous m ∷ disjunction e c ∷ conjunction g c ∷ windowRows n g (c ⊹ 1) (c ⊹ 2) (c ⊹ periodRows) rest
+
+-- row k of the last of n later periods, x where there is none
+abbrev pub lastRow : (n k x c : ℕ) → ℕ
+lastRow zero k x c = x
+lastRow (suc n) k x c = lastRow n k (c ⊹ k) (c ⊹ periodRows)
+
+-- The block of a deadline: the duty waits from the period in which it begins to read, as long as it is missed, to the last of the window's.
+abbrev pub deadlineRows : Party → (action window : ℕ) → (b S K : ℕ) → List Row → List Row
+deadlineRows p a d b S K rest =
+    let n = windowEnd d b in
+    let earlier = lastRow (d - 1) 1 neverRow (b ⊹ 6) in
+    let missed = lastRow (d - 1) 2 (b ⊹ 5) (b ⊹ 6) in
+    attempt p a ∷ attempt (other p) a ∷ conjunction b (b ⊹ 1) ∷ negation (b ⊹ 2) ∷ conjunction K (b ⊹ 3) ∷ conjunction S (b ⊹ 3)
+    ∷ windowRows (d - 1) (b ⊹ 4) neverRow (b ⊹ 5) (b ⊹ 6)
+    (conjunction K earlier ∷ disjunction S n ∷ conjunction (n ⊹ 1) (b ⊹ 2)
+    ∷ negation b ∷ conjunction missed (n ⊹ 3) ∷ conjunction missed b ∷ rest)
+
 -- The block of a clause.
 -- both: the halves read until the whole has decided; a satisfaction is remembered, a violation is the whole's at once.
 -- then, repair: the right starts in the period after the left was satisfied, was violated; the left says nothing more.
@@ -164,6 +194,7 @@ literalRows power p a b S rest =
 -- until: clause and expression read until the whole has decided. `accepted`: now, and the clause is not violated now.
 unfoldable pub clauseRows : Clause → (b S K : ℕ) → List Row → List Row
 clauseRows (literal l p a) b S K rest = literalRows l p a b S rest
+clauseRows (deadline p a d) b S K rest = deadlineRows p a d b S K rest
 clauseRows (both l r) b S K rest =
     let right = inside Table.both b in
     let left = afterClause r right in

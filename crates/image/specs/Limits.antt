@@ -1,11 +1,20 @@
--- The room that an image buffer must have. Document 01, "Replies that refuse", 8.
+-- The room that an image buffer must have. Document 01, "Replies that refuse", 8; document 02, card 1.
 use Prim.Native.Nat.{ℕ, _+_, _*_}
+use mathlib.Core.List.{List}
 use Rattle.layout.specs.Limits.{rowBytes}
+use Rattle.reader.specs.Reader.{contractRecords, contractWindows}
 
--- how many rows it makes room for
-abbrev pub allowedRows : (records : ℕ) → ℕ
-allowedRows n = 32 * n + 64
+-- how many rows it makes room for: "4 rows for each period of each window" more
+abbrev pub allowedRows : (records windows : ℕ) → ℕ
+allowedRows n d = 32 * n + 64 + 4 * d
 
 -- "8 × (32 × records + 65) bytes": with the end record's
-abbrev pub bufferBytes : (records : ℕ) → ℕ
-bufferBytes n = rowBytes * (allowedRows n + 1)
+abbrev pub bufferBytes : (records windows : ℕ) → ℕ
+bufferBytes n d = rowBytes * (allowedRows n d + 1)
+
+-- for a contract, by its records and windows
+abbrev pub allowedFor : (contract : List ℕ) → ℕ
+allowedFor contract = allowedRows (contractRecords contract) (contractWindows contract)
+
+abbrev pub bufferFor : (contract : List ℕ) → ℕ
+bufferFor contract = bufferBytes (contractRecords contract) (contractWindows contract)

@@ -12,8 +12,8 @@ use Rattle.states.specs.States.{State, stateOf}
 use Rattle.machine.specs.Machine.{afterPeriods}
 use Rattle.contract.specs.Meaning.{Clause, Decision, undecided, satisfied, violated, meaning}
 use Rattle.contract.specs.Verdicts.{decisionPeriod, blame}
-use Rattle.reader.specs.Reader.{contractRecords}
-use Rattle.image.specs.Limits.{allowedRows}
+use Rattle.reader.specs.Reader.{contractRecords, contractWindows}
+use Rattle.image.specs.Limits.{allowedFor}
 use Rattle.image.specs.Widths.{clauseSize, fixedRows, maxRowsFor}
 
 -- a state shows a decision: "outcome (0 undecided, 1 satisfied, 2 violated); blame; .. decision period (.. 0 for none)"
@@ -38,5 +38,5 @@ pub record RightFor (clause : Clause) (image : List ℕ) : Type 0 where
 -- more than the widest records would have, and so within what refusal 8 makes room for
 pub record SizedFor (contract : List ℕ) (clause : Clause) (image : List ℕ) : Type 0 where
   pub rows-are : rowCount image ≡ clauseSize clause + fixedRows
-  pub rows-max : rowCount image ≤ maxRowsFor (contractRecords contract)
-  pub rows-allowed : rowCount image ≤ allowedRows (contractRecords contract)
+  pub rows-max : rowCount image ≤ maxRowsFor (contractRecords contract) (contractWindows contract)
+  pub rows-allowed : rowCount image ≤ allowedFor contract

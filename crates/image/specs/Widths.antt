@@ -1,14 +1,14 @@
 -- How many rows each record has, and where the rows of a tree start and end. Which rows an image has is free: "they follow from the
 -- contract's bytes alone, form a good image and meet demand 3" (Document 01, "Contracts and examples"). The room that there must be for them is in
 -- Limits.antt.
-use Prim.Native.Nat.{ℕ, zero, suc, _+_, _*_}
+use Prim.Native.Nat.{ℕ, zero, suc, _+_, _*_, _-_}
 use Rattle.contract.specs.Expressions as E
 use Rattle.contract.specs.Expressions.{Expression, atom}
 use Rattle.contract.specs.Meaning as M
 use Rattle.contract.specs.Meaning.{Clause, literal}
-use Rattle.reader.specs.Table.{Kind, duty, ban, power, both, then, repair, repeat, when, until, any, tries, idle, succeeds, fails, seq, or, star}
-use Rattle.reader.specs.Trees.{Fields, Record}
-use Rattle.reader.specs.Spelling.{plainRecord, atomRecord, literalRecord}
+use Rattle.reader.specs.Table.{Kind, duty, ban, power, both, then, repair, repeat, when, until, deadline, any, tries, idle, succeeds, fails, seq, or, star}
+use Rattle.reader.specs.Trees.{Record}
+use Rattle.reader.specs.Spelling.{plainRecord, atomRecord, literalRecord, deadlineRecord}
 
 -- A record's own rows: so many stand before its operands' rows, and so many after them.
 pub record Width : Type 0 where
@@ -18,34 +18,39 @@ pub record Width : Type 0 where
 abbrev rows : ℕ → ℕ → Width
 rows m n = record { before = m; after = n }
 
--- by a record's kind and fields; no kind's rows go by its fields
-abbrev widthOf : Kind → Fields → Width
-widthOf duty f = rows 8 0
-widthOf ban f = rows 6 0
-widthOf power f = rows 7 0
-widthOf both f = rows 3 11
-widthOf then f = rows 4 2
-widthOf repair f = rows 4 2
-widthOf repeat f = rows 5 0
-widthOf when f = rows 4 7
-widthOf until f = rows 3 5
-widthOf any f = rows 0 0
-widthOf tries f = rows 2 0
-widthOf idle f = rows 3 0
-widthOf succeeds f = rows 4 0
-widthOf fails f = rows 5 0
-widthOf seq f = rows 3 3
-widthOf or f = rows 0 2
-widthOf star f = rows 3 1
+abbrev pub width : Kind → Width
+width duty = rows 8 0
+width ban = rows 6 0
+width power = rows 7 0
+width both = rows 3 11
+width then = rows 4 2
+width repair = rows 4 2
+width repeat = rows 5 0
+width when = rows 4 7
+width until = rows 3 5
+width deadline = rows 6 6
+width any = rows 0 0
+width tries = rows 2 0
+width idle = rows 3 0
+width succeeds = rows 4 0
+width fails = rows 5 0
+width seq = rows 3 3
+width or = rows 0 2
+width star = rows 3 1
 
-abbrev pub width : Record → Width
-width r = widthOf (r .kind) (r .fields)
+-- A window's rows stand where operands' rows would: so many for each of its periods after the first. The last byte of a record is its window, 0 in
+-- every other kind.
+abbrev pub periodRows : ℕ
+periodRows = 3
+
+abbrev pub laterPeriods : Record → ℕ
+laterPeriods r = r .fields .last - 1
 
 -- how many rows of its own a record has
 abbrev pub size : Record → ℕ
-size r = width r .before + width r .after
+size r = width (r .kind) .before + periodRows * laterPeriods r + width (r .kind) .after
 
--- no record has more rows of its own
+-- no record has more rows of its own beside its window's
 abbrev pub maxSize : ℕ
 maxSize = 14
 
@@ -58,6 +63,7 @@ expressionSize (E.star e) = expressionSize e + size (plainRecord star)
 
 unfoldable pub clauseSize : Clause → ℕ
 clauseSize (literal l p a) = size (literalRecord l p a)
+clauseSize (M.deadline p a d) = size (deadlineRecord p a d)
 clauseSize (M.both l r) = clauseSize l + clauseSize r + size (plainRecord both)
 clauseSize (M.then l r) = clauseSize l + clauseSize r + size (plainRecord then)
 clauseSize (M.repair l r) = clauseSize l + clauseSize r + size (plainRecord repair)
@@ -78,9 +84,9 @@ laterRow = 2
 abbrev pub fixedRows : ℕ
 fixedRows = 3
 
--- a contract of so many records has no more rows than this
-abbrev pub maxRowsFor : (records : ℕ) → ℕ
-maxRowsFor n = maxSize * n + fixedRows
+-- a contract of so many records with windows of so many periods has no more rows than this
+abbrev pub maxRowsFor : (records windows : ℕ) → ℕ
+maxRowsFor n d = maxSize * n + periodRows * d + fixedRows
 
 -- ---- row numbers
 
@@ -90,16 +96,18 @@ abbrev pub _⊹_ : ℕ → ℕ → ℕ
 b ⊹ zero = b
 b ⊹ suc k = suc (b ⊹ k)
 
--- the first row of the operands of a record whose rows start at row b
-abbrev pub operandsFrom : Record → ℕ → ℕ
-operandsFrom r b = b ⊹ width r .before
+-- the first row after those of n later periods of a window that start at row c
+abbrev pub afterPeriods : (n c : ℕ) → ℕ
+afterPeriods zero c = c
+afterPeriods (suc n) c = afterPeriods n (c ⊹ periodRows)
 
+-- the first row of the operands, or of the window, of a record whose rows start at row b
 abbrev pub inside : Kind → ℕ → ℕ
-inside k b = operandsFrom (plainRecord k) b
+inside k b = b ⊹ width k .before
 
 -- the first row after a record's rows and those of its operands, where m gives the row after the operands' rows
 abbrev pub afterRecord : Record → (ℕ → ℕ) → ℕ → ℕ
-afterRecord r m b = m (operandsFrom r b) ⊹ width r .after
+afterRecord r m b = m (afterPeriods (laterPeriods r) (inside (r .kind) b)) ⊹ width (r .kind) .after
 
 -- The first row after the rows of a tree that start at row b. The right operand's rows stand before the left operand's.
 unfoldable pub afterExpression : Expression → ℕ → ℕ
@@ -110,6 +118,7 @@ afterExpression (E.star e) b = afterRecord (plainRecord star) (afterExpression e
 
 unfoldable pub afterClause : Clause → ℕ → ℕ
 afterClause (literal l p a) b = afterRecord (literalRecord l p a) (λ n. n) b
+afterClause (M.deadline p a d) b = afterRecord (deadlineRecord p a d) (λ n. n) b
 afterClause (M.both l r) b = afterRecord (plainRecord both) (λ n. afterClause l (afterClause r n)) b
 afterClause (M.then l r) b = afterRecord (plainRecord then) (λ n. afterClause l (afterClause r n)) b
 afterClause (M.repair l r) b = afterRecord (plainRecord repair) (λ n. afterClause l (afterClause r n)) b

@@ -1,4 +1,4 @@
--- Vectors of rows, images and refusal 9. What is expected stands in numbers and bytes alone, from document 01's text.
+-- Vectors of rows, images and refusal 9. What is expected stands in numbers and bytes alone, from the text of documents 01 and 02.
 use Prim.Native.Nat.{ℕ}
 use mathlib.Core.Bool.{true, false}
 use mathlib.Core.List.{List, [], _∷_, _++_, map}
@@ -53,12 +53,13 @@ pub record ImageVectors : Type 0 where
   pub image-read : imageOf (row 0 0 0 ++ row 6 1 0 ++ (0x54 ∷ 0x45 ∷ 2 ∷ 1 ∷ 4 ∷ 3 ∷ 6 ∷ 5 ∷ []))
       ≡ record { rows = never ∷ previous 1 ∷ []; S = 0x0102; V1 = 0x0304; V2 = 0x0506 }
   pub rows-of-32 : rowCount (replicate 32 0) ≡ 3
-  -- "image length no multiple of 8, under 16 or over 16,904; 0": also where row 1 is bad
+  -- "image length no multiple of 8, under 16 or over" 47,624; 0: also where row 1 is bad
   pub lengths :
       map (λ (l : List ℕ). numberAndPlace (imageTest l))
-      ([] ∷ row 0 0 0 ∷ (row 0 0 0 ++ end 0 0 0 ++ (0 ∷ [])) ∷ (row 0 0 0 ++ replicate 17 0) ∷ (row 0 0 0 ++ replicate 16904 0) ∷ [])
+      ([] ∷ row 0 0 0 ∷ (row 0 0 0 ++ end 0 0 0 ++ (0 ∷ [])) ∷ (row 0 0 0 ++ replicate 17 0) ∷ (row 0 0 0 ++ replicate 47624 0) ∷ [])
       ≡ (9, 0) ∷ (9, 0) ∷ (9, 0) ∷ (9, 0) ∷ (9, 0) ∷ []
-  pub longest : map (λ (n : ℕ). goodImageLength (replicate n 0)) (16 ∷ 16904 ∷ 16912 ∷ []) ≡ true ∷ true ∷ false ∷ []
+  -- 1, 5,951, 5,952 and 5,953 rows
+  pub longest : map (λ (n : ℕ). goodImageLength (replicate n 0)) (16 ∷ 47616 ∷ 47624 ∷ 47632 ∷ []) ≡ true ∷ true ∷ true ∷ false ∷ []
   -- the table's small input: row 0 of kind 3
   pub row-0-of-kind-3 : numberAndPlace (imageTest (row 3 0 0 ++ end 0 0 0)) ≡ (9, 0)
   -- each kind; kind 2 of either party, and of action 15; kind 6 of a lower row, of itself, and of a higher one

@@ -1,5 +1,4 @@
--- Images and their bytes. Document 01, "Image and row machine": "An image is 1 to 2,112 rows of 8 bytes, numbered from 0, then an end
--- record."
+-- Images and their bytes. Document 01, "Image and row machine": "rows of 8 bytes, numbered from 0, then an end record".
 use Prim.Native.Nat.{ℕ, zero, suc, _+_, _*_, _-_, _/_, _%_}
 use mathlib.Core.Bool.{Bool, _&&_}
 use mathlib.Core.List.{List, [], _∷_, _++_}

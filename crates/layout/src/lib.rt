@@ -12,7 +12,7 @@ use records::Fault;
 use records::Test;
 
 // The most rows of an image.
-pub const MAX_ROWS: usize = 2112;
+pub const MAX_ROWS: usize = 5952;
 
 // The bytes of a row, and of an end record.
 pub const ROW_BYTES: usize = 8;

@@ -1,6 +1,6 @@
 -- Acceptance, rejection and meaning go by the actions that records can name alone: they are the same whether a period has bits above the last action
 -- or not. So "no list at all" ranges over just the periods that records can hold. Document 01, "Records" and "Expressions".
-use Prim.Native.Nat.{ℕ, zero, suc, _<_}
+use Prim.Native.Nat.{ℕ, zero, suc, _-_, _<_}
 use mathlib.Core.Bool.{Bool, true, false, not}
 use mathlib.Core.List.{List, [], _∷_, _++_, map}
 use mathlib.Core.Logic.{_↔_}
@@ -13,9 +13,9 @@ use Rattle.periods.proofs.Recorded.{Recorded, masked, masked-tries, masked-reco
 use Rattle.contract.specs.Expressions.{Atom, any, idle, succeeds, fails, holds, Expression, Holds, one, join, left, right, none, more, member, begins}
 use Rattle.contract.specs.Expressions as Expressions
 use Rattle.contract.specs.Readings.{Dead, Reading, pending, accepted, rejected, judged, readingTo, reading}
-use Rattle.contract.specs.Meaning.{Literal, duty, ban, power, Clause, literal, both, then, repair, repeat, when, until, Decision, undecided, satisfied, violated, literalMeaning, later, after, thenMeaning, repairMeaning, repeatMeaning, whenMeaning, meaning}
+use Rattle.contract.specs.Meaning.{Literal, duty, ban, power, Clause, literal, deadline, both, then, repair, repeat, when, until, Decision, undecided, satisfied, violated, literalMeaning, later, after, firstSuccess, thenMeaning, repairMeaning, repeatMeaning, whenMeaning, meaning}
 use Rattle.contract.proofs.Expressions.{member-iff, begins-iff}
-use Rattle.reader.specs.Spelling.{atomRecord, literalRecord, Allowed, ExpressionInRange, InRange}
+use Rattle.reader.specs.Spelling.{atomRecord, literalRecord, deadlineRecord, Allowed, ExpressionInRange, InRange}
 use Rattle.reader.proofs.Fields.{allowed-action}
 
 -- ---- periods with the same attempts
@@ -150,15 +150,31 @@ unfolding repeatMeaning
 repeat-alike m h zero w v a = refl
 repeat-alike m h (suc n) w v a = rw (h w v a) (then-alike _ _ (after-alike (repeatMeaning m n) (repeat-alike m h n) w v a) (m v))
 
-literal-alike : (l : Literal) (p : Party) (n : ℕ) → Allowed (literalRecord l p n) → MeansAlike (literalMeaning l p n)
-literal-alike l p n r [] [] end = refl
-literal-alike duty p n r (x ∷ w) (y ∷ v) (next s a) = let h = allowed-action (literalRecord duty p n) r in rw (s .same p n h, s .same (other p) n h)
-literal-alike ban p n r (x ∷ w) (y ∷ v) (next s a) = let h = allowed-action (literalRecord ban p n) r in rw (s .same p n h, s .same (other p) n h)
-literal-alike power p n r (x ∷ w) (y ∷ v) (next s a) = let h = allowed-action (literalRecord power p n) r in rw (s .same p n h, s .same (other p) n h)
+-- the action of a literal in range is one of those that there are
+literal-action : (l : Literal) (p : Party) (n : ℕ) → Allowed (literalRecord l p n) → n < actions
+literal-action duty p n r = allowed-action (literalRecord duty p n) r
+literal-action ban p n r = allowed-action (literalRecord ban p n) r
+literal-action power p n r = allowed-action (literalRecord power p n) r
+
+module _ (n : ℕ) (h : n < actions) where
+  literal-alike : (l : Literal) (p : Party) → MeansAlike (literalMeaning l p n)
+  literal-alike l p [] [] end = refl
+  literal-alike l p (x ∷ w) (y ∷ v) (next s a) = rw (s .same p n h, s .same (other p) n h)
+
+  success-alike : MeansAlike (firstSuccess n)
+  unfolding firstSuccess Periods.succeeds
+  success-alike [] [] end = refl
+  success-alike (x ∷ w) (y ∷ v) (next s a) = rw (s .same party1 n h, s .same party2 n h, success-alike w v a)
 
 pub meaning-alike : (c : Clause) → InRange c → MeansAlike (meaning c)
 unfolding meaning InRange
-meaning-alike (literal l p n) r w v a = literal-alike l p n r w v a
+meaning-alike (literal l p n) r w v a = literal-alike n (literal-action l p n r) l p w v a
+meaning-alike (deadline p n d) r w v a =
+    let h = allowed-action (deadlineRecord p n d) r in
+    rw (
+      success-alike n h (take d w) (take d v) (alike-take d a),
+      after-alike (literalMeaning duty p n) (literal-alike n h duty p) w v a (d - 1),
+    )
 meaning-alike (both l r) g w v a = rw (meaning-alike l (g .0) w v a, meaning-alike r (g .1) w v a)
 meaning-alike (then l r) g w v a =
     rw (meaning-alike l (g .0) w v a) (then-alike _ _ (after-alike (meaning r) (meaning-alike r (g .1)) w v a) (meaning l v))

@@ -20,7 +20,7 @@ use Rattle.records.specs.declared.Fault.the-variants.{BadMark, UnknownKind, Bad
 use Rattle.reader.specs.declared.Lookup.the-variants.{Found}
 use Rattle.reader.specs.declared.Step.{Step}
 use Rattle.reader.specs.declared.Step.the-variants.{Refused, Completed}
-use Rattle.reader.specs.Table.{Sort, clause, expression, Kind, kindOf, line, duty, ban, power, both, then, repair, repeat, when, until, any, tries, idle, succeeds, fails, seq, or, star}
+use Rattle.reader.specs.Table.{Sort, clause, expression, Kind, kindOf, line, duty, ban, power, both, then, repair, repeat, when, until, deadline, any, tries, idle, succeeds, fails, seq, or, star}
 use Rattle.reader.specs.Trees.{Trees, Fields, goodFields, node}
 use Rattle.reader.specs.Reader.{Result, refused, taken, provided, demand, kindAt, fieldsAt, Operand, operand, oneMore, below, operandsOf, holdsEmptyUnder, push, readRecord, justOne, testOf}
 use Rattle.reader.specs.Codes.{sortNumber, entryOf, lookupOf, operandCount, inRanges, emptyCode, expressionCode, codeOf, codeAt, sortOf, goodOperands, emptyUnder, completed, stepFound, stepOf}
@@ -112,6 +112,7 @@ told repair f ts st = record { empty = refl; code = refl }
 told repeat f ts st = record { empty = refl; code = refl }
 told when f ts st = record { empty = is-empty (holdsEmpty (ts .0)); code = refl }
 told until f ts st = record { empty = is-empty (holdsEmpty (ts .1 .0)); code = refl }
+told deadline f ts st = record { empty = refl; code = refl }
 told any f ts st = record { empty = refl; code = refl }
 told tries f ts st = record { empty = refl; code = refl }
 told idle f ts st = record { empty = refl; code = refl }

@@ -9,12 +9,13 @@ use borrow.Author.Tests.{eqb-true, eqb-false, leb-true, le-leb, ltb-true, ltb-fa
 use Rattle.records.proofs.Cases.{true-or-false}
 use Rattle.periods.specs.Limits.{actions}
 use Rattle.periods.specs.Periods.{partyNumber}
+use Rattle.reader.specs.Limits.{maxWindow}
 use Rattle.reader.specs.Table.{Kind, Range, within, partyNumbers, Line, line}
 use Rattle.reader.specs.Trees.{Fields, Record, goodFields, partyNamed}
 use Rattle.reader.specs.Spelling.{Allowed}
 use Rattle.reader.proofs.Table.{of-all}
 
-abbrev uses : Range → Bool
+abbrev pub uses : Range → Bool
 uses r = ltb 0 (r .greatest)
 
 -- what a node keeps
@@ -90,4 +91,13 @@ allowed-action r h =
     let i = inside (l .action) (r .fields .action) (each l (r .fields) h .action) in
     let m : l .action .greatest < actions =
     ltb-true (l .action .greatest) actions (of-all (λ J. ltb (line J .action .greatest) actions) refl (r .kind)) in
+    omega arith
+
+-- a last byte in range is at most the longest window
+pub allowed-last : (r : Record) → Allowed r → r .fields .last ≤ maxWindow
+allowed-last r h =
+    let l = line (r .kind) in
+    let i = inside (l .last) (r .fields .last) (each l (r .fields) h .last) in
+    let m : l .last .greatest ≤ maxWindow =
+    leb-true (l .last .greatest) maxWindow (of-all (λ J. leb (line J .last .greatest) maxWindow) refl (r .kind)) in
     omega arith

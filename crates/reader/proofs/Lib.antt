@@ -4,6 +4,7 @@ pub mod Fields
 pub mod Spelling
 pub mod Nodes
 pub mod Reader
+pub mod WindowSum
 pub mod Alike
 pub mod Places
 pub mod Answers

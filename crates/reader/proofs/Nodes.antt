@@ -21,7 +21,7 @@ use Rattle.records.specs.declared.Fault.{Fault}
 use Rattle.records.specs.Refusals.{require}
 use Rattle.records.specs.declared.Fault.the-variants.{BadMark, UnknownKind, BadField, BadOperands, EmptyList}
 use Rattle.reader.specs.Limits.{recordBytes}
-use Rattle.reader.specs.Table.{Sort, clause, expression, Kind, duty, ban, power, both, then, repair, repeat, when, until, any, tries, idle, succeeds, fails, seq, or, star, kindOf, line}
+use Rattle.reader.specs.Table.{Sort, clause, expression, Kind, duty, ban, power, both, then, repair, repeat, when, until, deadline, any, tries, idle, succeeds, fails, seq, or, star, kindOf, line}
 use Rattle.reader.specs.Trees.{Tree, Trees, Fields, goodFields, node}
 use Rattle.reader.specs.Spelling.{spellRecord, Allowed, ExpressionInRange, InRange}
 use Rattle.reader.specs.Reader.{Result, refused, taken, next, provided, demand, kindAt, fieldsAt, Operand, operand, Operands, oneMore, operandsOf, holdsEmptyUnder, push, readRecord}
@@ -66,6 +66,7 @@ good-node until f ts = (
   λ g. (refl, ((g .0 .0, g .1 .0), (g .0 .1, tt)), not-held (ts .1 .0) .1 (g .1 .1)),
   λ h. ((h .1 .0 .0, h .1 .1 .0), (h .1 .0 .1, not-held (ts .1 .0) .0 (h .2))),
 )
+good-node deadline f ts = (λ g. (g .0, tt, refl), λ h. (h .0, tt))
 good-node any f ts = (λ g. (g, tt, refl), λ h. h .0)
 good-node tries f ts = (λ g. (g, tt, refl), λ h. h .0)
 good-node idle f ts = (λ g. (g, tt, refl), λ h. h .0)

@@ -164,10 +164,14 @@ reads-node kind f u ts h good k n st rest =
 reads-tree : (s : Sort) (t : Tree s) → ReadsTree s t
 reads-tree = on-tree ReadsTree reads-node
 
+pub spelled-count : (c : Clause) → contractRecords (spell c) ≡ records c
+unfolding contractRecords
+spelled-count c = rw length-spell (omega arith)
+
 pub spells-taken : (l : List ℕ) (c : Clause) → Spells l c → read l ≡ taken c
 unfolding read readRecords ReadsTree
 spells-taken l c s =
-    let count : contractRecords (spell c) ≡ records c = unfold contractRecords in rw length-spell (omega arith) in
+    let count = spelled-count c in
     let w : WholeRecords (spell c) =
     record { some-records = rw count (s .some-records); few-records = rw count (s .few-records); whole = rw count (length-spell c) } in
     let stack : readRecords 0 (records c) [] (spell c) ≡ taken (operand clause c ∷ []) =

@@ -11,7 +11,7 @@ use Rattle.contract.specs.Expressions.{Expression}
 use Rattle.contract.specs.Meaning as M
 use Rattle.contract.specs.Meaning.{Clause}
 use Rattle.reader.specs.Limits.{recordBytes}
-use Rattle.reader.specs.Table.{Sort, clause, expression, Kind, duty, ban, power, both, then, repair, repeat, when, until, any, tries, idle, succeeds, fails, seq, or, star, line}
+use Rattle.reader.specs.Table.{Sort, clause, expression, Kind, duty, ban, power, both, then, repair, repeat, when, until, deadline, any, tries, idle, succeeds, fails, seq, or, star, line}
 use Rattle.reader.specs.Trees.{Tree, Trees, Fields, Record, node}
 use Rattle.reader.specs.Spelling.{spellRecord, spellExpression, spell, expressionRecords, records, spellTree, treeRecords}
 use Rattle.reader.proofs.Fields.{used, recordOf}
@@ -39,8 +39,11 @@ length-record r = refl
 
 -- ---- every tree is a node, of fields that its kind uses
 
+abbrev withLast : (party action last : ℕ) → Fields
+withLast p a z = record { party = p; action = a; last = z }
+
 abbrev of : (party action : ℕ) → Fields
-of p a = record { party = p; action = a; last = 0 }
+of p a = withLast p a 0
 
 module _ (P : (s : Sort) → Tree s → Type 0)
     (step : (k : Kind) (f : Fields) → used k f ≡ f → (ts : Trees (line k .operands)) → All P (line k .operands) ts
@@ -71,9 +74,15 @@ module _ (P : (s : Sort) → Tree s → Type 0)
   on-literal M.power party1 a = step power (of 1 a) refl tt tt
   on-literal M.power party2 a = step power (of 2 a) refl tt tt
 
+  on-deadline : (p : Party) (a d : ℕ) → P clause (M.deadline p a d)
+  unfolding node
+  on-deadline party1 a d = step deadline (withLast 1 a d) refl tt tt
+  on-deadline party2 a d = step deadline (withLast 2 a d) refl tt tt
+
   on-clause : (c : Clause) → P clause c
   unfolding node
   on-clause (M.literal l p a) = on-literal l p a
+  on-clause (M.deadline p a d) = on-deadline p a d
   on-clause (M.both l r) = step both (of 0 0) refl (l, (r, tt)) (on-clause l, (on-clause r, tt))
   on-clause (M.then l r) = step then (of 0 0) refl (l, (r, tt)) (on-clause l, (on-clause r, tt))
   on-clause (M.repair l r) = step repair (of 0 0) refl (l, (r, tt)) (on-clause l, (on-clause r, tt))
@@ -99,6 +108,7 @@ spell-node repair f ts = rw append-nil
 spell-node repeat f ts = rw append-nil
 spell-node when f ts = rw append-nil
 spell-node until f ts = rw append-nil
+spell-node deadline f ts = refl
 spell-node any f ts = refl
 spell-node tries f ts = refl
 spell-node idle f ts = refl
@@ -120,6 +130,7 @@ records-node repair f ts = omega arith
 records-node repeat f ts = omega arith
 records-node when f ts = omega arith
 records-node until f ts = omega arith
+records-node deadline f ts = refl
 records-node any f ts = refl
 records-node tries f ts = refl
 records-node idle f ts = refl

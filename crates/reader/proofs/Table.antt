@@ -14,7 +14,7 @@ use Rattle.records.proofs.Cases.{lt-or-le}
 use Rattle.records.proofs.Searches.{failing-below}
 use Rattle.reader.specs.declared.Entry.{Entry}
 use Rattle.reader.specs.declared.Lookup.the-variants.{Found, Unknown}
-use Rattle.reader.specs.Table.{Kind, kinds, firstNumbered, kindOf, line, duty, ban, power, both, then, repair, repeat, when, until, any, tries, idle, succeeds, fails, seq, or, star}
+use Rattle.reader.specs.Table.{Kind, kinds, firstNumbered, kindOf, line, duty, ban, power, both, then, repair, repeat, when, until, deadline, any, tries, idle, succeeds, fails, seq, or, star}
 use Rattle.reader.specs.Trees.{Fields, Record}
 use Rattle.reader.specs.Codes.{entryOf, packedLine, unpackedLine, lookupOf}
 
@@ -29,6 +29,7 @@ kind-number repair = refl
 kind-number repeat = refl
 kind-number when = refl
 kind-number until = refl
+kind-number deadline = refl
 kind-number any = refl
 kind-number tries = refl
 kind-number idle = refl
@@ -74,7 +75,7 @@ number-kind n k h = subst (Passes (λ j. true) n) h (first-passes (λ j. true) n
 
 -- the numbers that are a kind's, and its place among the kinds
 abbrev pub OfClause : ℕ → Type 0
-OfClause n = (line duty .number ≤ n) × (n ≤ line until .number)
+OfClause n = (line duty .number ≤ n) × (n ≤ line deadline .number)
 
 abbrev pub OfExpression : ℕ → Type 0
 OfExpression n = (line any .number ≤ n) × (n ≤ line star .number)
@@ -83,7 +84,7 @@ abbrev pub clausePlace : ℕ → ℕ
 clausePlace n = n - line duty .number
 
 abbrev pub expressionPlace : ℕ → ℕ
-expressionPlace n = n - (line any .number - line until .number)
+expressionPlace n = n - (line any .number - line deadline .number)
 
 abbrev hasNumber : (place : ℕ → ℕ) → ℕ → Bool
 hasNumber place n = eqb (line (getD kinds (place n) duty) .number) n
@@ -94,7 +95,7 @@ kind-at place a count n h l =
 
 pub clause-kind : (n : ℕ) → OfClause n → kindOf n ≡ some (getD kinds (clausePlace n) duty)
 unfolding firstFailing
-clause-kind n h = kind-at clausePlace (line duty .number) 9 n (h .0) (omega arith)
+clause-kind n h = kind-at clausePlace (line duty .number) 10 n (h .0) (omega arith)
 
 pub expression-kind : (n : ℕ) → OfExpression n → kindOf n ≡ some (getD kinds (expressionPlace n) duty)
 unfolding firstFailing
@@ -115,7 +116,7 @@ none-between a b n none-there h l = go (kindOf n) refl
 
 pub no-kind : (n : ℕ) → ¬ OfClause n → ¬ OfExpression n → kindOf n ≡ none
 no-kind n no-clause no-expression =
-    let after-clauses = suc (line until .number) in
+    let after-clauses = suc (line deadline .number) in
     let after-expressions = suc (line star .number) in
     ⊎-elim (λ l. none-between 0 (line duty .number) n refl (omega arith) l)
     (λ a. ⊎-elim (λ l. absurd (no-clause (a, omega arith)))

@@ -15,7 +15,7 @@ use Rattle.reader.specs.declared.Lookup.the-variants.{Found, Unknown}
 use Rattle.reader.specs.declared.Step.{Step}
 use Rattle.reader.specs.declared.Step.the-variants.{Refused, Completed}
 use Rattle.reader.specs.Limits.{maxRecords, recordBytes}
-use Rattle.reader.specs.Table.{Sort, clause, expression, Kind, duty, when, until, seq, or, star, range, within, line, kindOf}
+use Rattle.reader.specs.Table.{Sort, clause, expression, Kind, duty, when, until, deadline, seq, or, star, range, within, line, kindOf}
 use Rattle.reader.specs.Trees.{Fields}
 use Rattle.reader.specs.Reader.{kindAt, fieldsAt, Operand, operand}
 
@@ -110,7 +110,7 @@ emptyUnder k b t =
 -- the code of what a record completes
 unfoldable pub completed : (kind below top : ℕ) → ℕ
 completed k b t =
-    cond (leb (line duty .number) k && leb k (line until .number)) (sortNumber clause)
+    cond (leb (line duty .number) k && leb k (line deadline .number)) (sortNumber clause)
     (cond (eqb k (line seq .number)) (expressionCode (eqb b emptyCode && eqb t emptyCode))
     (cond (eqb k (line or .number)) (expressionCode (eqb b emptyCode || eqb t emptyCode))
     (expressionCode (eqb k (line star .number)))))

@@ -1,7 +1,7 @@
 -- How a contract's bytes are read: record by record onto a stack of operands, to a clause or the first refusal.
 -- Document 01, "Records" and, for refusals 1 to 7, "Replies that refuse".
 use Prim.Native.Nat.{ℕ, zero, suc, _+_, _*_, _/_, _%_}
-use mathlib.Core.Bool.{Bool, false, _&&_, not}
+use mathlib.Core.Bool.{Bool, false, _&&_, not, cond}
 use mathlib.Core.List.{List, [], _∷_}
 use mathlib.Core.Option.{Option, none, some}
 use lib.Dec.{eqb, ltb, leb}
@@ -13,9 +13,10 @@ use Rattle.records.specs.declared.Test.{Test}
 use Rattle.records.specs.declared.Test.the-variants.{Passed, Refused}
 use Rattle.records.specs.Refusals.{require}
 use Rattle.contract.specs.Expressions.{holdsEmpty}
+use Rattle.contract.specs.Meaning as M
 use Rattle.contract.specs.Meaning.{Clause, literal, both, then, repair, repeat, when, until}
 use Rattle.reader.specs.Limits.{maxRecords, recordBytes}
-use Rattle.reader.specs.Table.{Sort, clause, expression, kindOf, line}
+use Rattle.reader.specs.Table.{Sort, clause, expression, deadline, kindOf, line}
 use Rattle.reader.specs.Trees.{Tree, Trees, Fields, goodFields, node}
 
 -- refused for a fault at a place, or taken
@@ -79,6 +80,7 @@ operandsOf (s ∷ ss) st = below s (operandsOf ss st)
 
 abbrev pub clauseHoldsEmpty : Clause → Bool
 clauseHoldsEmpty (literal l p a) = false
+clauseHoldsEmpty (M.deadline p a d) = false
 clauseHoldsEmpty (both l r) = false
 clauseHoldsEmpty (then l r) = false
 clauseHoldsEmpty (repair l r) = false
@@ -120,6 +122,17 @@ justOne n (o ∷ p ∷ st) = refused NotOneClause n
 -- how many records a contract has
 unfoldable pub contractRecords : List ℕ → ℕ
 contractRecords l = length l / recordBytes
+
+-- the sum of all windows of its first n records: a deadline's last byte is its window, and no other kind has one
+abbrev pub windowAt : List ℕ → (at : ℕ) → ℕ
+windowAt l at = cond (eqb (kindAt l at) (line deadline .number)) (fieldsAt l at .last) 0
+
+unfoldable pub windowsOf : List ℕ → (n : ℕ) → ℕ
+windowsOf l zero = 0
+windowsOf l (suc n) = windowsOf l n + windowAt l (recordBytes * n)
+
+unfoldable pub contractWindows : List ℕ → ℕ
+contractWindows l = windowsOf l (contractRecords l)
 
 -- 1: "contract empty, not a multiple of 6 bytes, or over 64 records; 0"
 unfoldable pub goodContractLength : List ℕ → Bool

@@ -1,4 +1,4 @@
--- The bytes that spell a clause, and the records it has: "operands before their operator". Document 01, "Records".
+-- The bytes that spell a clause, "operands before their operator", how many records it has and the sum of its windows. Document 01, "Records".
 use Prim.Native.Nat.{ℕ, _+_, _≤_}
 use mathlib.Core.Bool.{true}
 use mathlib.Core.List.{List, [], _∷_, _++_}
@@ -6,19 +6,23 @@ use mathlib.Core.Path.{_≡_}
 use Rattle.records.specs.Marks.{contractMark}
 use Rattle.periods.specs.Periods.{Party, partyNumber}
 use Rattle.contract.specs.Expressions.{Atom, any, tries, idle, succeeds, fails, Expression, atom, seq, or, star}
-use Rattle.contract.specs.Meaning.{Literal, duty, ban, power, Clause, literal, both, then, repair, repeat, when, until, EmptyFree}
+use Rattle.contract.specs.Meaning.{Literal, duty, ban, power, Clause, literal, deadline, both, then, repair, repeat, when, until, EmptyFree}
 use Rattle.reader.specs.Limits.{maxRecords}
 use Rattle.reader.specs.Table as K
 use Rattle.reader.specs.Table.{Sort, Kind, line}
 use Rattle.reader.specs.Trees.{Tree, Record, goodFields}
 
--- "`54 43`, kind, party, action, a last byte that no kind uses"
+-- "`54 43`, kind, party, action", and the last byte, which a deadline alone uses
 unfoldable pub spellRecord : Record → List ℕ
 spellRecord r = contractMark ++ (line (r .kind) .number ∷ r .fields .party ∷ r .fields .action ∷ r .fields .last ∷ [])
 
--- a record of these fields, the last byte being 0
+-- a record of these fields
+abbrev recordOf : Kind → (party action last : ℕ) → Record
+recordOf k p a z = record { kind = k; fields = record { party = p; action = a; last = z } }
+
+-- the last byte being 0
 abbrev recordWith : Kind → (party action : ℕ) → Record
-recordWith k p a = record { kind = k; fields = record { party = p; action = a; last = 0 } }
+recordWith k p a = recordOf k p a 0
 
 -- the record of a kind that uses no field, as of every operator
 abbrev pub plainRecord : Kind → Record
@@ -36,6 +40,9 @@ literalRecord duty p a = recordWith K.duty (partyNumber p) a
 literalRecord ban p a = recordWith K.ban (partyNumber p) a
 literalRecord power p a = recordWith K.power (partyNumber p) a
 
+abbrev pub deadlineRecord : Party → (action window : ℕ) → Record
+deadlineRecord p a d = recordOf K.deadline (partyNumber p) a d
+
 unfoldable pub spellExpression : Expression → List ℕ
 spellExpression (atom x) = spellRecord (atomRecord x)
 spellExpression (seq l r) = spellExpression l ++ spellExpression r ++ spellRecord (plainRecord K.seq)
@@ -44,6 +51,7 @@ spellExpression (star e) = spellExpression e ++ spellRecord (plainRecord K.star)
 
 unfoldable pub spell : Clause → List ℕ
 spell (literal l p a) = spellRecord (literalRecord l p a)
+spell (deadline p a d) = spellRecord (deadlineRecord p a d)
 spell (both l r) = spell l ++ spell r ++ spellRecord (plainRecord K.both)
 spell (then l r) = spell l ++ spell r ++ spellRecord (plainRecord K.then)
 spell (repair l r) = spell l ++ spell r ++ spellRecord (plainRecord K.repair)
@@ -60,12 +68,24 @@ expressionRecords (star e) = expressionRecords e + 1
 
 unfoldable pub records : Clause → ℕ
 records (literal l p a) = 1
+records (deadline p a d) = 1
 records (both l r) = records l + records r + 1
 records (then l r) = records l + records r + 1
 records (repair l r) = records l + records r + 1
 records (repeat c) = records c + 1
 records (when e c) = expressionRecords e + records c + 1
 records (until c e) = records c + expressionRecords e + 1
+
+-- the sum of all windows of a clause
+unfoldable pub windows : Clause → ℕ
+windows (literal l p a) = 0
+windows (deadline p a d) = d
+windows (both l r) = windows l + windows r
+windows (then l r) = windows l + windows r
+windows (repair l r) = windows l + windows r
+windows (repeat c) = windows c
+windows (when e c) = windows c
+windows (until c e) = windows c
 
 -- of a tree of either sort
 abbrev pub spellTree : (s : Sort) → Tree s → List ℕ
@@ -75,6 +95,10 @@ spellTree K.expression e = spellExpression e
 abbrev pub treeRecords : (s : Sort) → Tree s → ℕ
 treeRecords K.clause c = records c
 treeRecords K.expression e = expressionRecords e
+
+abbrev pub treeWindows : (s : Sort) → Tree s → ℕ
+treeWindows K.clause c = windows c
+treeWindows K.expression e = 0
 
 -- a record's fields are in the ranges of its kind
 abbrev pub Allowed : Record → Type 0
@@ -89,6 +113,7 @@ ExpressionInRange (star e) = ExpressionInRange e
 
 unfoldable pub InRange : Clause → Type 0
 InRange (literal l p a) = Allowed (literalRecord l p a)
+InRange (deadline p a d) = Allowed (deadlineRecord p a d)
 InRange (both l r) = InRange l × InRange r
 InRange (then l r) = InRange l × InRange r
 InRange (repair l r) = InRange l × InRange r

@@ -1,17 +1,19 @@
--- The one fixed table: what a record of each kind completes, its operands, and what its fields may be. Document 01, "Records".
+-- The one fixed table: what a record of each kind completes, its operands, and what its fields may be. Document 01, "Records"; of kind 10
+-- document 02, card 1.
 use Prim.Native.Nat.{ℕ, _-_}
 use mathlib.Core.Bool.{Bool, _&&_, cond}
 use mathlib.Core.List.{List, [], _∷_}
 use mathlib.Core.Option.{Option, none, some}
 use lib.Dec.{eqb, leb}
 use Rattle.periods.specs.Limits.{actions}
+use Rattle.reader.specs.Limits.{maxWindow}
 
 -- what a record completes, and what an operand is
 pub data Sort : Type 0 where
   clause expression : Sort
 
 pub data Kind : Type 0 where
-  duty ban power both then repair repeat when until : Kind
+  duty ban power both then repair repeat when until deadline : Kind
   any tries idle succeeds fails seq or star : Kind
 
 -- the numbers from the least to the greatest
@@ -37,6 +39,10 @@ partyNumbers = range 1 2
 abbrev pub actionNumbers : Range
 actionNumbers = range 0 (actions - 1)
 
+-- "a window d of 1 to 15 in the record's last byte"
+abbrev pub windowNumbers : Range
+windowNumbers = range 1 maxWindow
+
 -- a line of the table: the kind's number, what its record completes, the sorts of its operands in the order in which they are read, and the
 -- range of each of its fields
 pub record Line : Type 0 where
@@ -60,6 +66,7 @@ line repair = entry 6 clause (clause ∷ clause ∷ []) unused unused unused
 line repeat = entry 7 clause (clause ∷ []) unused unused unused
 line when = entry 8 clause (expression ∷ clause ∷ []) unused unused unused
 line until = entry 9 clause (clause ∷ expression ∷ []) unused unused unused
+line deadline = entry 10 clause [] partyNumbers actionNumbers windowNumbers
 line any = entry 16 expression [] unused unused unused
 line tries = entry 17 expression [] partyNumbers actionNumbers unused
 line idle = entry 18 expression [] partyNumbers actionNumbers unused
@@ -72,7 +79,7 @@ line star = entry 23 expression (expression ∷ []) unused unused unused
 -- every kind, in the table's order
 abbrev pub kinds : List Kind
 kinds =
-    duty ∷ ban ∷ power ∷ both ∷ then ∷ repair ∷ repeat ∷ when ∷ until ∷ any ∷ tries ∷ idle ∷ succeeds ∷ fails ∷ seq ∷ or ∷ star ∷ []
+    duty ∷ ban ∷ power ∷ both ∷ then ∷ repair ∷ repeat ∷ when ∷ until ∷ deadline ∷ any ∷ tries ∷ idle ∷ succeeds ∷ fails ∷ seq ∷ or ∷ star ∷ []
 
 -- the first of some kinds that has this number
 unfoldable pub firstNumbered : ℕ → List Kind → Option Kind

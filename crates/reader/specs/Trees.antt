@@ -8,7 +8,7 @@ use Rattle.contract.specs.Expressions as E
 use Rattle.contract.specs.Expressions.{Expression}
 use Rattle.contract.specs.Meaning as M
 use Rattle.contract.specs.Meaning.{Literal, Clause, literal}
-use Rattle.reader.specs.Table.{Sort, clause, expression, Kind, duty, ban, power, both, then, repair, repeat, when, until, any, tries, idle, succeeds, fails, seq, or, star, within, Line, line}
+use Rattle.reader.specs.Table.{Sort, clause, expression, Kind, duty, ban, power, both, then, repair, repeat, when, until, deadline, any, tries, idle, succeeds, fails, seq, or, star, within, Line, line}
 
 -- the trees of a sort
 abbrev pub Tree : Sort → Type 0
@@ -49,6 +49,7 @@ node repair f ts = M.repair (ts .0) (ts .1 .0)
 node repeat f ts = M.repeat (ts .0)
 node when f ts = M.when (ts .0) (ts .1 .0)
 node until f ts = M.until (ts .0) (ts .1 .0)
+node deadline f ts = M.deadline (partyNamed (f .party)) (f .action) (f .last)
 node any f ts = E.atom E.any
 node tries f ts = E.atom (E.tries (partyNamed (f .party)) (f .action))
 node idle f ts = E.atom (E.idle (partyNamed (f .party)) (f .action))

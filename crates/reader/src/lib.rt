@@ -5,7 +5,7 @@ ghost use Prim.Native.Nat.{_+_, _≤_};
 ghost use lib.ListN.{length, getD};
 ghost use Rattle.reader.specs.Limits.{recordBytes};
 ghost use Rattle.reader.specs.Table.{range, within, kindOf};
-ghost use Rattle.reader.specs.Reader.{next, readRecords, justOne, contractRecords, testOf, readTest};
+ghost use Rattle.reader.specs.Reader.{next, readRecords, justOne, contractRecords, windowAt, windowsOf, testOf, readTest};
 ghost use Rattle.reader.specs.Codes.{unpackedLine, lookupOf, operandCount, inRanges, expressionCode, sortOf, goodOperands, emptyUnder, completed, stepOf, HasRecords};
 use records::Fault;
 use records::Test;
@@ -15,6 +15,9 @@ pub const MAX_RECORDS: usize = 64;
 
 // The bytes of a contract record.
 pub const RECORD_BYTES: usize = 6;
+
+// The most periods of a window.
+const MAX_WINDOW: u32 = 15;
 
 // ---- the table
 
@@ -48,13 +51,15 @@ const LAST_LEAST: u32 = 1048576;
 
 const LAST_GREATEST: u32 = 16777216;
 
-// A party is 1 or 2, an action one of those that there are. A field that a kind does not use is 0 to 0.
+// A party is 1 or 2, an action one of those that there are, a window 1 to 15. A field that a kind does not use is 0 to 0.
 const PARTY_RANGE: u32 = PARTY_LEAST * 1 + PARTY_GREATEST * 2;
 
 const ACTION_RANGE: u32 = ACTION_GREATEST * (periods::ACTIONS - 1);
 
-// A line for each of the kinds 1 to 9, then 16 to 23.
-const TABLE: [u32; 17] = [
+const WINDOW_RANGE: u32 = LAST_LEAST * 1 + LAST_GREATEST * MAX_WINDOW;
+
+// A line for each of the kinds 1 to 10, then 16 to 23.
+const TABLE: [u32; 18] = [
     PARTY_RANGE + ACTION_RANGE, // 1 duty
     PARTY_RANGE + ACTION_RANGE, // 2 ban
     PARTY_RANGE + ACTION_RANGE, // 3 power
@@ -64,6 +69,7 @@ const TABLE: [u32; 17] = [
     OPERANDS * 1 + FIRST * CLAUSE as u32, // 7 repeat
     OPERANDS * 2 + FIRST * EXPRESSION as u32 + SECOND * CLAUSE as u32, // 8 when
     OPERANDS * 2 + FIRST * CLAUSE as u32 + SECOND * EXPRESSION as u32, // 9 until
+    PARTY_RANGE + ACTION_RANGE + WINDOW_RANGE, // 10 deadline
     0, // 16 any
     PARTY_RANGE + ACTION_RANGE, // 17 tries
     PARTY_RANGE + ACTION_RANGE, // 18 idle
@@ -123,8 +129,8 @@ fn entry_of(kind: u8) -> Lookup
 {
     let table = TABLE;
     match kind {
-        1..=9 => Lookup::Found(unpacked_line(table[kind as usize - 1])),
-        16..=23 => Lookup::Found(unpacked_line(table[kind as usize - 7])),
+        1..=10 => Lookup::Found(unpacked_line(table[kind as usize - 1])),
+        16..=23 => Lookup::Found(unpacked_line(table[kind as usize - 6])),
         _ => Lookup::Unknown,
     }
 }
@@ -203,7 +209,7 @@ pub fn completed(kind: u8, below: u8, top: u8) -> u8
     ensures { λ r. ⌜ r ≡ completed kind below top ⌝ }
 {
     match kind {
-        1..=9 => CLAUSE,
+        1..=10 => CLAUSE,
         21 => expression(below == EMPTY && top == EMPTY),
         22 => expression(below == EMPTY || top == EMPTY),
         23 => EMPTY,
@@ -288,6 +294,35 @@ pub fn contract_records(contract: &[u8]) -> usize
     ensures { λ r. ⌜ r ≡ contractRecords (now (contract .entry)) ⌝ }
 {
     contract.len() / RECORD_BYTES
+}
+
+// The kind that has a window.
+const DEADLINE: u8 = 10;
+
+// The window of the record from byte `at` on, 0 where it has none.
+fn window_at(contract: &[u8], at: usize) -> u8
+    requires { ⌜ at + recordBytes ≤ length (now contract) ⌝ }
+    ensures { λ r. ⌜ r ≡ windowAt (now (contract .entry)) at ⌝ }
+{
+    if contract[at + 2] == DEADLINE {
+        contract[at + 5]
+    } else {
+        0
+    }
+}
+
+// The sum of all windows of the first n records.
+pub fn windows(contract: &[u8], n: usize) -> usize
+    requires { ⌜ HasRecords (now contract) n ⌝ }
+    ensures { λ r. ⌜ r ≡ windowsOf (now (contract .entry)) n ⌝ }
+{
+    let mut sum = 0;
+    let mut k = 0;
+    while k < n {
+        sum += window_at(contract, RECORD_BYTES * k) as usize;
+        k += 1;
+    }
+    sum
 }
 
 // Reads a contract: the first refusal of 1 to 7, if there is one.

@@ -32,11 +32,11 @@ use Rattle.runner.specs.Calls.{begin}
 use Rattle.runner.proofs.Refusals.{begin-passes}
 use Rattle.runner.proofs.StepCalls.{begin-written, begin-sound}
 use Rattle.contract.specs.Meaning.{Clause}
-use Rattle.reader.specs.Limits.{maxRecords}
 use Rattle.reader.specs.Reader.{Result, refused, taken, read, contractRecords, readTest}
 use Rattle.reader.proofs.Reader.{taken-count, taken-spells, spells-taken}
+use Rattle.reader.proofs.WindowSum.{spelled-windows, windows-max}
 use Rattle.reader.proofs.Places.{place-max}
-use Rattle.image.specs.Limits.{bufferBytes}
+use Rattle.image.specs.Limits.{allowedFor, bufferFor}
 use Rattle.image.specs.Images.{imageFor}
 use Rattle.image.specs.Monitors.{Monitors}
 use Rattle.compiler.specs.Refusals.{compileTest}
@@ -68,17 +68,23 @@ pub record Served (contract later : List ℕ) (rows : ℕ) : Type 0 where
   pub count : rowCount (firstImage rows later) ≡ rows
   pub monitors : Monitors contract (firstImage rows later)
 
--- a contract that is taken never meets 8 with a buffer for the most records, which stays as long as it was
-module _ (contract buffer : List ℕ) (e : length buffer ≡ bufferBytes maxRecords) (c : Clause) (i : read contract ≡ taken c) where
-  roomy : bufferBytes (contractRecords contract) ≤ length buffer
-  roomy = omega (arith, taken-count contract c i, taken-spells contract c i .few-records)
+-- for a contract that is taken 8 asks room for no more rows than an image can have
+allowed-max : (contract : List ℕ) (c : Clause) → read contract ≡ taken c → allowedFor contract ≤ maxRows
+allowed-max contract c i =
+    let s = taken-spells contract c i in
+    omega (arith, taken-count contract c i, spelled-windows contract c s, windows-max c (s .in-range), s .few-records)
+
+-- so it never meets 8 with a buffer for the most rows, which stays as long as it was
+module _ (contract buffer : List ℕ) (e : length buffer ≡ rowBytes * (maxRows + 1)) (c : Clause) (i : read contract ≡ taken c) where
+  roomy : bufferFor contract ≤ length buffer
+  roomy = omega (arith, allowed-max contract c i)
 
   same-long : length (compile contract buffer (replicate headSize 0) .buffers) ≡ length buffer
   unfolding compile compileTest call readTest
-  same-long = rw (i, le-leb (bufferBytes (contractRecords contract)) (length buffer) roomy) (length-sets buffer 0 (imageFor contract))
+  same-long = rw (i, le-leb (bufferFor contract) (length buffer) roomy) (length-sets buffer 0 (imageFor contract))
 
 -- refused exactly where the number is not 0
-module _ {contract buffer later : List ℕ} {r : Head} (h : Compiling contract buffer later r) (e : length buffer ≡ bufferBytes maxRecords) where
+module _ {contract buffer later : List ℕ} {r : Head} (h : Compiling contract buffer later r) (e : length buffer ≡ rowBytes * (maxRows + 1)) where
   -- the reply of a refusal
   refused-reply : (f : Fault) (k : ℕ) → read contract ≡ refused f k
       → h .reply ≡ sets (replicate headSize 0) 0 (replyOf (Refused f k) (alone 0))
@@ -107,7 +113,7 @@ module _ {contract buffer later : List ℕ} {r : Head} (h : Compiling contract b
       go (taken c) i =
           let u = usable c i in
           let s : r .own ≡ u .count = ap (λ (x : Head). x .own) (h .head-is ∙ u .head-is) in
-          let few : u .count ≤ maxRows = omega (arith, u .few, taken-count contract c i, taken-spells contract c i .few-records) in
+          let few : u .count ≤ maxRows = omega (arith, u .few, allowed-max contract c i) in
           let long : length later ≡ length buffer = rw (h .compiles .gives .buffers-are) (same-long contract buffer e c i) in
           let within : rowBytes * (u .count + 1) ≤ length later = omega arith in
           rw s record {
@@ -129,7 +135,7 @@ module _ (input : List ℕ) (end : ℕ) (e : end ≡ contractLength input) where
   abbrev rest : List ℕ
   rest = take (length input - end) (drop end input)
 
-  module _ {buffer later : List ℕ} {r : Head} (h : Compiling (take end input) buffer later r) (b : length buffer ≡ bufferBytes maxRecords) where
+  module _ {buffer later : List ℕ} {r : Head} (h : Compiling (take end input) buffer later r) (b : length buffer ≡ rowBytes * (maxRows + 1)) where
     pub contract-refused : ¬ (r .number ≡ 0) → onContract (read (contractOf input)) (traceOf input) ≡ refusedLine (r .number) (r .place)
     contract-refused n = rw (← e) (refused-contract h b n (drop end input))
 

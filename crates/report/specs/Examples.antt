@@ -23,7 +23,7 @@ pub record ReportVectors : Type 0 where
       map report
       ([]
       ∷ (0x54 ∷ 0x44 ∷ 0x01 ∷ 0x01 ∷ 0x00 ∷ 0x00 ∷ [])
-      ∷ six 10 0 0
+      ∷ six 11 0 0
       ∷ six 1 3 0
       ∷ repeatBytes
       ∷ anyBytes

@@ -4,11 +4,9 @@ ghost use Prim.Native.Nat.{_+_, _*_, _≤_, _<_};
 ghost use lib.ListN.{length};
 ghost use Rattle.records.specs.Verdicts.{Verdict, verdictNumber, verdictName};
 ghost use Rattle.periods.specs.Traces.{periodRecords};
-ghost use Rattle.layout.specs.Limits.{maxRows};
+ghost use Rattle.layout.specs.Limits.{rowBytes, maxRows};
 ghost use Rattle.states.specs.Limits.{headBytes};
-ghost use Rattle.reader.specs.Limits.{maxRecords};
 ghost use Rattle.reader.specs.Reader.{read};
-ghost use Rattle.image.specs.Limits.{bufferBytes};
 ghost use Rattle.report.specs.Limits.{inputBytes, inputPeriods, nameBytes, lineBytes, textBytes};
 ghost use Rattle.report.specs.Texts.{ascii, decimal, periodLine, decidedLine, refusedLine, Puts};
 ghost use Rattle.report.specs.Split.{contractLength, contractOf, traceOf};
@@ -22,7 +20,7 @@ use records::Test;
 // The most bytes of an input.
 pub const INPUT_BYTES: usize = 65520;
 
-// The image buffer for a contract of 64 records, a state for as many rows as an image can have, and room for a line for each period and one more.
+// An image buffer and a state for as many rows as an image can have, and room for a line for each period and one more.
 pub const IMAGE_BYTES: usize = layout::ROW_BYTES * (layout::MAX_ROWS + 1);
 
 pub const STATE_BYTES: usize = states::HEAD_BYTES + layout::MAX_ROWS;
@@ -198,7 +196,7 @@ fn follow(image: &[u8], state: &mut [u8], trace: &[u8], text: &mut [u8]) -> usiz
 // Puts the report of an input of at most INPUT_BYTES.
 fn put_parts(input: &[u8], image: &mut [u8], state: &mut [u8], text: &mut [u8]) -> usize
     requires { ⌜ length (now input) ≤ inputBytes ⌝ }
-    requires { ⌜ length (now image) ≡ bufferBytes maxRecords ⌝ }
+    requires { ⌜ length (now image) ≡ rowBytes * (maxRows + 1) ⌝ }
     requires { ⌜ length (now state) ≡ headBytes + maxRows ⌝ }
     requires { ⌜ length (now text) ≡ textBytes ⌝ }
     ensures { λ r. ⌜ Puts (now (text .entry)) 0 (onContract (read (contractOf (now (input .entry)))) (traceOf (now (input .entry)))) (now (text .exit)) r ⌝ }

@@ -17,12 +17,13 @@ use Rattle.emitter.specs.Premises.{RecordRows}
 use Rattle.emitter.proofs.emit.Reads as emit
 use Rattle.emitter.proofs.emit.Kinds as emit-kinds
 use Rattle.emitter.proofs.Emitting.{RecordRead, Written, written-no, written-one, written-two, emitted}
-use Rattle.emitter.proofs.Room.{some-record, few-inside, wires-small, right-emits, left-emits, record-rows}
+use Rattle.emitter.proofs.Room.{some-record, few-inside, window-room, wires-small, right-emits, left-emits, record-rows}
 use Rattle.emitter.proofs.+emit.Lts-emit as emit-lts
 use Rattle.emitter.proofs.last_record.Reads as last-record-reads
 use Rattle.emitter.proofs.no_block.Reads as no-block-reads
 use Rattle.emitter.proofs.plan_of.Reads as plan-of-reads
 use Rattle.emitter.proofs.put_record.Reads as put-record-reads
+use Rattle.emitter.proofs.put_window.Reads as put-window-reads
 use Rattle.emitter.proofs.wires_of.Reads as wires-of-reads
 use Rattle.emitter.proofs.+emit.{statement}
 use Rattle.emitter.proofs.+emit.Tie.{close}
@@ -45,14 +46,16 @@ callees t = (
   plan-of-reads.Learnt,
   operands-reads.Asked,
   operands-reads.Learnt,
-  no-block-reads.Asked,
-  no-block-reads.Learnt,
+  put-window-reads.Asked,
+  put-window-reads.Learnt,
   put-record-reads.Asked,
   put-record-reads.Learnt,
   wires-of-reads.Asked,
   wires-of-reads.Learnt,
   emit-below t,
   emit.Post,
+  no-block-reads.Asked,
+  no-block-reads.Learnt,
 )
 
 module _ (t : ℕ) where
@@ -72,7 +75,7 @@ module _ (t : ℕ) where
   WrittenAt p later left right =
       let a = p .before .before .before .before .before .before .args in
       let plan = p .before .before .plan-of .result in
-      Written (a .contract .now) (a .n - 1) (p .before .operands .result) (a .image .now) (a .at + plan .before) (a .s)
+      Written (a .contract .now) (a .n - 1) (p .before .operands .result) (p .before .before .before .last-record .result .last - 1) (a .image .now) (a .at + plan .before) (a .s)
       (wiresOf plan (a .at) (a .s) (a .k)) later left right
 
   -- there is room for its own rows
@@ -103,26 +106,29 @@ module _ (t : ℕ) where
   add-inside : emit-lts.Need-add-inside (callees t) (emit-at t) emit.Post
   add-inside p = let h = few-inside (p .before .before .before .before .before .before .pre .1) (reads p) in record { fits = omega arith }
 
-  no-block-requires : emit-lts.Need-no-block-requires (callees t) (emit-at t) emit.Post
-  no-block-requires c κs = search needs
+  put-window-requires : emit-lts.Need-put-window-requires (callees t) (emit-at t) emit.Post
+  put-window-requires c κs =
+      let p = c .before .before in
+      window-room (p .before .before .before .before .before .before .pre .1) (reads p) (c .before .if1 .taken)
 
   -- without operands
-  written-none-at : (c : emit-lts.After-put-record-arg (callees t) (emit-at t) emit.Post)
-      → let p = c .before .before .before in
-      WrittenAt p (p .before .before .before .before .before .before .args .image .now) (c .before .no-block .result) (c .before .no-block .result)
-  written-none-at c = rw (c .before .before .if1 .taken, c .before .no-block .ensures) written-no
+  written-none-at : (c : emit-lts.After-put-window (callees t) (emit-at t) emit.Post)
+      → WrittenAt (c .before .before .before) (c .put-window .last .0) (c .put-window .result) (c .put-window .result)
+  written-none-at c = rw (c .before .before .if1 .taken) (written-no (c .put-window .ensures .0) (c .put-window .ensures .1))
 
   put-record-requires : emit-lts.Need-put-record-requires (callees t) (emit-at t) emit.Post
-  put-record-requires c κs = rows-at (c .before .before .before) (written-none-at c) refl
+  put-record-requires c κs =
+      let w = c .before .before .before in
+      rows-at (w .before .before .before) (written-none-at w) (w .put-window .kept .0)
 
   same-length : emit-lts.Need-same-length (callees t) (emit-at t) emit.Post
   same-length c = search needs
 
   returns : emit-lts.Need-returns (callees t) (emit-at t) emit.Post
   returns c =
-      let q = c .before .before .before in
+      let w = c .before .before .before .before .before .before in
       let r = c .before .before .put-record in
-      emitted (reads (q .before .before .before)) _ _ _ (written-none-at q) (r .ensures .0) (r .ensures .1)
+      emitted (reads (w .before .before .before)) _ _ _ (written-none-at w) (r .ensures .0) (r .ensures .1)
 
   wires-of-requires : emit-lts.Need-wires-of-requires (callees t) (emit-at t) emit.Post
   wires-of-requires c κs = wires-small (c .before .before .before .before .before .before .before .pre .1) (reads (c .before))
@@ -144,14 +150,14 @@ module _ (t : ℕ) where
       (r .emit .result)
   right-at r = rw (← r .before .before .wires-of .ensures) (r .emit .ensures)
 
-  no-block-requires-2 : emit-lts.Need-no-block-requires-2 (callees t) (emit-at t) emit.Post
-  no-block-requires-2 c κs = search needs
+  no-block-requires : emit-lts.Need-no-block-requires (callees t) (emit-at t) emit.Post
+  no-block-requires c κs = search needs
 
   -- with one operand
   written-one-at : (c : emit-lts.After-put-record-arg2 (callees t) (emit-at t) emit.Post)
       → let r = c .before .before .before .before .before in
-      WrittenAt (r .before .before .before .before) (r .emit .last .1 .1 .0) (c .before .no-block2 .result) (r .emit .result)
-  written-one-at c = rw (c .before .before .if2 .taken, c .before .no-block2 .ensures) (written-one (right-at (c .before .before .before .before .before)))
+      WrittenAt (r .before .before .before .before) (r .emit .last .1 .1 .0) (c .before .no-block .result) (r .emit .result)
+  written-one-at c = rw (c .before .before .if2 .taken, c .before .no-block .ensures) (written-one (right-at (c .before .before .before .before .before)))
 
   put-record-requires-2 : emit-lts.Need-put-record-requires-2 (callees t) (emit-at t) emit.Post
   put-record-requires-2 c κs =
@@ -227,13 +233,13 @@ pub +emit-spec : {M : Type 1} → statement M
     (operands-requires t)
     (cast-inside t)
     (add-inside t)
-    (no-block-requires t)
+    (put-window-requires t)
     (put-record-requires t)
     (same-length t)
     (returns t)
     (wires-of-requires t)
     (emit-requires t)
-    (no-block-requires-2 t)
+    (no-block-requires t)
     (put-record-requires-2 t)
     (same-length-2 t)
     (returns-2 t)

@@ -6,7 +6,7 @@ use mathlib.Core.Path.{_≡_, _∙_}
 use mathlib.Core.Logic.{⊎-elim}
 use mathlib.Core.Bool.{_&&_, _||_, and-false}
 use lib.Dec.{eqb}
-use Rattle.reader.specs.Table.{until, line}
+use Rattle.reader.specs.Table.{deadline, line}
 use Rattle.reader.specs.Codes.{emptyCode, completed}
 use Rattle.reader.proofs.completed.Statement.{statement}
 use Rattle.reader.proofs.completed.Tie as tie
@@ -53,7 +53,7 @@ returns-4 : tie.Need-returns-4
 unfolding completed
 returns-4 c =
     let h = c .if4 .taken in
-    rw (le-leb _ _ (c .before .if3 .left), le-leb (c .before .before .before .args .kind) (line until .number) (omega arith))
+    rw (le-leb _ _ (c .before .if3 .left), le-leb (c .before .before .before .args .kind) (line deadline .number) (omega arith))
 
 returns-5 : tie.Need-returns-5
 unfolding completed
@@ -67,7 +67,7 @@ returns-6 c =
     let h = c .if4 .left in
     let r = c .before .before .match .rest in
     rw (
-      lt-leb (c .before .before .before .args .kind) (line until .number) (omega arith),
+      lt-leb (c .before .before .before .args .kind) (line deadline .number) (omega arith),
       and-false,
       ne-eqb _ _ (r .0 .0 .1),
       ne-eqb _ _ (r .0 .1),
