@@ -1,17 +1,24 @@
 /* Compile at its edges: refusals, buffers and reply areas; and the contract of "Watch" through all four calls. */
-/* Document 01, "Calls", "Replies that refuse" and "Watch". What it prints is held to the file compile.expected. */
+/* Document 01, "Calls", "Replies that refuse" and "Watch"; document 02, "Duties with a deadline". */
+/* What it prints is held to the file compile.expected. */
 #include "testing.h"
 
-_Static_assert(MONITOR_BUFFER_BYTES(1) == 776, "776 bytes take one record");
-_Static_assert(MONITOR_BUFFER_BYTES(MONITOR_MAX_RECORDS) == BUFFER_BYTES, "16,904 bytes take every contract");
+_Static_assert(MONITOR_BUFFER_BYTES(1, 0) == 776, "776 bytes take one record that is no deadline");
+_Static_assert(MONITOR_BUFFER_BYTES(MONITOR_MAX_RECORDS, 0) == 16904, "16,904 bytes take every contract without deadlines");
+_Static_assert(MONITOR_BUFFER_BYTES(MONITOR_MAX_RECORDS, MONITOR_MAX_RECORDS * MONITOR_MAX_WINDOW) == BUFFER_BYTES,
+               "47,624 bytes take every contract");
 
 #define DUTY MONITOR_RECORD(MONITOR_KIND_DUTY, MONITOR_PARTY_1, 0)
 #define REPEAT MONITOR_RECORD(MONITOR_KIND_REPEAT, 0, 0)
 #define ANY MONITOR_RECORD(MONITOR_KIND_ANY, 0, 0)
+#define DEADLINE(window) MONITOR_DEADLINE(MONITOR_PARTY_1, 0, window)
 
 static const struct bytes duty = BYTES(DUTY);
 static const struct bytes duty_repeat = BYTES(DUTY, REPEAT);
 static const struct bytes any = BYTES(ANY);
+static const struct bytes shortest = BYTES(DEADLINE(1));
+static const struct bytes longest = BYTES(DEADLINE(MONITOR_MAX_WINDOW));
+static const struct bytes windows = BYTES(DEADLINE(3), DEADLINE(5), MONITOR_RECORD(MONITOR_KIND_BOTH, 0, 0), REPEAT);
 
 /* The contract and the trace of "Watch". */
 static const struct bytes watched =
@@ -24,8 +31,9 @@ static const struct bytes periods =
 /* The macros' bytes, also where a mask has a high byte. */
 static void records(void)
 {
-    static const uint8_t made[] = {MONITOR_RECORD(MONITOR_KIND_STAR, MONITOR_PARTY_2, 15), MONITOR_PERIOD(0x8001, 0x1234)};
-    static const uint8_t meant[] = {0x54, 0x43, 23, 2, 15, 0, 0x54, 0x50, 0x01, 0x80, 0x34, 0x12};
+    static const uint8_t made[] = {MONITOR_RECORD(MONITOR_KIND_STAR, MONITOR_PARTY_2, 15),
+                                   MONITOR_DEADLINE(MONITOR_PARTY_2, 14, 13), MONITOR_PERIOD(0x8001, 0x1234)};
+    static const uint8_t meant[] = {0x54, 0x43, 23, 2, 15, 0, 0x54, 0x43, 10, 2, 14, 13, 0x54, 0x50, 0x01, 0x80, 0x34, 0x12};
 
     check("the macros' bytes", sizeof made == sizeof meant && memcmp(made, meant, sizeof meant) == 0);
 }
@@ -85,8 +93,10 @@ static const struct { const char *label; struct bytes contract; } table[] = {
     {"0 bytes", NO_BYTES},
     {"5 bytes", BYTES('T', 'C', MONITOR_KIND_DUTY, 1, 0)},
     {"mark 54 44", BYTES('T', 'D', MONITOR_KIND_DUTY, 1, 0, 0)},
-    {"kind 10", BYTES(MONITOR_RECORD(10, 0, 0))},
+    {"kind 11", BYTES(MONITOR_RECORD(11, 0, 0))},
     {"duty, party 3", BYTES(MONITOR_RECORD(MONITOR_KIND_DUTY, 3, 0))},
+    {"window 0", BYTES(DEADLINE(0))},
+    {"window 16", BYTES(DEADLINE(16))},
     {"repeat", BYTES(REPEAT)},
     {"any", BYTES(ANY)},
     {"any, star, duty, when", BYTES(ANY, MONITOR_RECORD(MONITOR_KIND_STAR, 0, 0), DUTY, MONITOR_RECORD(MONITOR_KIND_WHEN, 0, 0))},
@@ -102,32 +112,46 @@ static void refusals(void)
     }
 }
 
-/* 31 `both` of 32 duties under repeats, one for 64 records: no contract of so many has more rows. */
-static struct bytes max_rows(int repeats)
+/* 31 `both` of 32 duties, or deadlines of the longest window, under repeats, one for 64 records: no contract of so many has */
+/* more rows, without deadlines and with them. */
+static struct bytes max_rows(int leaf, int repeats)
 {
     static uint8_t records[MONITOR_RECORD_BYTES * (MONITOR_MAX_RECORDS + 1)];
 
-    nest_left(MONITOR_KIND_DUTY, MONITOR_KIND_BOTH, 32);
+    nest_left(leaf, MONITOR_KIND_BOTH, 32);
     add_run(0, MONITOR_KIND_REPEAT, 0, repeats);
     memcpy(records, start(&contract), contract.length);
     return (struct bytes){records, contract.length};
 }
 
+/* A buffer a byte shorter than the least, and one of just so many. */
+static void least(const char *label, struct bytes from, size_t length)
+{
+    buffer(label, from, length - 1);
+    buffer(label, from, length);
+}
+
 /* Buffers about the least, and 65 records. */
 static void buffers(void)
 {
-    buffer("duty", duty, 775);
+    enum { WINDOWS = 32 * MONITOR_MAX_WINDOW };
+
     buffer("duty", duty, 0);
-    buffer("duty", duty, 776);
+    least("duty", duty, 776);
     buffer("duty", duty, 777);
     buffer("duty", duty, BUFFER_BYTES);
-    buffer("duty, repeat", duty_repeat, 1031);
-    buffer("duty, repeat", duty_repeat, 1032);
-    buffer("watch", watched, MONITOR_BUFFER_BYTES(4) - 1);
-    buffer("watch", watched, MONITOR_BUFFER_BYTES(4));
-    buffer("64 records", max_rows(1), BUFFER_BYTES - 1);
-    buffer("64 records", max_rows(1), BUFFER_BYTES);
-    buffer("65 records", max_rows(2), BUFFER_BYTES);
+    least("duty, repeat", duty_repeat, 1032);
+    least("watch", watched, MONITOR_BUFFER_BYTES(4, 0));
+    least("64 records", max_rows(MONITOR_KIND_DUTY, 1), MONITOR_BUFFER_BYTES(64, 0));
+    buffer("65 records", max_rows(MONITOR_KIND_DUTY, 2), BUFFER_BYTES);
+    buffer("deadline of 1", shortest, 776);
+    least("deadline of 1", shortest, 808);
+    least("deadline of 15", longest, 1256);
+    least("deadlines of 3 and 5", windows, MONITOR_BUFFER_BYTES(4, 3 + 5));
+    least("deadlines, 63 records", max_rows(MONITOR_KIND_DEADLINE, 0), MONITOR_BUFFER_BYTES(63, WINDOWS));
+    least("deadlines, 64 records", max_rows(MONITOR_KIND_DEADLINE, 1), MONITOR_BUFFER_BYTES(64, WINDOWS));
+    buffer("deadlines, 64 records", max_rows(MONITOR_KIND_DEADLINE, 1), BUFFER_BYTES);
+    buffer("deadlines, 65 records", max_rows(MONITOR_KIND_DEADLINE, 2), BUFFER_BYTES);
 }
 
 /* A line for each: the reply area's length, the result, and how far the area and the image buffer were changed. */
@@ -174,6 +198,7 @@ int main(void)
     areas("any", any);
     contents("duty", duty);
     contents("duty, duty, repair, repeat", watched);
-    contents("64 records", max_rows(1));
+    contents("64 records", max_rows(MONITOR_KIND_DUTY, 1));
+    contents("deadlines, 64 records", max_rows(MONITOR_KIND_DEADLINE, 1));
     return faults != 0;
 }

@@ -29,9 +29,10 @@ static const struct { uint16_t plugin, host; } attempts[] = {
     {1 << VALUES, 1 << VALUES},
 };
 
-/* Compile wants a buffer of MONITOR_BUFFER_BYTES. The image is the beginning of it, and how many rows it has follows */
-/* from the contract, so the state has room for the most. A host with many states takes MONITOR_STATE_BYTES(rows) for each. */
-static uint8_t image[MONITOR_BUFFER_BYTES(sizeof contract / MONITOR_RECORD_BYTES)];
+/* Compile wants a buffer of MONITOR_BUFFER_BYTES; the contract has no deadline, so there are no windows to add up. The image */
+/* is the beginning of the buffer, and how many rows it has follows from the contract, so the state has room for the most. */
+/* A host with many states takes MONITOR_STATE_BYTES(rows) for each. */
+static uint8_t image[MONITOR_BUFFER_BYTES(sizeof contract / MONITOR_RECORD_BYTES, 0)];
 static uint8_t state[MONITOR_STATE_BYTES(MONITOR_MAX_ROWS)];
 
 static const char *const verdicts[] = {

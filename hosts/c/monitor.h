@@ -10,19 +10,22 @@
 extern "C" {
 #endif
 
-/* Sizes in bytes, the most records of a contract, the most rows of an image, and the number of actions. */
+/* Sizes in bytes, the most records of a contract, the most rows of an image, the number of actions, and the longest window. */
 enum {
     MONITOR_RECORD_BYTES = 6, /* a contract record */
     MONITOR_MAX_RECORDS = 64,
     MONITOR_ACTIONS = 16,     /* numbered from 0 */
+    MONITOR_MAX_WINDOW = 15,  /* of a deadline, in periods; the shortest is 1 */
     MONITOR_ROW_BYTES = 8,    /* a row, and the end record */
     MONITOR_HEAD_BYTES = 10,  /* a state before its row values */
     MONITOR_PERIOD_BYTES = 6, /* a period record */
-    MONITOR_MAX_ROWS = 2112
+    MONITOR_MAX_ROWS = 5952
 };
 
-/* The least bytes of an image buffer for a contract of so many records; those of an image of so many rows, and of its state. */
-#define MONITOR_BUFFER_BYTES(records) (MONITOR_ROW_BYTES * (32 * (size_t)(records) + 65))
+/* The least bytes of an image buffer for a contract of so many records, whose deadlines' windows add up to so many periods */
+/* (0 where it has no deadline); those of an image of so many rows, and of its state. */
+/* A buffer of MONITOR_IMAGE_BYTES(MONITOR_MAX_ROWS) takes every contract. */
+#define MONITOR_BUFFER_BYTES(records, windows) (MONITOR_ROW_BYTES * (32 * (size_t)(records) + 65 + 4 * (size_t)(windows)))
 #define MONITOR_IMAGE_BYTES(rows) (MONITOR_ROW_BYTES * ((size_t)(rows) + 1))
 #define MONITOR_STATE_BYTES(rows) (MONITOR_HEAD_BYTES + (size_t)(rows))
 
@@ -37,6 +40,7 @@ enum monitor_kind {
     MONITOR_KIND_REPEAT = 7,    /* a clause */
     MONITOR_KIND_WHEN = 8,      /* an expression, then a clause */
     MONITOR_KIND_UNTIL = 9,     /* a clause, then an expression */
+    MONITOR_KIND_DEADLINE = 10, /* party, action, window */
     MONITOR_KIND_ANY = 16,
     MONITOR_KIND_TRIES = 17,    /* party, action */
     MONITOR_KIND_IDLE = 18,     /* party, action */
@@ -55,8 +59,11 @@ enum monitor_party {
     MONITOR_PARTY_BOTH = 3
 };
 
-/* The bytes of a contract record, for an initializer. A field that the kind doesn't use is 0. */
+/* The bytes of a contract record, for an initializer: of any kind but a deadline, and of a deadline. */
+/* A field that the kind doesn't use is 0. */
 #define MONITOR_RECORD(kind, party, action) 0x54, 0x43, (uint8_t)(kind), (uint8_t)(party), (uint8_t)(action), 0
+#define MONITOR_DEADLINE(party, action, window) \
+    0x54, 0x43, MONITOR_KIND_DEADLINE, (uint8_t)(party), (uint8_t)(action), (uint8_t)(window)
 
 /* The bytes of a period record, for an initializer, from both parties' attempts: bit a is set when the party tries action a. */
 #define MONITOR_PERIOD(one, two) \

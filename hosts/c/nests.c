@@ -1,12 +1,14 @@
 /* Nests of each operator, up to 64 records, compiled and stepped: the verdict and the blame in each period. */
-/* Document 01, "Records", "Expressions" and "Meaning of clauses". What it prints is held to the file nests.expected. */
+/* Document 01, "Records", "Expressions" and "Meaning of clauses"; document 02, "Duties with a deadline". */
+/* What it prints is held to the file nests.expected. */
 #include "testing.h"
 
 /* ---- traces */
 
 /* What both parties try in a period: nothing; everything; action 0 in period 1, action 1 in period 2 and so on, after 15 */
-/* again 0; or the action that comes after that one. */
-enum usual { NONE, ALL, TURN, AHEAD };
+/* again 0; the action that comes after that one; or action 0 in period 15, action 1 in period 30 and so on, and nothing */
+/* between them. */
+enum usual { NONE, ALL, TURN, AHEAD, LATE };
 
 /* So many periods of this kind, but in period `except` the parties try `one` and `two`. */
 struct periods {
@@ -23,6 +25,8 @@ static unsigned usual(enum usual kind, unsigned period)
         return 1u << (period + 15) % 16;
     case AHEAD:
         return 1u << period % 16;
+    case LATE:
+        return period % MONITOR_MAX_WINDOW != 0 ? 0 : 1u << (period / MONITOR_MAX_WINDOW + 15) % 16;
     default:
         return 0;
     }
@@ -90,15 +94,20 @@ static void nest_right(int leaf, int operator, int count)
     add_run(0, operator, 1, count);
 }
 
-/* Both nests of 32 duties. */
-static void duties(const char *name, int operator, int repeats, struct periods t)
+/* Both nests of 32 leaves. */
+static void both_nests(const char *name, int leaf, int operator, int repeats, struct periods t)
 {
-    nest_left(MONITOR_KIND_DUTY, operator, 32);
+    nest_left(leaf, operator, 32);
     add_run(0, MONITOR_KIND_REPEAT, 0, repeats);
     line(name, " left", t);
-    nest_right(MONITOR_KIND_DUTY, operator, 32);
+    nest_right(leaf, operator, 32);
     add_run(0, MONITOR_KIND_REPEAT, 0, repeats);
     line(name, " right", t);
+}
+
+static void duties(const char *name, int operator, int repeats, struct periods t)
+{
+    both_nests(name, MONITOR_KIND_DUTY, operator, repeats, t);
 }
 
 static void repeats(struct periods t)
@@ -122,6 +131,27 @@ static void clauses(void)
     duties("repair", MONITOR_KIND_REPAIR, AGAIN, (struct periods){AHEAD, 54, 20, 0xffff, 0xffff});
     /* Party 2 doesn't try action 0 in period 5. */
     repeats((struct periods){ALL, 6, 5, 0xffff, 0xfffe});
+}
+
+/* Deadlines of the longest window. */
+static void deadlines(const char *name, int operator, int repeats, struct periods t)
+{
+    both_nests(name, MONITOR_KIND_DEADLINE, operator, repeats, t);
+}
+
+static void windows(void)
+{
+    /* None succeeds. Then action 15 alone doesn't in time: party 1 tries it in period 15, party 2 doesn't. Then all do; begun */
+    /* again in period 16, action 14 doesn't in time. */
+    deadlines("both of deadlines", MONITOR_KIND_BOTH, ONCE, (struct periods){NONE, 17, 0, 0, 0});
+    deadlines("both of deadlines", MONITOR_KIND_BOTH, AGAIN, (struct periods){TURN, 17, 15, 0xc000, 0x4000});
+    deadlines("both of deadlines", MONITOR_KIND_BOTH, AGAIN, (struct periods){TURN, 32, 15, 0xc000, 0xc000});
+    /* Each in its last period; begun again in period 481, and in period 750 party 1 alone tries what party 2 owes by then. */
+    deadlines("then of deadlines", MONITOR_KIND_THEN, ONCE, (struct periods){LATE, 482, 0, 0, 0});
+    deadlines("then of deadlines", MONITOR_KIND_THEN, AGAIN, (struct periods){LATE, 752, 750, 2, 0});
+    /* Each is violated but the second, met in period 20; begun again in period 21, all are. */
+    deadlines("repair of deadlines", MONITOR_KIND_REPAIR, ONCE, (struct periods){NONE, 22, 20, 0xffff, 0xffff});
+    deadlines("repair of deadlines", MONITOR_KIND_REPAIR, AGAIN, (struct periods){NONE, 502, 20, 0xffff, 0xffff});
 }
 
 /* 31 `when`, each with a `tries`, above a duty, the last leaf. */
@@ -206,6 +236,7 @@ static void expressions(void)
 int main(void)
 {
     clauses();
+    windows();
     conditions();
     expressions();
     return faults != 0;

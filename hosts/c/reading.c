@@ -1,5 +1,6 @@
 /* Which contracts compile takes and which it refuses by 1 to 7: small inputs, the order of tests, every kind and field, nests. */
-/* Document 01, "Records" and "Replies that refuse". What it prints is held to the file reading.expected. */
+/* Document 01, "Records" and "Replies that refuse"; document 02, "Duties with a deadline". */
+/* What it prints is held to the file reading.expected. */
 #include <ctype.h>
 
 #include "testing.h"
@@ -36,7 +37,7 @@ static const struct { const char *label; struct bytes contract; } samples[] = {
     /* The refusal table's small inputs for 1 to 7, short lengths, and the contract of "Watch". */
     {"5 bytes", BYTES('T', 'C', MONITOR_KIND_DUTY, 1, 0)},
     {"mark 54 44", BYTES(WRONG_MARK)},
-    {"kind 10", BYTES(RECORD(10))},
+    {"kind 11", BYTES(RECORD(11))},
     {"duty, party 3", BYTES(MONITOR_RECORD(MONITOR_KIND_DUTY, 3, 0))},
     {"repeat", BYTES(REPEAT)},
     {"any", BYTES(ANY)},
@@ -48,16 +49,25 @@ static const struct { const char *label; struct bytes contract; } samples[] = {
     {"9 bytes", BYTES(DUTY, 'T', 'C', MONITOR_KIND_REPEAT)},
     {"duty, duty, repair, repeat",
      BYTES(DUTY, MONITOR_RECORD(MONITOR_KIND_DUTY, MONITOR_PARTY_1, 1), RECORD(MONITOR_KIND_REPAIR), REPEAT)},
+    /* The last byte: a deadline's window, and 0 in every other kind. */
+    {"window 0", BYTES(MONITOR_DEADLINE(MONITOR_PARTY_1, 0, 0))},
+    {"window 1", BYTES(MONITOR_DEADLINE(MONITOR_PARTY_1, 0, 1))},
+    {"window 15", BYTES(MONITOR_DEADLINE(MONITOR_PARTY_1, 0, 15))},
+    {"window 16", BYTES(MONITOR_DEADLINE(MONITOR_PARTY_1, 0, 16))},
+    {"duty, last byte 1", BYTES('T', 'C', MONITOR_KIND_DUTY, 1, 0, 1)},
+    {"duty, duty, both, last byte 1", BYTES(DUTY, DUTY, 'T', 'C', MONITOR_KIND_BOTH, 0, 0, 1)},
+    {"any, last byte 1", BYTES('T', 'C', MONITOR_KIND_ANY, 0, 0, 1)},
     /* Two faults: the one that is tested first is answered, and of two records' the earlier one's. */
     {"length, mark", BYTES(WRONG_MARK, 'T')},
-    {"mark, kind", BYTES('T', 'D', 10, 1, 0, 0)},
-    {"kind, field", BYTES('T', 'C', 10, 3, 16, 1)},
+    {"mark, kind", BYTES('T', 'D', 11, 1, 0, 0)},
+    {"kind, field", BYTES('T', 'C', 11, 3, 16, 1)},
     {"field, operands", BYTES(MONITOR_RECORD(MONITOR_KIND_REPEAT, 1, 0))},
+    {"last byte, operands", BYTES('T', 'C', MONITOR_KIND_REPEAT, 0, 0, 1)},
     {"operands, empty list", BYTES(ANY, STAR, ANY, WHEN)},
     {"empty list, not one clause", BYTES(DUTY, DUTY, ANY, STAR, UNTIL)},
     {"mark, then mark", BYTES('t', 'C', MONITOR_KIND_DUTY, 1, 0, 0, 't', 'C', MONITOR_KIND_DUTY, 1, 0, 0)},
-    {"kind, then mark", BYTES(RECORD(10), WRONG_MARK)},
-    {"field, then kind", BYTES(MONITOR_RECORD(MONITOR_KIND_DUTY, 1, 16), RECORD(10))},
+    {"kind, then mark", BYTES(RECORD(11), WRONG_MARK)},
+    {"field, then kind", BYTES(MONITOR_RECORD(MONITOR_KIND_DUTY, 1, 16), RECORD(11))},
     {"operands, then mark", BYTES(REPEAT, WRONG_MARK)},
     {"empty list, then mark", BYTES(ANY, STAR, DUTY, WHEN, WRONG_MARK)},
     {"not one clause, but a mark", BYTES(ANY, WRONG_MARK)},
@@ -75,18 +85,21 @@ static void by_bytes(void)
 
 /* ---- contracts by letters */
 
-/* A letter for each record, with party 1 and action 0 where they are used; those of expressions are small, and _ is kind 0. */
+/* A letter for each record, with party 1, action 0 and window 1 where they are used; those of expressions are small, */
+/* and _ is kind 0. */
 static void spell(const char *text, size_t length)
 {
     cut(&contract, 0);
-    for (size_t k = 0; k < length; k++)
-        add_record(kind_of((char)toupper((unsigned char)text[k])), strchr("DBPti", text[k]) != NULL, 0);
+    for (size_t k = 0; k < length; k++) {
+        add_record(kind_of((char)toupper((unsigned char)text[k])), strchr("DBPLti", text[k]) != NULL, 0);
+        *field(5) = text[k] == 'L';
+    }
 }
 
 /* A byte of the last record takes the values up to one: a range for each reply. */
 static void sweep(size_t byte, unsigned to)
 {
-    uint8_t *swept = start(&contract) + contract.length - MONITOR_RECORD_BYTES + byte;
+    uint8_t *swept = field(byte);
     struct monitor_compile_reply last = {0, 0, 0};
     unsigned from = 0;
 
@@ -143,8 +156,8 @@ static void sweeps(void)
 {
     lines("D DR", 0, 255);
     lines("D DR", 1, 255);
-    lines("D _ D_ a_ DD_ Da_ aD_ aa_", 2, 255);
-    fields("D DD& s", 255);
+    lines("D L _ D_ a_ DD_ Da_ aD_ aa_", 2, 255);
+    fields("D L DD& s", 255);
     fields("B P DD; DD/ DR aDW DaU a t i f aa. aa| a*", 31);
 }
 
@@ -155,7 +168,8 @@ static void empty_lists(void)
           "aa.DW a*a.DW aa*.DW a*a*.DW Daa.U Da*a.U Daa*.U Da*a*.U "
           "aa|DW a*a|DW aa*|DW a*a*|DW Daa|U Da*a|U Daa*|U Da*a*|U "
           "a**DW Da**U aa.*DW aa|*DW a*a.a*a*.|DW a*a|aa*|.DW Da*a|a.U "
-          "DDa*a.U& aDa*UW aDWa*a.U aDWa*a*.U DaDW/a*a.aa|.U",
+          "DDa*a.U& aDa*UW aDWa*a.U aDWa*a*.U DaDW/a*a.aa|.U "
+          "aLW LaU a*LW La*U",
           0, 0);
 }
 
@@ -165,6 +179,7 @@ static void nests(void)
     lines("DRRRRRRRRRRRRRRRRRRRRRRRRRRRRRRRRRRRRRRRRRRRRRRRRRRRRRRRRRRRRRRR "
           "DDDDDDDDDDDDDDDDDDDDDDDDDDDDDDDD&&&&&&&&&&&&&&&&&&&&&&&&&&&&&&&R "
           "DD&D&D&D&D&D&D&D&D&D&D&D&D&D&D&D&D&D&D&D&D&D&D&D&D&D&D&D&D&D&D&R "
+          "LLLLLLLLLLLLLLLLLLLLLLLLLLLLLLLL&&&&&&&&&&&&&&&&&&&&&&&&&&&&&&&R "
           "DDDDDDDDDDDDDDDDDDDDDDDDDDDDDDDD//////////////////////////////// "
           "DDDDDDDDDDDDDDDDDDDDDDDDDDDDDDDDD;;;;;;;;;;;;;;;;;;;;;;;;;;;;;;; "
           "DDDDDDDDDDDDDDDDDDDDDDDDDDDDDDDDDDDDDDDDDDDDDDDDDDDDDDDDDDDDDDDD "
@@ -182,6 +197,7 @@ static void nests(void)
     lines("DRRRRRRRRRRRRRRRRRRRRRRRRRRRRRRRRRRRRRRRRRRRRRRRRRRRRRRRRRRRRRRRR "
           "DDDDDDDDDDDDDDDDDDDDDDDDDDDDDDDD&&&&&&&&&&&&&&&&&&&&&&&&&&&&&&&RR "
           "DD&D&D&D&D&D&D&D&D&D&D&D&D&D&D&D&D&D&D&D&D&D&D&D&D&D&D&D&D&D&D&RR "
+          "LLLLLLLLLLLLLLLLLLLLLLLLLLLLLLLL&&&&&&&&&&&&&&&&&&&&&&&&&&&&&&&RR "
           "a**************************************************************DW "
           "DDDDDDDDDDDDDDDDDDDDDDDDDDDDDDDDDDDDDDDDDDDDDDDDDDDDDDDDDDDDDDDDD",
           0, 0);

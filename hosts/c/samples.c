@@ -169,7 +169,7 @@ static const struct sample refusals[] = {
      BYTES(NOBODY, NOBODY, 'T', 'Q', 0, 0, 0, 0)},
     {RUN, "length before marks", SMALL, FRESH, BYTES(NOBODY, 'T', 'Q', 0, 0, 0, 0, 'T')},
     {RUN, "length before count", SMALL, STATE(0, 0, FULL, 0, 0, 0), BYTES(NOBODY, 'T')},
-    /* Image lengths; document 01 allows 16 to 16,904 by eights. */
+    /* Image lengths; 16 to 47,624 by eights are allowed. */
     {BEGIN, "image of 0 bytes", NO_BYTES, BYTES(ELEVEN(7)), NO_BYTES},
     {BEGIN, "image of 8 bytes", BYTES(END(0, 0, 0)), BYTES(TEN(7)), NO_BYTES},
     {BEGIN, "image of 15 bytes", BYTES(ROW(0, 0, 0), 'T', 'E', 0, 0, 0, 0, 0), BYTES(ELEVEN(7)), NO_BYTES},
@@ -413,7 +413,7 @@ static void walk(const char *name, struct bytes rows, struct bytes records)
     printf("%s\n", holds(&state, before) && agree(last, run_reply()) ? "same" : "different");
 }
 
-/* Images of 2,112 rows, the most, and of one row more. */
+/* Images of 5,952 rows, the most, and of one row more. */
 static void largest(void)
 {
     enum { LAST = MONITOR_MAX_ROWS - 1, MAX_STATE = MONITOR_HEAD_BYTES + MONITOR_MAX_ROWS + 1 };
@@ -430,22 +430,22 @@ static void largest(void)
         memcpy(rows + k, blank, sizeof blank);
     memcpy(last_at, last_row, sizeof last_row);
     memcpy(end_at, end, sizeof end);
-    sample(BEGIN, "image of 16904 bytes", most, full, no_bytes);
-    sample(STEP, "image of 16904 bytes", most, zeros, one_record);
-    sample(RUN, "image of 16904 bytes", most, zeros, two_records);
+    sample(BEGIN, "image of 47624 bytes", most, full, no_bytes);
+    sample(STEP, "image of 47624 bytes", most, zeros, one_record);
+    sample(RUN, "image of 47624 bytes", most, zeros, two_records);
     memcpy(last_at, own_row, sizeof own_row);
-    sample(BEGIN, "row 2111 names itself", most, full, no_bytes);
-    sample(STEP, "row 2111 names itself", most, zeros, one_record);
+    sample(BEGIN, "row 5951 names itself", most, full, no_bytes);
+    sample(STEP, "row 5951 names itself", most, zeros, one_record);
     memcpy(last_at, last_row, sizeof last_row);
     memcpy(end_at, far_end, sizeof far_end);
-    sample(BEGIN, "S is 2112", most, full, no_bytes);
-    sample(RUN, "S is 2112", most, zeros, two_records);
+    sample(BEGIN, "S is 5952", most, full, no_bytes);
+    sample(RUN, "S is 5952", most, zeros, two_records);
     memcpy(end_at, blank, sizeof blank);
     memcpy(end_at + MONITOR_ROW_BYTES, end, sizeof end);
     full.length = zeros.length = MAX_STATE;
-    sample(BEGIN, "image of 16912 bytes", longer, full, no_bytes);
-    sample(STEP, "image of 16912 bytes", longer, zeros, one_record);
-    sample(RUN, "image of 16912 bytes", longer, zeros, two_records);
+    sample(BEGIN, "image of 47632 bytes", longer, full, no_bytes);
+    sample(STEP, "image of 47632 bytes", longer, zeros, one_record);
+    sample(RUN, "image of 47632 bytes", longer, zeros, two_records);
 }
 
 int main(void)

@@ -43,6 +43,7 @@ KIND(REPAIR, 6);
 KIND(REPEAT, 7);
 KIND(WHEN, 8);
 KIND(UNTIL, 9);
+KIND(DEADLINE, 10);
 KIND(ANY, 16);
 KIND(TRIES, 17);
 KIND(IDLE, 18);
@@ -80,8 +81,10 @@ PARTY(1, 1);
 PARTY(2, 2);
 PARTY(BOTH, 3);
 
-_Static_assert(MONITOR_IMAGE_BYTES(MONITOR_MAX_ROWS) == 16904, "the longest image");
-_Static_assert(MONITOR_STATE_BYTES(MONITOR_MAX_ROWS) == 2122, "its state");
+_Static_assert(MONITOR_MAX_WINDOW == 15, "the longest window");
+_Static_assert(MONITOR_MAX_ROWS == 5952, "the most rows");
+_Static_assert(MONITOR_IMAGE_BYTES(MONITOR_MAX_ROWS) == 47624, "the longest image");
+_Static_assert(MONITOR_STATE_BYTES(MONITOR_MAX_ROWS) == 5962, "its state");
 
 /* ---- an image by hand */
 

@@ -286,11 +286,11 @@ static inline struct monitor_run_reply take_run(struct bytes records)
 
 /* ---- contracts by letters, and nests, in the contract's area */
 
-/* Duty D, ban B, power P, both &, then ;, repair /, repeat R, when W, until U, */
+/* Duty D, ban B, power P, both &, then ;, repair /, repeat R, when W, until U, deadline L, */
 /* any A, tries T, idle I, succeeds S, fails F, seq ., or |, star *; 0 for another letter. */
 static inline int kind_of(char letter)
 {
-    static const char clauses[] = "DBP&;/RWU", expressions[] = "ATISF.|*";
+    static const char clauses[] = "DBP&;/RWUL", expressions[] = "ATISF.|*";
     const char *clause = strchr(clauses, letter), *expression = strchr(expressions, letter);
 
     if (clause)
@@ -307,10 +307,18 @@ static inline void add_record(int kind, int party, int action)
     memcpy(start(&contract) + end, record, sizeof record);
 }
 
-/* Leaf i: 0 to 15 have party 1 and action i, 16 to 31 have party 2 and action i - 16. */
+/* A byte of the last record: 3 is its party, 4 its action, 5 its window. */
+static inline uint8_t *field(size_t byte)
+{
+    return start(&contract) + contract.length - MONITOR_RECORD_BYTES + byte;
+}
+
+/* Leaf i: 0 to 15 have party 1 and action i, 16 to 31 have party 2 and action i - 16. A deadline has the longest window. */
 static inline void add_leaf(int kind, int i)
 {
     add_record(kind, MONITOR_PARTY_1 + i / 16, i % 16);
+    if (kind == MONITOR_KIND_DEADLINE)
+        *field(5) = MONITOR_MAX_WINDOW;
 }
 
 /* Leaves `from` to `to` - 1 of a kind, and after each an operator; a kind 0 leaves out the one or the other. */

@@ -1,8 +1,9 @@
 /* Contracts of every kind, compiled and stepped: the verdict, the blame and the decision period after a trace. */
-/* Document 01, "Expressions" and "Meaning of clauses". What it prints is held to the file verdicts.expected. */
+/* Document 01, "Expressions" and "Meaning of clauses"; document 02, "Duties with a deadline". */
+/* What it prints is held to the file verdicts.expected. */
 #include "testing.h"
 
-/* A record is its letter, and after it its party, 1 or 2, and its action, a to p, where it has them. */
+/* A record is its letter, and after it its party, 1 or 2, its action, a to p, and its window, 1 to 9, where it has them. */
 /* A period is what party 1 tries, a slash, and what party 2 tries; "-" is no attempt. */
 /* A contract that is decided is so in the last period. */
 static const struct { const char *contract, *trace; } samples[] = {
@@ -11,6 +12,42 @@ static const struct { const char *contract, *trace; } samples[] = {
     {"P2p R", "-/- p/- p/p -/p"},
     {"D1a B1a / P1a / D2a /", "a/- a/a a/- -/-"},
     {"P1a D1b D1a ; ;", "-/- ab/b a/a"},
+    /* Deadlines: met, missed with the blame of the last period alone, and open. */
+    {"L1a3", "a/a"},
+    {"L1a3", "a/- a/a"},
+    {"L1a3", "-/- -/a a/a"},
+    {"L1a3", "a/- a/- -/-"},
+    {"L1a3", "-/- -/a a/-"},
+    {"L1a3", "a/- -/- -/a"},
+    {"L1a3", "-/- a/-"},
+    {"L2p2", "-/p p/-"},
+    {"L2p2", "-/- -/p"},
+    {"L1a1", "a/a"},
+    {"L1a1", "a/-"},
+    {"L1a1", "-/a"},
+    /* Begun again in the period after; the window that was met says nothing more. */
+    {"L1a2 R", "-/- a/a a/a -/- -/-"},
+    {"L1a3 R", "a/a a/a -/- -/- a/a -/-"},
+    {"L1a3 R", "-/- a/a -/- -/- a/-"},
+    /* Under operators: the right of repair and of then reads from the period after. */
+    {"L1a2 D1b /", "b/b -/- b/-"},
+    {"L1a2 D1b /", "-/- a/a"},
+    {"D1a L1b2 /", "-/- b/- b/b"},
+    {"L1a2 D1b ;", "-/- a/a -/b"},
+    {"L1a2 D1b ;", "b/b b/b"},
+    {"L1a2 L2b2 &", "-/- -/-"},
+    {"L1a3 L2b2 &", "-/- -/-"},
+    {"L1a3 L2b2 &", "-/- b/b a/a"},
+    {"T1b L2a2 W", "b/- -/a -/a"},
+    /* A half of a violated both ends with it: a window from period 1 would be missed in period 3. */
+    {"L1a3 D1b & D1c / R", "-/- c/c b/b -/- -/- -/-"},
+    /* Acceptance in the window's last period, before it and after it; and the window ends with a finished until. */
+    {"L1a2 A A . U", "-/- -/a"},
+    {"L1a2 A A . U", "-/- a/a"},
+    {"L1a3 A A . U", "-/- -/-"},
+    {"L1a2 A A A . . U", "-/- a/-"},
+    {"L1a3 A A . U R", "-/- -/- -/- -/-"},
+    {"L1a3 A U B1c D1b ; ;", "-/- a/a bc/bc"},
     /* Operators. */
     {"D1a R D2b R &", "ab/ab b/a"},
     {"D1a D1a D1b ; ; D1a & R", "a/a a/a b/b a/a a/a b/b -/-"},
@@ -41,22 +78,21 @@ static const struct { const char *contract, *trace; } samples[] = {
     {"D1a A T1b . U B1a B1b ; ;", "a/a b/- -/-"},
 };
 
-/* Another byte of the last record: 3 is the party, 4 the action. */
-static void set(size_t byte, int value)
-{
-    start(&contract)[contract.length - MONITOR_RECORD_BYTES + byte] = (uint8_t)value;
-}
-
 static void spell(const char *text)
 {
+    size_t numbered = 0; /* the field that a number is for */
+
     cut(&contract, 0);
     for (; *text != '\0'; text++) {
-        if (*text >= '1' && *text <= '2')
-            set(3, *text - '0');
-        else if (*text >= 'a' && *text <= 'p')
-            set(4, *text - 'a');
-        else if (*text != ' ')
+        if (*text >= '1' && *text <= '9') {
+            *field(numbered) = (uint8_t)(*text - '0');
+        } else if (*text >= 'a' && *text <= 'p') {
+            *field(4) = (uint8_t)(*text - 'a');
+            numbered = 5;
+        } else if (*text != ' ') {
             add_record(kind_of(*text), 0, 0);
+            numbered = 3;
+        }
     }
 }
 
