@@ -60,6 +60,38 @@ impl Action {
     }
 }
 
+/// The window of a [`deadline`](Clause::deadline), 1 to 15 periods.
+#[derive(Clone, Copy, Debug, PartialEq, Eq, Hash, PartialOrd, Ord)]
+pub struct Window(u8);
+
+impl Window {
+    /// The periods of the longest window.
+    pub const MAX: u8 = 15;
+
+    /// The window of so many periods, if they are 1 to 15.
+    ///
+    /// As a constant it is checked when the host is built:
+    ///
+    /// ```
+    /// use monitor::Window;
+    /// const SOON: Window = Window::new(3).unwrap();
+    /// assert_eq!(SOON.periods(), 3);
+    /// ```
+    #[must_use]
+    pub const fn new(periods: u8) -> Option<Window> {
+        match periods {
+            1..=Window::MAX => Some(Window(periods)),
+            _ => None,
+        }
+    }
+
+    /// 1 to 15.
+    #[must_use]
+    pub const fn periods(self) -> u8 {
+        self.0
+    }
+}
+
 /// A record of a contract: a clause, an expression, or an operator on those before it.
 ///
 /// A record's mark, kind and fields are right by construction (refusals 2 to 4). Whether the
@@ -87,6 +119,8 @@ pub enum Record {
     When,
     /// Of a clause, then an expression: [`until`](Clause::until).
     Until,
+    /// A clause: [`deadline`](Clause::deadline).
+    Deadline(Party, Action, Window),
     /// An expression: [`any`](crate::Expression::any).
     Any,
     /// An expression: [`tries`](crate::Expression::tries).
@@ -122,6 +156,7 @@ impl Record {
             Record::Repeat => 7,
             Record::When => 8,
             Record::Until => 9,
+            Record::Deadline(..) => 10,
             Record::Any => 16,
             Record::Tries(..) => 17,
             Record::Idle(..) => 18,
@@ -136,13 +171,16 @@ impl Record {
     /// The record as it stands in a contract; a field that its kind doesn't use is 0.
     #[must_use]
     pub const fn to_bytes(self) -> [u8; Record::BYTES] {
-        let (party, action) = match self {
+        let (party, action, last) = match self {
             Record::Duty(party, action)
             | Record::Ban(party, action)
             | Record::Power(party, action)
             | Record::Tries(party, action)
-            | Record::Idle(party, action) => (party.number(), action.number()),
-            Record::Succeeds(action) | Record::Fails(action) => (0, action.number()),
+            | Record::Idle(party, action) => (party.number(), action.number(), 0),
+            Record::Deadline(party, action, window) => {
+                (party.number(), action.number(), window.periods())
+            }
+            Record::Succeeds(action) | Record::Fails(action) => (0, action.number(), 0),
             Record::Both
             | Record::Then
             | Record::Repair
@@ -152,9 +190,9 @@ impl Record {
             | Record::Any
             | Record::Seq
             | Record::Or
-            | Record::Star => (0, 0),
+            | Record::Star => (0, 0, 0),
         };
-        [0x54, 0x43, self.kind(), party, action, 0]
+        [0x54, 0x43, self.kind(), party, action, last]
     }
 }
 

@@ -4,7 +4,7 @@ use alloc::sync::Arc;
 use alloc::vec;
 use core::fmt;
 
-use crate::{answers, Contract, Record, Refusal};
+use crate::{answers, Contract, Record, Refusal, Window};
 
 /// The bytes of a row, and of the end record.
 const ROW_BYTES: usize = 8;
@@ -24,11 +24,9 @@ impl Image {
     /// Refusals 1 to 7, if it isn't a contract that can be taken.
     pub fn compile(contract: impl AsRef<[u8]>) -> Result<Image, Refusal> {
         let contract = contract.as_ref();
-        // Of any length that isn't 1 to 64 records, refusal 1 comes before the buffer is looked at.
-        let records = (contract.len() / Record::BYTES).min(Contract::MAX_RECORDS);
-        let mut image = vec![0; ROW_BYTES * (32 * records + 65)];
+        let mut image = vec![0; buffer_bytes(contract)];
         let rows = answers::compile(contract, &mut image)?;
-        // Proved: these are at most 32 × records + 64 rows.
+        // Proved: the buffer has room for these rows and the end record.
         Ok(Image(image[..ROW_BYTES * (rows as usize + 1)].into()))
     }
 
@@ -48,7 +46,7 @@ impl Image {
         &self.0
     }
 
-    /// How many rows the image has, 1 to 2,112.
+    /// How many rows the image has, 1 to 5,952.
     #[must_use]
     pub fn rows(&self) -> usize {
         // Less than a row only in `from_bytes`, before the length is refused.
@@ -60,6 +58,21 @@ impl Image {
     pub fn state_bytes(&self) -> usize {
         HEAD_BYTES + self.rows()
     }
+}
+
+/// The bytes of an image buffer that takes the contract: 8 × (32 × records + 65 + 4 × the sum of
+/// all windows). Of other bytes no more is counted than a contract may have, since they are refused
+/// before the buffer is looked at.
+fn buffer_bytes(contract: &[u8]) -> usize {
+    let records = contract
+        .chunks_exact(Record::BYTES)
+        .take(Contract::MAX_RECORDS);
+    let rows = records.map(|record| {
+        // The last byte is 0 in every kind but a deadline.
+        let window = record[Record::BYTES - 1].min(Window::MAX);
+        32 + 4 * usize::from(window)
+    });
+    ROW_BYTES * (rows.sum::<usize>() + 65)
 }
 
 impl fmt::Debug for Image {

@@ -78,7 +78,7 @@ mod refusal;
 mod reply;
 mod tree;
 
-pub use crate::contract::{Action, Contract, Party, Record};
+pub use crate::contract::{Action, Contract, Party, Record, Window};
 pub use crate::image::Image;
 pub use crate::monitor::Monitor;
 pub use crate::period::Period;

@@ -72,7 +72,7 @@ impl Fault {
 /// ```
 /// use monitor::{Fault, Image};
 ///
-/// let refusal = Image::compile([0x54, 0x43, 10, 0, 0, 0]).unwrap_err();
+/// let refusal = Image::compile([0x54, 0x43, 11, 0, 0, 0]).unwrap_err();
 /// assert_eq!((refusal.fault, refusal.place), (Fault::UnknownKind, 0));
 /// assert_eq!(refusal.to_string(), "record 0: unknown kind (refusal 3)");
 /// ```

@@ -2,7 +2,7 @@
 
 use alloc::collections::VecDeque;
 
-use crate::{Action, Party, Record};
+use crate::{Action, Party, Record, Window};
 
 /// Records of a tree, operands before their operator.
 type Records = VecDeque<Record>;
@@ -74,6 +74,25 @@ impl Clause {
     /// otherwise the other one.
     pub fn duty(party: Party, action: Action) -> Clause {
         Clause(leaf(Record::Duty(party, action)))
+    }
+
+    /// In one of its first periods, as many as the window has, both parties try the action;
+    /// satisfied in the first in which they do. If they don't in any of them, violated in the
+    /// window's last period: the party is to blame if it doesn't try the action there, otherwise
+    /// the other one.
+    ///
+    /// ```
+    /// use monitor::{Action, Clause, Party, Window};
+    ///
+    /// const CELLS: Action = Action::new(0).unwrap();
+    /// const SOON: Window = Window::new(3).unwrap();
+    ///
+    /// // Again and again party 2 serves the cells, at most two periods late.
+    /// let clause = Clause::deadline(Party::Two, CELLS, SOON).repeat();
+    /// # assert_eq!(clause.records().len(), 2);
+    /// ```
+    pub fn deadline(party: Party, action: Action, window: Window) -> Clause {
+        Clause(leaf(Record::Deadline(party, action, window)))
     }
 
     /// In its first period not both parties try the action. The party is to blame if they do.

@@ -4,7 +4,7 @@ use std::num::NonZeroU32;
 
 use monitor::{
     Action, Blame, Clause, Contract, Expression, Image, Monitor, Party, Period, Record, Refusal,
-    Reply, RunReply, Verdict,
+    Reply, RunReply, Verdict, Window,
 };
 
 mod common;
@@ -29,12 +29,24 @@ fn compile(records: &[Record]) -> Image {
 
 #[test]
 fn sizes_follow_the_rows() {
-    for records in 1..=64 {
-        let image = compile(&nest(records));
+    let hold = |records: &[Record], windows| {
+        let image = compile(records);
         assert_eq!(image.as_bytes().len(), 8 * (image.rows() + 1));
-        assert!((1..=32 * records + 64).contains(&image.rows()));
+        let most = 32 * records.len() + 64 + 4 * windows;
+        assert!((1..=most).contains(&image.rows()));
         let monitor = Monitor::begin(&image);
         assert_eq!(monitor.state(), vec![0; 10 + image.rows()]);
+    };
+    for records in 1..=64 {
+        hold(&nest(records), 0);
+    }
+    for periods in 1..=Window::MAX {
+        let deadline = Record::Deadline(Party::One, A, Window::new(periods).unwrap());
+        let mut records = vec![deadline];
+        for deadlines in 1..=32 {
+            hold(&records, deadlines * usize::from(periods));
+            records.extend([deadline, Record::Then]);
+        }
     }
 }
 
@@ -49,6 +61,24 @@ fn sixty_four_records_and_sixty_five() {
 
     let refusal = Image::compile(Contract::from_records(&nest(65))).unwrap_err();
     assert_eq!((refusal.fault.number(), refusal.place), (1, 0));
+}
+
+/// A good image of so many rows, all of them false.
+fn blank(rows: usize) -> Vec<u8> {
+    let mut image = [0x54, 0x52, 0, 0, 0, 0, 0, 0].repeat(rows);
+    image.extend([0x54, 0x45, 0, 0, 0, 0, 0, 0]);
+    image
+}
+
+#[test]
+fn the_most_rows() {
+    let image = Image::from_bytes(blank(5_952)).unwrap();
+    assert_eq!((image.rows(), image.as_bytes().len()), (5_952, 47_624));
+    assert_eq!(image.state_bytes(), 5_962);
+    let reply = Monitor::begin(&image).step(GOOD).unwrap();
+    assert_eq!(reply.verdict, Verdict::Open);
+    let refusal = Image::from_bytes(blank(5_953)).unwrap_err();
+    assert_eq!((refusal.fault.number(), refusal.place), (9, 0));
 }
 
 #[test]
@@ -196,7 +226,7 @@ fn every_type_crosses_threads() {
     fn crosses<T: Send + Sync>() {}
     crosses::<Image>();
     crosses::<Monitor>();
-    crosses::<(Clause, Expression, Record, Contract, Period)>();
+    crosses::<(Clause, Expression, Record, Contract, Period, Window)>();
     crosses::<(Reply, RunReply, Refusal)>();
 }
 

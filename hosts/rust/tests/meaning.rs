@@ -1,16 +1,21 @@
-//! Document 01's worked examples, as trees and as records, through compile, begin, step and run.
+//! Document 01's worked examples, and deadlines, as trees and as records, through compile, begin,
+//! step and run.
 
 use std::num::NonZeroU32;
 
 use monitor::{
     Action, Blame, Clause, Contract, Expression, Image, Monitor, Party, Period, Record, Reply,
-    Verdict,
+    Verdict, Window,
 };
 use Party::{One, Two};
 use Record::*;
 
+mod common;
+use common::Random;
+
 const A: Action = Action::new(0).unwrap();
 const B: Action = Action::new(1).unwrap();
+const THREE: Window = Window::new(3).unwrap();
 
 /// Periods in document 01's writing: party 1 before the slash, "-" for no attempt.
 fn periods(text: &str) -> Vec<Period> {
@@ -161,6 +166,80 @@ fn until() {
     );
     hold(&image, "a/a, ab/a", met(2));
     hold(&image, "a/a, b/a", broken(2, Blame::One));
+}
+
+/// The blame is that of the window's last period, whatever came before.
+#[test]
+fn deadline() {
+    let image = image(Clause::deadline(One, A, THREE), &[Deadline(One, A, THREE)]);
+    hold(&image, "", open());
+    hold(&image, "a/a", met(1));
+    hold(&image, "-/a, a/a", met(2));
+    hold(&image, "-/-, a/-", open());
+    hold(&image, "-/-, a/-, a/a", met(3));
+    hold(&image, "a/-, -/a, -/-", broken(3, Blame::One));
+    hold(&image, "-/a, -/-, a/-", broken(3, Blame::Two));
+    hold(&image, "a/-, a/-, -/a", broken(3, Blame::One));
+}
+
+/// A deadline means as many duties as its window has periods, each the repair of the one before.
+#[test]
+fn a_deadline_is_repaired_duties() {
+    let random = &mut Random::new(1);
+    for periods in 1..=Window::MAX {
+        let window = Window::new(periods).unwrap();
+        let duty = || Clause::duty(Two, B);
+        let repaired = (1..periods).fold(duty(), |later, _| duty().repair(later));
+        let images = [Clause::deadline(Two, B, window), repaired]
+            .map(|clause| Image::compile(Contract::from(clause.repeat())).unwrap());
+        let mut missed = 0;
+        for _ in 0..100 {
+            let mut monitors = images.each_ref().map(Monitor::begin);
+            for _ in 0..60 {
+                let [one, two] = [random.below(4), random.below(4)].map(|mask| mask as u16);
+                let period = Period::from_masks(one, two);
+                let [reply, want] = monitors.each_mut().map(|m| m.step(period).unwrap());
+                assert_eq!(reply, want, "window {periods}");
+            }
+            missed += usize::from(monitors[0].look().verdict != Verdict::Open);
+        }
+        assert!(missed > 0, "window {periods}");
+    }
+}
+
+/// The repair begins in the period after the window's last.
+#[test]
+fn a_missed_deadline_is_repaired() {
+    let image = image(
+        Clause::deadline(One, A, THREE)
+            .repair(Clause::duty(One, B))
+            .repeat(),
+        &[Deadline(One, A, THREE), Duty(One, B), Repair, Repeat],
+    );
+    hold(&image, "-/-, b/b, -/-, b/b, a/a", open());
+    hold(&image, "-/-, b/b, -/-, b/-", broken(4, Blame::Two));
+    hold(&image, "-/-, a/a, -/-, a/a, -/-", open());
+}
+
+/// Where the window's last period is that of the acceptance, the violation counts.
+#[test]
+fn a_deadline_until() {
+    let notice = Expression::any().star().seq(Expression::tries(Two, B));
+    let image = image(
+        Clause::deadline(One, A, THREE).until(notice),
+        &[
+            Deadline(One, A, THREE),
+            Any,
+            Star,
+            Tries(Two, B),
+            Seq,
+            Until,
+        ],
+    );
+    hold(&image, "-/-, -/b", met(2));
+    hold(&image, "-/-, -/-, a/b", broken(3, Blame::Two));
+    hold(&image, "-/-, -/-, -/-", broken(3, Blame::One));
+    hold(&image, "-/-, -/-, a/ab", met(3));
 }
 
 /// A verdict after the decision is met-after or broken-after, and the rest of the reply stays.

@@ -1,6 +1,6 @@
 //! The bytes of records, and the numbers and names of answers.
 
-use monitor::{Action, Blame, Contract, Fault, Party, Period, Record, Verdict};
+use monitor::{Action, Blame, Contract, Fault, Party, Period, Record, Verdict, Window};
 
 const A: Action = Action::new(0).unwrap();
 const B: Action = Action::new(1).unwrap();
@@ -9,6 +9,7 @@ const LAST: Action = Action::new(15).unwrap();
 #[test]
 fn every_kind_has_its_number_and_fields() {
     let (one, two) = (Party::One, Party::Two);
+    let window = |periods| Window::new(periods).unwrap();
     let table = [
         (Record::Duty(one, A), [0x54, 0x43, 1, 1, 0, 0]),
         (Record::Ban(two, B), [0x54, 0x43, 2, 2, 1, 0]),
@@ -19,6 +20,14 @@ fn every_kind_has_its_number_and_fields() {
         (Record::Repeat, [0x54, 0x43, 7, 0, 0, 0]),
         (Record::When, [0x54, 0x43, 8, 0, 0, 0]),
         (Record::Until, [0x54, 0x43, 9, 0, 0, 0]),
+        (
+            Record::Deadline(one, LAST, window(1)),
+            [0x54, 0x43, 10, 1, 15, 1],
+        ),
+        (
+            Record::Deadline(two, B, window(15)),
+            [0x54, 0x43, 10, 2, 1, 15],
+        ),
         (Record::Any, [0x54, 0x43, 16, 0, 0, 0]),
         (Record::Tries(one, B), [0x54, 0x43, 17, 1, 1, 0]),
         (Record::Idle(two, LAST), [0x54, 0x43, 18, 2, 15, 0]),
@@ -47,6 +56,14 @@ fn actions_are_0_to_15() {
     for number in 0..=255 {
         let action = Action::new(number).map(Action::number);
         assert_eq!(action, (number < 16).then_some(number));
+    }
+}
+
+#[test]
+fn windows_are_1_to_15_periods() {
+    for periods in 0..=255 {
+        let window = Window::new(periods).map(Window::periods);
+        assert_eq!(window, (1..=15).contains(&periods).then_some(periods));
     }
 }
 

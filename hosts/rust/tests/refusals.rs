@@ -1,6 +1,8 @@
-//! Document 01's table of refusals: the small input of each, and a few more.
+//! The table of refusals in documents 01 and 02: the small input of each, and a few more.
 
-use monitor::{calls, Action, Contract, Fault, Image, Monitor, Party, Period, Record, Refusal};
+use monitor::{
+    calls, Action, Contract, Fault, Image, Monitor, Party, Period, Record, Refusal, Window,
+};
 
 const A: Action = Action::new(0).unwrap();
 const DUTY: Record = Record::Duty(Party::One, A);
@@ -39,10 +41,13 @@ fn lengths_of_contracts() {
 #[test]
 fn records_at_fault() {
     hold(Image::compile([0x54, 0x44, 1, 1, 0, 0]), 2, 0);
-    hold(Image::compile([0x54, 0x43, 10, 0, 0, 0]), 3, 0);
+    hold(Image::compile([0x54, 0x43, 11, 0, 0, 0]), 3, 0);
     hold(Image::compile([0x54, 0x43, 1, 3, 0, 0]), 4, 0);
     hold(Image::compile([0x54, 0x43, 1, 1, 16, 0]), 4, 0);
     hold(Image::compile([0x54, 0x43, 1, 1, 0, 1]), 4, 0);
+    hold(Image::compile([0x54, 0x43, 10, 1, 0, 0]), 4, 0);
+    hold(Image::compile([0x54, 0x43, 10, 1, 0, 16]), 4, 0);
+    hold(Image::compile([0x54, 0x43, 10, 1, 0, 255]), 4, 0);
     hold(compile(&[Record::Repeat]), 5, 0);
     hold(compile(&[DUTY, Record::Any, Record::Both]), 5, 2);
     hold(
@@ -62,10 +67,10 @@ fn not_just_one_clause() {
     hold(compile(&[DUTY, DUTY]), 6, 2);
 }
 
-#[test]
-fn buffers_too_short_for_an_image() {
-    let contract = Contract::from_records(&[DUTY]);
-    for (length, number) in [(775, 8), (776, 0)] {
+/// The least length of an image buffer for these records, and a byte less.
+fn hold_least(records: &[Record], least: usize) {
+    let contract = Contract::from_records(records);
+    for (length, number) in [(least - 1, 8), (least, 0)] {
         let (mut image, mut reply) = (vec![0xee; length], [0xee; 16]);
         assert_eq!(
             calls::compile(contract.as_bytes(), &mut image, &mut reply),
@@ -75,6 +80,21 @@ fn buffers_too_short_for_an_image() {
         assert_eq!(reply[8..], [0; 8]);
         assert_eq!(image.iter().all(|&byte| byte == 0xee), number == 8);
     }
+}
+
+#[test]
+fn buffers_too_short_for_an_image() {
+    let deadline = |periods| Record::Deadline(Party::One, A, Window::new(periods).unwrap());
+    hold_least(&[DUTY], 776);
+    hold_least(&[deadline(1)], 808);
+    hold_least(&[deadline(15)], 1_256);
+    hold_least(
+        &[deadline(3), deadline(5), Record::Both, DUTY, Record::Then],
+        2_056,
+    );
+    let longest = [&[deadline(15); 32][..], &[Record::Both; 31]].concat();
+    hold_least(&longest, 32_008);
+    hold_least(&[&longest[..], &[Record::Repeat]].concat(), 32_264);
 }
 
 #[test]
@@ -90,7 +110,7 @@ fn areas_too_short_for_a_reply() {
 
 #[test]
 fn images() {
-    for length in [0, 8, 15, 17, 16_912] {
+    for length in [0, 8, 15, 17, 47_632] {
         hold(Image::from_bytes(vec![0; length]), 9, 0);
     }
     let mut image = BY_HAND;

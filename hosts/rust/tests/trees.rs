@@ -1,6 +1,6 @@
 //! Trees: the bytes that each builder spells, trees of any shape, and the refusals that are left.
 
-use monitor::{Action, Clause, Contract, Expression, Image, Party, Record};
+use monitor::{Action, Clause, Contract, Expression, Image, Party, Record, Window};
 use Party::{One, Two};
 
 mod common;
@@ -9,6 +9,8 @@ use common::Random;
 const A: Action = Action::new(0).unwrap();
 const B: Action = Action::new(1).unwrap();
 const LAST: Action = Action::new(15).unwrap();
+const SHORTEST: Window = Window::new(1).unwrap();
+const LONGEST: Window = Window::new(15).unwrap();
 
 /// A record's bytes.
 fn bytes(kind: u8, party: u8, action: u8) -> [u8; 6] {
@@ -52,6 +54,10 @@ fn clauses_of_one_record() {
     hold(&Clause::duty(Two, LAST), &[bytes(1, 2, 15)]);
     hold(&Clause::ban(Two, B), &[bytes(2, 2, 1)]);
     hold(&Clause::power(One, LAST), &[bytes(3, 1, 15)]);
+    let deadline = Clause::deadline(One, LAST, SHORTEST);
+    hold(&deadline, &[[0x54, 0x43, 10, 1, 15, 1]]);
+    let deadline = Clause::deadline(Two, B, LONGEST);
+    hold(&deadline, &[[0x54, 0x43, 10, 2, 1, 15]]);
 }
 
 /// The left operand's records, the right one's, the operator: whichever is longer.
@@ -132,6 +138,19 @@ fn equal_trees() {
     assert_eq!(right.records().next_back(), Some(Record::Then));
 }
 
+/// 32 deadlines of the longest window with their operators, which want the longest buffers.
+#[test]
+fn the_longest_windows() {
+    let deadline = || Clause::deadline(One, A, LONGEST);
+    let clause = (1..32).fold(deadline(), |clause, _| clause.both(deadline()));
+    assert_eq!(clause.records().len(), 63);
+    assert!(Image::compile(Contract::from(&clause)).is_ok());
+    let clause = clause.repeat();
+    assert!(Image::compile(Contract::from(&clause)).is_ok());
+    let refusal = Image::compile(Contract::from(clause.repeat())).unwrap_err();
+    assert_eq!((refusal.fault.number(), refusal.place), (1, 0));
+}
+
 #[test]
 fn sixty_four_records_and_sixty_five() {
     let mut clause = Clause::duty(One, A);
@@ -190,14 +209,16 @@ use Tree::{Clause as C, Expression as E};
 fn leaf(random: &mut Random) -> (Tree, Record) {
     let p = [One, Two][random.below(2)];
     let a = Action::new(random.below(16) as u8).unwrap();
-    match random.below(8) {
+    let d = Window::new(1 + random.below(15) as u8).unwrap();
+    match random.below(9) {
         0 => (C(Clause::duty(p, a)), Record::Duty(p, a)),
         1 => (C(Clause::ban(p, a)), Record::Ban(p, a)),
         2 => (C(Clause::power(p, a)), Record::Power(p, a)),
-        3 => (E(Expression::any()), Record::Any),
-        4 => (E(Expression::tries(p, a)), Record::Tries(p, a)),
-        5 => (E(Expression::idle(p, a)), Record::Idle(p, a)),
-        6 => (E(Expression::succeeds(a)), Record::Succeeds(a)),
+        3 => (C(Clause::deadline(p, a, d)), Record::Deadline(p, a, d)),
+        4 => (E(Expression::any()), Record::Any),
+        5 => (E(Expression::tries(p, a)), Record::Tries(p, a)),
+        6 => (E(Expression::idle(p, a)), Record::Idle(p, a)),
+        7 => (E(Expression::succeeds(a)), Record::Succeeds(a)),
         _ => (E(Expression::fails(a)), Record::Fails(a)),
     }
 }
