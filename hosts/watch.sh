@@ -5,12 +5,17 @@ watch=$1
 work=$(mktemp -d)
 trap 'rm -rf "$work"' EXIT
 
-# Records: a duty of party 1 on action a, the operators, and periods with both parties' attempts.
+# Records: duties of party 1 on actions a and b, its deadlines on a with windows of 3 and 15 periods, the operators, and periods
+# with both parties' attempts.
 duty_a='TC\x01\x01\x00\x00'
 duty_b='TC\x01\x01\x01\x00'
+deadline_3='TC\x0a\x01\x00\x03'
+deadline_15='TC\x0a\x01\x00\x0f'
+both='TC\x04\x00\x00\x00'
 repair='TC\x06\x00\x00\x00'
 repeat='TC\x07\x00\x00\x00'
 both_a='TP\x01\x00\x01\x00'
+only_a='TP\x01\x00\x00\x00'
 only_b='TP\x02\x00\x00\x00'
 nobody='TP\x00\x00\x00\x00'
 
@@ -49,7 +54,16 @@ edge 'a bad mark in the trace' "$duty_a$both_a$both_a$duty_a$both_a" 'refused 11
 edge 'a bad contract before a bad trace' "$duty_a$duty_a$both_a$duty_a" 'refused 6 2\n'
 edge 'a period mark that no six bytes start with' 'TC\x01TP\x00'"$both_a" 'refused 4 0\n'
 edge 'a record of the contract after the trace' "$duty_a$both_a$repeat" 'refused 11 1\n'
-edge 'blame on both parties' 'TC\x03\x01\x00\x00'"$duty_b"'TC\x04\x00\x00\x00TP\x01\x00\x00\x00' '1 broken 3\ndecided 1\n'
+edge 'blame on both parties' 'TC\x03\x01\x00\x00'"$duty_b$both$only_a" '1 broken 3\ndecided 1\n'
+edge 'a deadline met in its last period' "$deadline_3$nobody$only_a$both_a" '1 open 0\n2 open 0\n3 met 0\ndecided 3\n'
+edge 'a deadline missed, with the blame of its last period' "$deadline_3$nobody$nobody$only_a$both_a" \
+    '1 open 0\n2 open 0\n3 broken 2\n4 broken-after 2\ndecided 3\n'
+edge 'a repair in the period after a deadline' "$deadline_3$duty_b$repair$nobody$nobody$nobody$only_b" \
+    '1 open 0\n2 open 0\n3 open 0\n4 broken 2\ndecided 4\n'
+edge 'a window of 0 periods' 'TC\x0a\x01\x00\x00'"$both_a" 'refused 4 0\n'
+edge 'a window of 16 periods' 'TC\x0a\x01\x00\x10'"$both_a" 'refused 4 0\n'
+edge 'a last byte in a duty' 'TC\x01\x01\x00\x03'"$both_a" 'refused 4 0\n'
+edge 'an unknown kind' "$duty_a"'TC\x0b\x00\x00\x00'"$both_a" 'refused 3 1\n'
 
 # The longest input, and a byte more.
 { printf "$duty_a$repeat"; times 10918 "$both_a"; } >"$work/input"
@@ -65,6 +79,11 @@ head -c 1000000 /dev/zero >"$work/input"
 echo 'refused 13 0' | expect 'a million bytes'
 times 10920 "$duty_a" >"$work/input"
 echo 'refused 1 0' | expect '65,520 bytes of contract'
+
+# The largest image that a contract has, 32 deadlines of 15 periods, in the longest input.
+{ times 32 "$deadline_15"; times 31 "$both"; printf "$repeat"; times 10841 "$both_a"; times 15 "$nobody"; } >"$work/input"
+test "$(wc -c <"$work/input")" -eq 65520
+{ seq 10855 | sed 's/$/ open 0/'; echo '10856 broken 1'; echo 'decided 10856'; } | expect '32 deadlines'
 
 # The input in pieces.
 { printf 'TC\x01'; sleep 0.1; printf '\x01\x00\x00TP'; sleep 0.1; printf '\x01\x00\x01\x00'; } | "$watch" >"$work/output"

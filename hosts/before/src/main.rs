@@ -5,7 +5,8 @@
 //! The first form makes every call of `compare`'s cases with both archives on equal copies of what
 //! is lent; all must be the same at the call's end. Case number i is that of the seed S + i, so
 //! `before --seed S --cases 1` repeats one case. The second form times both archives on the
-//! benchmark's inputs; the third measures the stack that the calls use.
+//! benchmark's inputs, but for those that the earlier one refuses; the third measures the stack that
+//! the calls use.
 
 #![deny(unsafe_code)]
 #![warn(clippy::undocumented_unsafe_blocks)]

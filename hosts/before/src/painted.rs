@@ -77,8 +77,8 @@ impl Call {
     }
 }
 
-/// Bytes of stack that compile uses on a contract that it takes.
-pub fn compile(archive: &Archive, contract: &[u8], image: &mut [u8]) -> usize {
+/// Bytes of stack that compile uses on a contract, if it takes it.
+pub fn compile(archive: &Archive, contract: &[u8], image: &mut [u8]) -> Option<usize> {
     let mut reply = [0xff; 16];
     let areas = [read(contract), written(image), written(&mut reply)];
     let call = Call::new(archive.compile as *const (), &areas);
@@ -87,7 +87,7 @@ pub fn compile(archive: &Archive, contract: &[u8], image: &mut [u8]) -> usize {
     accepted(unsafe { call.stack() }, &reply)
 }
 
-pub fn begin(archive: &Archive, image: &[u8], state: &mut [u8]) -> usize {
+pub fn begin(archive: &Archive, image: &[u8], state: &mut [u8]) -> Option<usize> {
     let mut reply = [0xff; 16];
     let areas = [read(image), written(state), written(&mut reply)];
     let call = Call::new(archive.begin as *const (), &areas);
@@ -95,7 +95,7 @@ pub fn begin(archive: &Archive, image: &[u8], state: &mut [u8]) -> usize {
     accepted(unsafe { call.stack() }, &reply)
 }
 
-pub fn step(archive: &Archive, image: &[u8], state: &mut [u8], period: &[u8]) -> usize {
+pub fn step(archive: &Archive, image: &[u8], state: &mut [u8], period: &[u8]) -> Option<usize> {
     let mut reply = [0xff; 24];
     let areas = [
         read(image),
@@ -108,7 +108,7 @@ pub fn step(archive: &Archive, image: &[u8], state: &mut [u8], period: &[u8]) ->
     accepted(unsafe { call.stack() }, &reply)
 }
 
-pub fn run(archive: &Archive, image: &[u8], state: &mut [u8], trace: &[u8]) -> usize {
+pub fn run(archive: &Archive, image: &[u8], state: &mut [u8], trace: &[u8]) -> Option<usize> {
     let mut reply = [0xff; 24];
     let areas = [
         read(image),
@@ -121,10 +121,9 @@ pub fn run(archive: &Archive, image: &[u8], state: &mut [u8], trace: &[u8]) -> u
     accepted(unsafe { call.stack() }, &reply)
 }
 
-/// The bytes of a call that was accepted.
-fn accepted(bytes: usize, reply: &[u8]) -> usize {
-    assert_eq!(reply[..4], [0; 4], "the call is refused");
-    bytes
+/// The bytes of a call, if it was accepted.
+fn accepted(bytes: usize, reply: &[u8]) -> Option<usize> {
+    (reply[..4] == [0; 4]).then_some(bytes)
 }
 
 #[cfg(test)]

@@ -3,7 +3,7 @@
 use crate::archive::{Archive, Sides, PLACES};
 use bench::compile::{calls, LENGTHS};
 use bench::contracts::{Family, FAMILIES};
-use bench::product::{self, LONGEST_IMAGE, PERIOD};
+use bench::product::{self, HEAD, LONGEST_IMAGE, PERIOD};
 use bench::timing::{fastest, nanoseconds, Plan, Side};
 use bench::{rows, steps, Input};
 use std::cell::RefCell;
@@ -13,15 +13,21 @@ pub fn measure(plan: &Plan, sides: &Sides) {
     plan.say(
         "The ratio is that of now to before. Each archive is linked four times, its code 16 bytes further\n\
          on each time, and the fastest place counts. Nanoseconds are those of a row visit in run, of a\n\
-         period in step, of a call in compile.\n",
+         period in step, of a call in compile. What the earlier archive refuses isn't timed.\n",
     );
     line(plan, ["call", "input", "before", "now", "ratio"]);
     let table = Table { plan, sides };
     let (run_inputs, step_inputs) = (rows::inputs(plan), steps::inputs(plan));
-    let runs = run_inputs.iter().map(|input| table.run(input)).collect();
-    let steps = step_inputs.iter().map(|input| table.step(input)).collect();
+    let runs = run_inputs
+        .iter()
+        .filter_map(|input| table.run(input))
+        .collect();
+    let steps = step_inputs
+        .iter()
+        .filter_map(|input| table.step(input))
+        .collect();
     let compiles = lengths_of_families()
-        .map(|(family, records)| table.compile(family, records))
+        .filter_map(|(family, records)| table.compile(family, records))
         .collect();
     plan.say("");
     for (call, ratios) in [("run", runs), ("step", steps), ("compile", compiles)] {
@@ -73,7 +79,13 @@ impl Table<'_> {
         now.ratios(before)
     }
 
-    fn run(&self, input: &Input) -> Ratios {
+    /// A row that says that the earlier archive refuses the input.
+    fn refused(&self, call: &str, input: &str) -> Option<Ratios> {
+        line(self.plan, [call, input, "refused", "", ""]);
+        None
+    }
+
+    fn run(&self, input: &Input) -> Option<Ratios> {
         let Input { image, trace, .. } = input;
         let visits = trace.len() / PERIOD * product::rows_of(image);
         self.taking("run", input, visits, &|archive, state| {
@@ -81,7 +93,7 @@ impl Table<'_> {
         })
     }
 
-    fn step(&self, input: &Input) -> Ratios {
+    fn step(&self, input: &Input) -> Option<Ratios> {
         let Input { image, trace, .. } = input;
         self.taking("step", input, trace.len() / PERIOD, &|archive, state| {
             for record in trace.chunks_exact(PERIOD) {
@@ -97,21 +109,25 @@ impl Table<'_> {
         input: &Input,
         parts: usize,
         take: &dyn Fn(&Archive, &mut [u8]),
-    ) -> Ratios {
+    ) -> Option<Ratios> {
         let mut end = product::begin(&input.image);
         product::run(&input.image, &mut end, &input.trace);
         let state = RefCell::new(end.clone());
         let name = format!("{}, {} rows", input.name, product::rows_of(&input.image));
-        self.row(call, &name, parts, &|archive| {
+        if !begins(&self.sides.before.places[0], &input.image) {
+            return self.refused(call, &name);
+        }
+        let ratios = self.row(call, &name, parts, &|archive| {
             let mut state = state.borrow_mut();
             state.fill(0);
             let time = nanoseconds(|| take(archive, &mut state));
             assert!(*state == end, "{name}: {call} ends otherwise");
             time
-        })
+        });
+        Some(ratios)
     }
 
-    fn compile(&self, family: &Family, records: usize) -> Ratios {
+    fn compile(&self, family: &Family, records: usize) -> Option<Ratios> {
         let contract = family.contract(records);
         let mut end = vec![0; LONGEST_IMAGE];
         product::compile(&contract, &mut end);
@@ -120,8 +136,11 @@ impl Table<'_> {
             1 => format!("1 record, {}", family.name),
             _ => format!("{records} records, {}", family.name),
         };
+        if !compiles(&self.sides.before.places[0], &contract) {
+            return self.refused("compile", &name);
+        }
         let calls = calls(self.plan, records);
-        self.row("compile", &name, calls, &|archive| {
+        let ratios = self.row("compile", &name, calls, &|archive| {
             let mut image = image.borrow_mut();
             image.fill(0);
             let time = nanoseconds(|| {
@@ -131,31 +150,44 @@ impl Table<'_> {
             });
             assert!(*image == end, "{name}: compile ends otherwise");
             time
-        })
+        });
+        Some(ratios)
     }
 }
 
+/// Whether the archive takes the image: an earlier one may take fewer rows.
+fn begins(archive: &Archive, image: &[u8]) -> bool {
+    let (mut state, mut reply) = (vec![0; HEAD + product::rows_of(image)], [0xff; 16]);
+    archive.begin(image, &mut state, &mut reply);
+    reply[..4] == [0; 4]
+}
+
+/// Whether the archive takes the contract: an earlier one may know fewer kinds.
+fn compiles(archive: &Archive, contract: &[u8]) -> bool {
+    let mut reply = [0xff; 16];
+    archive.compile(contract, &mut vec![0; LONGEST_IMAGE], &mut reply);
+    reply[..4] == [0; 4]
+}
+
 fn line(plan: &Plan, [call, input, before, now, ratio]: [&str; 5]) {
-    plan.say(&format!(
-        "{call:<9}{input:<56}{before:>15}{now:>15}{ratio:>13}"
-    ));
+    let row = format!("{call:<9}{input:<56}{before:>15}{now:>15}{ratio:>13}");
+    plan.say(row.trim_end());
 }
 
 #[cfg(test)]
 mod tests {
     use super::*;
     use crate::archive::Copies;
-    use crate::spoiled::{spoiled, OUTPUT};
+    use crate::spoiled::{refusing, spoiled, OUTPUT};
     use std::panic::catch_unwind;
 
-    /// Today's archive, and another one that is to be like it.
-    fn sides(now: Archive) -> Sides {
+    fn sides(before: Archive, now: Archive) -> Sides {
         let copies = |archive| Copies {
             files: "",
             places: [archive; PLACES],
         };
         Sides {
-            before: copies(Archive::of_hosts()),
+            before: copies(before),
             now: copies(now),
             alike: false,
         }
@@ -163,15 +195,34 @@ mod tests {
 
     #[test]
     fn what_is_timed_ends_alike() {
-        measure(&Plan::new(true), &sides(Archive::of_hosts()));
+        let hosts = Archive::of_hosts();
+        measure(&Plan::new(true), &sides(hosts, hosts));
     }
 
     #[test]
     fn what_ends_otherwise_is_not_timed() {
         for (archive, call) in spoiled::<OUTPUT>() {
-            let ended = catch_unwind(|| measure(&Plan::new(true), &sides(archive)));
+            let sides = sides(Archive::of_hosts(), archive);
+            let ended = catch_unwind(|| measure(&Plan::new(true), &sides));
             assert_eq!(ended.is_err(), call != "begin", "{call}");
         }
+    }
+
+    #[test]
+    fn what_the_earlier_archive_refuses_is_not_timed() {
+        let (plan, hosts) = (&Plan::new(true), Archive::of_hosts());
+        let timed = |sides: &Sides| {
+            let table = Table { plan, sides };
+            let input = &rows::inputs(plan)[0];
+            [
+                table.run(input),
+                table.step(input),
+                table.compile(&FAMILIES[0], 8),
+            ]
+            .map(|ratios| ratios.is_some())
+        };
+        assert_eq!(timed(&sides(hosts, hosts)), [true; 3]);
+        assert_eq!(timed(&sides(refusing(), hosts)), [false; 3]);
     }
 
     #[test]

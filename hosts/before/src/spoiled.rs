@@ -25,7 +25,28 @@ pub fn spoiled<const FAULT: u8>() -> [(Archive, &'static str); 4] {
     ]
 }
 
+/// Today's archive, but compile and begin refuse whatever they are given.
+pub fn refusing() -> Archive {
+    Archive {
+        compile: refuse,
+        begin: refuse,
+        ..Archive::of_hosts()
+    }
+}
+
 // Safety of what follows: the pointers and lengths are those of slices that live through the call.
+
+unsafe extern "C" fn refuse(
+    _: *const u8,
+    _: usize,
+    _: *mut u8,
+    _: usize,
+    reply: *mut u8,
+    _: usize,
+) -> u32 {
+    *reply = 1;
+    1
+}
 
 unsafe fn flip_last(area: *mut u8, length: usize) {
     if length > 0 {

@@ -11,7 +11,8 @@ use monitor::{Action, Contract, Party, Record};
 
 pub fn measure(sides: &Sides) {
     println!(
-        "Bytes of stack that a call uses, its return address among them, on a stack painted beforehand.\n"
+        "Bytes of stack that a call uses, its return address among them, on a stack painted beforehand;\n\
+         - where the archive refuses the input.\n"
     );
     line(["call", "input", "before", "now"]);
     let archives = [sides.before.places[0], Archive::of_hosts()];
@@ -29,8 +30,8 @@ pub fn measure(sides: &Sides) {
     }
 }
 
-fn row(call: &str, input: &str, bytes: [usize; 2]) {
-    let [before, now] = bytes.map(|bytes| bytes.to_string());
+fn row(call: &str, input: &str, bytes: [Option<usize>; 2]) {
+    let [before, now] = bytes.map(|bytes| bytes.map_or("-".into(), |bytes| bytes.to_string()));
     line([call, input, &before, &now]);
 }
 
@@ -38,12 +39,12 @@ fn line([call, input, before, now]: [&str; 4]) {
     println!("{call:<9}{input:<57}{before:>8}{now:>8}");
 }
 
-fn of_compile(archive: &Archive, contract: &[u8]) -> usize {
+fn of_compile(archive: &Archive, contract: &[u8]) -> Option<usize> {
     painted::compile(archive, contract, &mut vec![0; LONGEST_IMAGE])
 }
 
 /// The bytes of begin, step and run.
-fn of_calls(archive: &Archive, input: &Input) -> [usize; 3] {
+fn of_calls(archive: &Archive, input: &Input) -> [Option<usize>; 3] {
     let Input { image, trace, .. } = input;
     let mut state = product::begin(image);
     [
@@ -98,12 +99,16 @@ fn deep_shapes() -> [(&'static str, Vec<Record>); 5] {
 #[cfg(test)]
 mod tests {
     use super::*;
+    use crate::spoiled::refusing;
 
     #[test]
     fn contracts_are_taken_and_long() {
         for (name, contract) in &contracts()[1..] {
             assert_eq!(contract.len(), 6 * 64, "{name}");
-            assert!(of_compile(&Archive::of_hosts(), contract) > 0, "{name}");
+            assert!(
+                of_compile(&Archive::of_hosts(), contract) > Some(0),
+                "{name}"
+            );
         }
     }
 
@@ -112,14 +117,21 @@ mod tests {
         let hosts = Archive::of_hosts();
         let contracts = contracts();
         let [one, deepest] = [0, 1].map(|n| of_compile(&hosts, &contracts[n].1));
-        assert!(one < deepest, "{one}, {deepest}");
+        assert!(one < deepest, "{one:?}, {deepest:?}");
     }
 
     #[test]
     fn every_call_is_measured() {
         for input in steps::inputs(&Plan::new(true)) {
             let bytes = of_calls(&Archive::of_hosts(), &input);
-            assert!(bytes.iter().all(|bytes| *bytes >= 8), "{bytes:?}");
+            assert!(bytes.iter().all(|bytes| *bytes >= Some(8)), "{bytes:?}");
         }
+    }
+
+    #[test]
+    fn what_is_refused_is_not_measured() {
+        let image = &steps::inputs(&Plan::new(true))[0];
+        assert_eq!(of_compile(&refusing(), &contracts()[0].1), None);
+        assert_eq!(of_calls(&refusing(), image)[0], None);
     }
 }

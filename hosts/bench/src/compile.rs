@@ -16,7 +16,8 @@ pub fn measure(plan: &Plan) {
     plan.say(
         "\n4. compile against the contract's length: microseconds of a call, rows of the image\n   \
          Growth is the least-squares slope of the logarithm against that of the records, from 8\n   \
-         records on.",
+         records on. The windows of the last family add up to 7.5 times its records, so its growth is\n   \
+         also that against records plus windows.",
     );
     for family in &FAMILIES {
         measure_family(plan, family);
@@ -63,7 +64,7 @@ fn times(plan: &Plan, contracts: &[Vec<u8>; LENGTHS.len()]) -> [f64; LENGTHS.len
 }
 
 /// The image says on some trace what the reference's monitor says.
-fn check(contract: &[u8]) {
+pub fn check(contract: &[u8]) {
     let image = product::image_of(contract);
     let mut state = product::begin(&image);
     let mut monitor = Monitor::new(&clause(contract));

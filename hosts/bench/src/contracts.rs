@@ -1,15 +1,16 @@
 //! Contracts to measure, and families of them by length.
 
 use monitor::Record::{
-    Any, Ban, Both, Duty, Fails, Idle, Or, Repair, Repeat, Seq, Star, Succeeds, Then, Tries, Until,
-    When,
+    Any, Ban, Both, Deadline, Duty, Fails, Idle, Or, Repair, Repeat, Seq, Star, Succeeds, Then,
+    Tries, Until, When,
 };
-use monitor::{Action, Contract, Party, Period, Record};
+use monitor::{Action, Contract, Party, Period, Record, Window};
 use reference::Clause;
 use std::rc::Rc;
 
 const ONE: Party = Party::One;
 const TWO: Party = Party::Two;
+const LONGEST: Window = Window::new(Window::MAX).unwrap();
 
 fn action(number: usize) -> Action {
     Action::new((number % 16) as u8).expect("below 16")
@@ -17,20 +18,26 @@ fn action(number: usize) -> Action {
 
 /// A contract with a period that leaves it open again and again.
 pub struct Open {
-    pub name: &'static str,
+    pub name: String,
     pub records: usize,
     pub bytes: Vec<u8>,
     pub kept: Period,
 }
 
 impl Open {
-    fn new(name: &'static str, records: &[Record], kept: Period) -> Open {
+    fn new(name: impl Into<String>, records: &[Record], kept: Period) -> Open {
         Open {
-            name,
+            name: name.into(),
             records: records.len(),
             bytes: bytes(records),
             kept,
         }
+    }
+
+    /// The sum of all windows.
+    pub fn windows(&self) -> usize {
+        let records = self.bytes.chunks_exact(Record::BYTES);
+        records.map(|record| usize::from(record[5])).sum()
     }
 
     pub fn clause(&self) -> Rc<Clause> {
@@ -130,6 +137,23 @@ pub fn long_expression() -> Open {
     Open::new("long expression", &records, ALL_BUT_LAST)
 }
 
+/// Repeat (deadline).
+pub fn repeated_deadline(window: Window) -> Open {
+    let name = format!("repeated deadline of {}", window.periods());
+    Open::new(name, &[Deadline(ONE, action(0), window), Repeat], ALL)
+}
+
+/// 32 deadlines side by side.
+pub fn deadlines(window: Window) -> Open {
+    let name = format!("32 deadlines of {}", window.periods());
+    Open::new(name, &deadline_tree(64, window), ALL)
+}
+
+/// With the longest windows: no contract has a larger image.
+pub fn longest_deadlines() -> Open {
+    deadlines(LONGEST)
+}
+
 /// A balanced tree of `both` over so many clauses.
 fn side_by_side(clauses: usize, leaf: &dyn Fn(usize) -> Vec<Record>) -> Vec<Record> {
     fn from(first: usize, clauses: usize, leaf: &dyn Fn(usize) -> Vec<Record>) -> Vec<Record> {
@@ -160,14 +184,14 @@ impl Family {
     }
 }
 
-pub const FAMILIES: [Family; 5] = [
+pub const FAMILIES: [Family; 6] = [
     Family {
         name: "chain of repeats over a duty",
         records: repeat_chain,
     },
     Family {
         name: "balanced tree of both over duties",
-        records: both_tree,
+        records: duty_tree,
     },
     Family {
         name: "left-deep chain of then, repair over duties",
@@ -181,6 +205,10 @@ pub const FAMILIES: [Family; 5] = [
         name: "chain of seq, or, star under until",
         records: expression_chain,
     },
+    Family {
+        name: "balanced tree of both over deadlines of 15",
+        records: |records| deadline_tree(records, LONGEST),
+    },
 ];
 
 fn repeat_chain(records: usize) -> Vec<Record> {
@@ -189,14 +217,18 @@ fn repeat_chain(records: usize) -> Vec<Record> {
     chain
 }
 
-/// Half of the records are duties; a repeat on top makes the number even.
-fn both_tree(records: usize) -> Vec<Record> {
-    if records == 1 {
-        return repeat_chain(1);
-    }
-    let leaf = |k| vec![Duty(ONE, action(k))];
-    let mut tree = side_by_side(records / 2, &leaf);
-    tree.push(Repeat);
+fn duty_tree(records: usize) -> Vec<Record> {
+    both_tree(records, &|k| Duty(ONE, action(k)))
+}
+
+fn deadline_tree(records: usize, window: Window) -> Vec<Record> {
+    both_tree(records, &|k| Deadline(ONE, action(k), window))
+}
+
+/// Half of the records are leaves; a repeat on top makes the number even.
+fn both_tree(records: usize, leaf: &dyn Fn(usize) -> Record) -> Vec<Record> {
+    let mut tree = side_by_side(records.div_ceil(2), &|k| vec![leaf(k)]);
+    tree.resize(records, Repeat);
     tree
 }
 

@@ -6,6 +6,7 @@
 
 pub mod compile;
 pub mod contracts;
+pub mod deadlines;
 mod inputs;
 pub mod periods;
 #[allow(unsafe_code)]

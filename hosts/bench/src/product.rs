@@ -8,8 +8,10 @@ pub const ROW: usize = 8;
 pub const HEAD: usize = 10;
 /// Bytes of a period record.
 pub const PERIOD: usize = 6;
+/// The most rows of an image.
+pub const MAX_ROWS: usize = 32 * 64 + 64 + 4 * 15 * 64;
 /// Bytes of an image buffer that is never too short.
-pub const LONGEST_IMAGE: usize = ROW * (32 * 64 + 65);
+pub const LONGEST_IMAGE: usize = ROW * (MAX_ROWS + 1);
 
 /// Verdict, blame and decision period of an accepted reply.
 #[derive(Clone, Copy, Debug, Default, PartialEq, Eq)]

@@ -3,7 +3,7 @@
 use crate::contracts::{self, Open};
 use crate::inputs::{self, Input, Random};
 use crate::plain::{self, Machine, PLACES};
-use crate::product;
+use crate::product::{self, MAX_ROWS};
 use crate::timing::{fastest, nanoseconds, Plan, Side, Times};
 use std::fmt::Display;
 use std::iter;
@@ -39,10 +39,11 @@ pub fn inputs(plan: &Plan) -> Vec<Input> {
         contracts::duty_and_ban(),
         contracts::repairs(),
         contracts::long_expression(),
+        contracts::longest_deadlines(),
     ] {
         inputs.push(compiled(plan, random, &contract));
     }
-    for rows in [700, 2112] {
+    for rows in [700, MAX_ROWS] {
         let mixed = inputs::mixed_image(random, rows);
         let periods = periods_for(plan, &mixed);
         inputs.push(Input {

@@ -2,7 +2,7 @@
 
 use crate::contracts;
 use crate::inputs::{self, Input, Random};
-use crate::product::{self, Answer, PERIOD};
+use crate::product::{self, Answer, MAX_ROWS, PERIOD};
 use crate::timing::{nanoseconds, Plan};
 
 pub fn measure(plan: &Plan) {
@@ -27,6 +27,7 @@ pub fn inputs(plan: &Plan) -> Vec<Input> {
         contracts::duty_and_ban(),
         contracts::repairs(),
         contracts::long_expression(),
+        contracts::longest_deadlines(),
     ] {
         let periods = plan.size(100_000 / contract.records, 30);
         inputs.push(Input {
@@ -37,7 +38,7 @@ pub fn inputs(plan: &Plan) -> Vec<Input> {
     }
     inputs.push(Input {
         name: "mixed rows by hand".into(),
-        image: inputs::mixed_image(random, 2112),
+        image: inputs::mixed_image(random, MAX_ROWS),
         trace: inputs::any(random, plan.size(1_000, 30)),
     });
     inputs

@@ -27,6 +27,7 @@ pub fn measure(plan: &Plan) {
         contracts::whens(),
         contracts::nested(),
         contracts::long_expression(),
+        contracts::longest_deadlines(),
     ] {
         let periods = plan.size(100_000 / contract.records, 30);
         let trace = inputs::open(random, &contract.clause(), contract.kept, periods);
@@ -64,7 +65,7 @@ fn measure_contract(plan: &Plan, contract: &Open, trace: &[u8]) {
     line(
         plan,
         [
-            contract.name,
+            &contract.name,
             &contract.records.to_string(),
             &product::rows_of(&image).to_string(),
             &decided(ours),

@@ -1,4 +1,4 @@
-//! Section 6: the program `watch` as a whole process.
+//! Section 7: the program `watch` as a whole process.
 
 use crate::contracts::{self, Open};
 use crate::inputs::{self, Random};
@@ -11,7 +11,7 @@ use std::process::{Child, Command, Stdio};
 
 pub fn measure(plan: &Plan, program: &Path) {
     plan.say(
-        "\n6. `watch`: milliseconds of a whole process, from its start to its end\n   \
+        "\n7. `watch`: milliseconds of a whole process, from its start to its end\n   \
          The input comes through a pipe.\n",
     );
     line(
@@ -31,6 +31,10 @@ pub fn measure(plan: &Plan, program: &Path) {
         (
             "long expression",
             longest(plan, random, &contracts::long_expression()),
+        ),
+        (
+            "32 deadlines of 15",
+            longest(plan, random, &contracts::longest_deadlines()),
         ),
     ];
     for (name, input) in &inputs {
