@@ -6,7 +6,7 @@ use compare::guard::Lent;
 use compare::random::Random;
 use compare::report::Difference;
 use reference::contract::least_buffer;
-use reference::records::{four_bytes, RECORD_BYTES};
+use reference::records::four_bytes;
 use std::fmt::{self, Display, Formatter};
 
 /// How often each call was made with both archives.
@@ -60,7 +60,7 @@ impl Pair {
                     return Ok(());
                 };
                 // Another compile, into a buffer of another length and content.
-                let buffer = least_buffer(bytes.len() / RECORD_BYTES) + random.below(100);
+                let buffer = least_buffer(bytes) + random.below(100);
                 self.compile(&contract, buffer, 2048, &mut random, tally)?;
                 let state = random.bytes(10 + image.len() / 8 - 1);
                 self.check_calls(case, &image, &state, random, tally)

@@ -4,7 +4,8 @@ use crate::contracts;
 use crate::images;
 use crate::random::Random;
 use crate::traces;
-use reference::contract::{least_buffer, read};
+use reference::contract::{least_buffer, read, sum_of_windows};
+use reference::image::MAX_BYTES;
 use reference::Period;
 
 #[derive(Clone, Copy, Debug, PartialEq, Eq)]
@@ -100,9 +101,9 @@ type Parts = (Family, Start, Vec<Call>);
 /// A contract that is taken, with steps and runs.
 fn contract_case(random: &mut Random) -> Parts {
     let bytes = contracts::good(random);
-    let least = least_buffer(bytes.len() / 6);
+    let least = least_buffer(&bytes);
     let buffer = random
-        .pick(&[least, least, least + 1, least + 8, 16904, 20000])
+        .pick(&[least, least, least + 1, least + 8, MAX_BYTES, 50000])
         .max(least);
     let reply = room(random, 16);
     let length = traces::length(random);
@@ -203,14 +204,17 @@ fn damaged_contract_case(random: &mut Random) -> Parts {
     } else {
         contracts::damaged(random)
     };
-    let least = least_buffer(bytes.len() / 6);
-    let buffer = match random.below(8) {
+    let least = least_buffer(&bytes);
+    let buffer = match random.below(10) {
         0 => least - 1,
         1 => 0,
         2 => random.below(least),
         3 => least - 8,
         4 => least + 1,
-        5 => 20000,
+        5 => 50000,
+        // What would do without the windows, and with one row less for each of their periods.
+        6 => least - 32 * sum_of_windows(&bytes),
+        7 => least - 8 * sum_of_windows(&bytes),
         _ => least,
     };
     let reply = any_room(random, 16);

@@ -68,10 +68,10 @@ fn check_compile(
         reply.reference_mut()[..SHORT_REPLY].copy_from_slice(&expected);
         reply.compare(CALL)?;
         if let Ok(clause) = answer {
-            let records = contract.reference().len() / RECORD_BYTES;
-            let bytes = picked(&image, rows as usize, records)?.to_vec();
+            let most = max_rows(contract.reference());
+            let bytes = picked(&image, rows as usize, most)?.to_vec();
             image.reference_mut()[..bytes.len()].copy_from_slice(&bytes);
-            tally.compiled(records, rows as usize);
+            tally.compiled(contract.reference(), rows as usize);
             taken = Some((clause, bytes));
         }
     } else {
@@ -83,10 +83,8 @@ fn check_compile(
     Ok(taken)
 }
 
-/// The image in the first 8 × (rows + 1) bytes, with no more rows than the buffer must hold, and
-/// a good one.
-fn picked(buffer: &Lent, rows: usize, records: usize) -> Result<&[u8], Difference> {
-    let most = max_rows(records);
+/// The image in the first 8 × (rows + 1) bytes: a good one, of at most `most` rows.
+fn picked(buffer: &Lent, rows: usize, most: usize) -> Result<&[u8], Difference> {
     if !(1..=most).contains(&rows) {
         return Err(Difference::new(
             "compile",
@@ -114,7 +112,7 @@ fn picked(buffer: &Lent, rows: usize, records: usize) -> Result<&[u8], Differenc
 /// contract's bytes alone".
 fn check_again(contract: &Lent, first: &[u8], random: &mut Random) -> Result<(), Difference> {
     const CALL: &str = "another compile";
-    let least = least_buffer(contract.reference().len() / RECORD_BYTES);
+    let least = least_buffer(contract.reference());
     let mut image = Lent::random("image buffer", least + random.below(100), random);
     let mut reply = Lent::random("reply area", 2048, random);
     let came = product::compile(contract.product(), image.product_mut(), reply.product_mut());
@@ -323,8 +321,8 @@ mod tests {
 
     fn image_of(contract: &[u8]) -> Vec<u8> {
         let mut random = Random::new(1);
+        let buffer = least_buffer(contract);
         let contract = Lent::new("contract", contract, &mut random);
-        let buffer = least_buffer(1);
         check_compile(&contract, buffer, 16, &mut random, &mut Tally::default())
             .unwrap()
             .expect("the contract is taken")
@@ -399,9 +397,9 @@ mod tests {
 
         let rows = image.len() / 8 - 1;
         let buffer = |image: &[u8]| Lent::new("image buffer", image, &mut Random::new(1));
-        assert!(picked(&buffer(&image), rows, 1).is_ok());
-        assert!(picked(&buffer(&image), 0, 1).is_err());
-        assert!(picked(&buffer(&image), max_rows(1) + 1, 1).is_err());
-        assert!(picked(&buffer(&vec![0; image.len()]), rows, 1).is_err());
+        assert!(picked(&buffer(&image), rows, rows).is_ok());
+        assert!(picked(&buffer(&image), 0, rows).is_err());
+        assert!(picked(&buffer(&image), rows, rows - 1).is_err());
+        assert!(picked(&buffer(&vec![0; image.len()]), rows, rows).is_err());
     }
 }

@@ -15,12 +15,20 @@ enum Shape {
     Balanced,
 }
 
+/// Short windows, which short traces outlast.
+const SHORT: &[u8] = &[1, 2, 2, 3];
+const MIDDLING: &[u8] = &[2, 3, 4, 5];
+const ALL: &[u8] = &[1, 2, 3, 4, 5, 6, 7, 8, 9, 10, 11, 12, 13, 14, 15];
+const LONGEST: &[u8] = &[15];
+
 /// What a random contract is drawn from.
 struct Style {
     shape: Shape,
     actions: usize,
-    /// The kinds of duty, ban and power, as often as they are drawn.
+    /// The kinds of duty, ban, power and deadline, as often as they are drawn.
     literals: &'static [u8],
+    /// The windows of deadlines, as often as they are drawn.
+    windows: &'static [u8],
     /// The kinds of `both`, `then` and `repair`, as often as they are drawn.
     joins: &'static [u8],
     /// Chance of an operator with one operand, where there is a choice.
@@ -42,7 +50,16 @@ impl Style {
         Style {
             shape: random.pick(&shapes),
             actions: random.pick(&[1, 1, 2, 2, 3, 4, 16]),
-            literals: random.pick(&[&[1, 1, 2, 3], &[1], &[2, 3], &[1, 2, 2, 3, 3]]),
+            literals: random.pick(&[
+                &[1, 1, 2, 3],
+                &[1],
+                &[2, 3],
+                &[1, 2, 2, 3, 3],
+                &[1, 2, 3, 10],
+                &[2, 3, 10, 10],
+                &[10],
+            ]),
+            windows: random.pick(&[SHORT, SHORT, MIDDLING, ALL, LONGEST]),
             joins: random.pick(&[&[4, 5, 6], &[4], &[4, 5], &[5, 6], &[4, 4, 6]]),
             chain: random.pick(&[0, 5, 10, 20, 80]),
             expressions: random.pick(&[0, 30, 30, 60, 90]),
@@ -74,8 +91,38 @@ fn record_count(random: &mut Random) -> usize {
 
 /// A contract that is taken.
 pub fn good(random: &mut Random) -> Vec<u8> {
+    if random.percent(2) {
+        return many_deadlines(random);
+    }
     let records = record_count(random);
     of_records(random, records, 0)
+}
+
+/// Deadlines joined with each other, mostly as many as 64 records can have.
+fn many_deadlines(random: &mut Random) -> Vec<u8> {
+    let style = Style {
+        literals: &[10],
+        windows: random.pick(&[SHORT, ALL, LONGEST, LONGEST]),
+        ..Style::random(random, 0)
+    };
+    let deadlines = random.pick(&[32, 32, 31, 24, 16]);
+    let mut out = Vec::new();
+    joined(random, &style, deadlines, &mut out);
+    if random.percent(50) {
+        push(&mut out, 7, 0, 0);
+    }
+    out
+}
+
+/// So many literals under `both`, `then` and `repair` alone.
+fn joined(random: &mut Random, style: &Style, literals: usize, out: &mut Vec<u8>) {
+    if literals == 1 {
+        return clause(random, style, 1, out);
+    }
+    let (left, right) = style.split(random, literals);
+    joined(random, style, left, out);
+    joined(random, style, right, out);
+    push(out, random.pick(style.joins), 0, 0);
 }
 
 /// A contract whose records fit together, with the empty list now and then where it mustn't be.
@@ -113,22 +160,25 @@ fn push(out: &mut Vec<u8>, kind: u8, party: u8, action: u8) {
 }
 
 /// A record of that kind with good fields.
-fn push_kind(random: &mut Random, actions: usize, kind: u8, out: &mut Vec<u8>) {
-    let (party, action) = (random.between(1, 2) as u8, random.below(actions) as u8);
+fn push_kind(random: &mut Random, actions: usize, windows: &[u8], kind: u8, out: &mut Vec<u8>) {
     let uses = kind_of(kind).expect("a known kind");
-    push(
-        out,
-        kind,
-        if uses.party { party } else { 0 },
-        if uses.action { action } else { 0 },
-    );
+    let party = random.between(1, 2) as u8;
+    let action = random.below(actions) as u8;
+    let window = random.pick(windows);
+    let field = |used: bool, value: u8| if used { value } else { 0 };
+    out.extend([0x54, 0x43, kind]);
+    out.extend([
+        field(uses.party, party),
+        field(uses.action, action),
+        field(uses.window, window),
+    ]);
 }
 
 fn clause(random: &mut Random, style: &Style, records: usize, out: &mut Vec<u8>) {
     match records {
         1 => {
             let kind = random.pick(style.literals);
-            push_kind(random, style.actions, kind, out);
+            push_kind(random, style.actions, style.windows, kind, out);
         }
         2 => {
             clause(random, style, 1, out);
@@ -189,7 +239,7 @@ fn expression(
     match records {
         1 => {
             let kind = random.between(16, 20) as u8;
-            push_kind(random, style.actions, kind, out);
+            push_kind(random, style.actions, style.windows, kind, out);
         }
         _ if may_hold_empty && (records == 2 || random.percent(style.chain.max(25))) => {
             expression(random, style, records - 1, true, out);
@@ -226,7 +276,7 @@ pub fn soup(random: &mut Random) -> Vec<u8> {
             }
         };
         completed = completed.saturating_sub(kind.operands.len()) + 1;
-        push_kind(random, 4, kind.number, &mut out);
+        push_kind(random, 4, ALL, kind.number, &mut out);
         if random.percent(faults) {
             damage_field(random, &mut out);
         }
@@ -237,18 +287,37 @@ pub fn soup(random: &mut Random) -> Vec<u8> {
 /// Changes one byte after the mark of the last record.
 fn damage_field(random: &mut Random, out: &mut [u8]) {
     let last = out.len() - RECORD;
-    match random.below(4) {
+    match random.below(5) {
         0 => out[last + 2] = random.byte(),
-        1 => out[last + 3] = random.below(4) as u8,
-        2 => {
+        1 => out[last + 2] = random.pick(&[10, 11]),
+        2 => out[last + 3] = random.below(4) as u8,
+        3 => {
             out[last + 4] = if random.percent(50) {
                 16
             } else {
                 random.byte()
             }
         }
-        _ => out[last + 5] = 1,
+        _ => out[last + 5] = last_byte(random),
     }
+}
+
+/// A last byte at the limits of windows, or any.
+fn last_byte(random: &mut Random) -> u8 {
+    if random.percent(75) {
+        random.pick(&[0, 1, 15, 16])
+    } else {
+        random.byte()
+    }
+}
+
+/// Where the record of some deadline begins, if there is one.
+fn some_deadline(random: &mut Random, bytes: &[u8]) -> Option<usize> {
+    let all: Vec<usize> = (0..bytes.len() / RECORD)
+        .map(|number| number * RECORD)
+        .filter(|at| bytes[at + 2] == 10)
+        .collect();
+    (!all.is_empty()).then(|| random.pick(&all))
 }
 
 /// A contract with one to three faults, which may turn out to be none.
@@ -274,7 +343,8 @@ pub fn damage(random: &mut Random, bytes: &mut Vec<u8>) {
     let at = random.below(records) * RECORD;
     let other = random.below(records) * RECORD;
     let record = bytes[at..at + RECORD].to_vec();
-    match random.below(14) {
+    let deadline = some_deadline(random, bytes);
+    match random.below(17) {
         0 => {
             let byte = random.below(bytes.len());
             bytes[byte] ^= 1 << random.below(8);
@@ -294,7 +364,13 @@ pub fn damage(random: &mut Random, bytes: &mut Vec<u8>) {
         9 => bytes[at + 3] = random.below(4) as u8,
         10 => bytes[at + 4] = random.byte(),
         11 => bytes[at + 4] = random.between(0, 17) as u8,
-        12 => bytes[at + 5] = random.byte(),
+        12 => bytes[at + 5] = last_byte(random),
+        13 => bytes[deadline.unwrap_or(at) + 5] = last_byte(random),
+        14 => bytes[deadline.unwrap_or(at) + 2] = 11,
+        15 => {
+            bytes[at + 2] = 10;
+            bytes[at + 5] = last_byte(random);
+        }
         _ => {
             // 64 or 65 records, by repeats on top.
             let most = random.between(64, 65);
@@ -308,7 +384,9 @@ pub fn damage(random: &mut Random, bytes: &mut Vec<u8>) {
 #[cfg(test)]
 mod tests {
     use super::*;
-    use reference::contract::read;
+    use reference::contract::{read, sum_of_windows};
+    use reference::Clause;
+    use std::collections::BTreeSet;
 
     #[test]
     fn good_contracts_are_taken() {
@@ -334,6 +412,74 @@ mod tests {
                 contracts.iter().filter(has).count() > 1000,
                 "kind {}",
                 kind.number
+            );
+        }
+    }
+
+    /// Adds the kinds, and numbers of operands, where a deadline stands.
+    fn add_places(clause: &Clause, places: &mut BTreeSet<(u8, usize)>) {
+        let (kind, operands) = match clause {
+            Clause::Both(left, right) => (4, vec![left, right]),
+            Clause::Then(left, right) => (5, vec![left, right]),
+            Clause::Repair(left, right) => (6, vec![left, right]),
+            Clause::Repeat(each) => (7, vec![each]),
+            Clause::When(_, then) => (8, vec![then]),
+            Clause::Until(own, _) => (9, vec![own]),
+            _ => return,
+        };
+        for (number, operand) in operands.into_iter().enumerate() {
+            if let Clause::Deadline(..) = **operand {
+                places.insert((kind, number));
+            }
+            add_places(operand, places);
+        }
+    }
+
+    #[test]
+    fn deadlines_stand_wherever_a_clause_may() {
+        let mut places = BTreeSet::new();
+        for seed in 0..1000 {
+            let contract = good(&mut Random::new(seed));
+            add_places(&read(&contract).expect("a good contract"), &mut places);
+        }
+        let binary = [4, 5, 6]
+            .into_iter()
+            .flat_map(|kind| [(kind, 0), (kind, 1)]);
+        let all = binary.chain([(7, 0), (8, 0), (9, 0)]);
+        assert_eq!(places, all.collect());
+    }
+
+    #[test]
+    fn windows_of_all_lengths_and_sums_come_up() {
+        let mut windows = BTreeSet::new();
+        let mut sums = BTreeSet::new();
+        for seed in 0..20000 {
+            let contract = good(&mut Random::new(seed));
+            let deadlines = contract.chunks(RECORD).filter(|record| record[2] == 10);
+            windows.extend(deadlines.map(|record| record[5]));
+            sums.insert(sum_of_windows(&contract));
+        }
+        assert_eq!(windows, (1..=15).collect());
+        // 32 deadlines of window 15.
+        assert_eq!(sums.last(), Some(&480));
+    }
+
+    #[test]
+    fn damage_reaches_windows_and_last_bytes() {
+        let mut seen = BTreeSet::new();
+        for seed in 0..20000 {
+            let contract = damaged(&mut Random::new(seed));
+            for record in contract.chunks_exact(RECORD) {
+                seen.insert((record[2], record[5]));
+            }
+        }
+        for window in [0, 1, 15, 16] {
+            assert!(seen.contains(&(10, window)), "window {window}");
+        }
+        for kind in KINDS.iter().map(|kind| kind.number).chain([11]) {
+            assert!(
+                seen.iter().any(|seen| seen.0 == kind && seen.1 > 0),
+                "kind {kind}"
             );
         }
     }

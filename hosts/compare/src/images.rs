@@ -2,6 +2,7 @@
 
 use crate::contracts;
 use crate::random::Random;
+use reference::image::{MAX_BYTES, MAX_ROWS};
 
 /// Bytes of a row.
 pub const ROW: usize = 8;
@@ -23,19 +24,19 @@ pub fn good(random: &mut Random) -> Vec<u8> {
         0..=24 => compiled(random),
         25..=79 => of_rows(random, 1, 24),
         80..=95 => of_rows(random, 1, 200),
-        96..=98 => of_rows(random, 1, 2112),
-        _ => of_rows(random, 2110, 2112),
+        96..=98 => of_rows(random, 1, MAX_ROWS),
+        _ => of_rows(random, MAX_ROWS - 2, MAX_ROWS),
     }
 }
 
 /// What compile writes for a random contract.
 fn compiled(random: &mut Random) -> Vec<u8> {
     let contract = contracts::good(random);
-    let mut image = vec![0; 8 * 2113];
+    let mut image = vec![0; MAX_BYTES];
     let mut reply = [0; 16];
     monitor::calls::compile(&contract, &mut image, &mut reply);
     let rows = u32::from_le_bytes([reply[4], reply[5], reply[6], reply[7]]) as usize;
-    image.truncate(ROW * (rows.clamp(1, 2112) + 1));
+    image.truncate(ROW * (rows.clamp(1, MAX_ROWS) + 1));
     image
 }
 
@@ -86,7 +87,7 @@ fn row(random: &mut Random, number: usize, rows: usize, actions: usize, out: &mu
 pub fn odd(random: &mut Random) -> Vec<u8> {
     let length = match random.below(4) {
         0 => random.between(0, 17),
-        1 => random.pick(&[16903, 16904, 16905, 16911, 16912, 16920]),
+        1 => MAX_BYTES - 1 + random.pick(&[0, 1, 2, 8, 9, 17]),
         2 => random.below(400),
         _ => 8 * random.below(40),
     };

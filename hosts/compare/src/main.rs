@@ -3,7 +3,7 @@
 //! `compare [--cases N] [--seed S] [--watch PATH] [--watch-cases M] [--small R]`: case number i is
 //! that of the seed S + i, so `compare --seed S --cases 1` repeats one case, and
 //! `compare --seed S --cases 0 --watch PATH --watch-cases 1` one input of `watch`. With `--small R`
-//! every contract of at most R records on one action is compared too.
+//! every contract of at most R records on one action, with windows of 2 or 3, is compared too.
 
 #![forbid(unsafe_code)]
 

@@ -1,7 +1,7 @@
 //! What was seen, and what differed.
 
 use crate::cases::{Call, Case, Start, FAMILIES};
-use reference::contract::KINDS;
+use reference::contract::{sum_of_windows, KINDS};
 use reference::{Decision, Monitor};
 use std::collections::BTreeMap;
 use std::fmt::{self, Debug, Display, Formatter};
@@ -133,7 +133,11 @@ pub struct Tally {
     /// Compiled contracts by records: 1, 2 to 8, 9 to 32, 33 to 63, 64.
     records: [usize; 5],
     kinds: BTreeMap<u8, usize>,
+    /// Deadlines by window: 0, 1 to 3, 4 to 14, 15, above.
+    windows: [usize; 5],
     max_rows: usize,
+    /// Greatest sum of a compiled contract's windows.
+    max_windows: usize,
 }
 
 const NO_ROOM: u32 = 99;
@@ -171,15 +175,19 @@ impl Tally {
         self.verdicts[verdict as usize] += 1;
     }
 
-    pub fn compiled(&mut self, records: usize, rows: usize) {
-        self.records[bucket(records, [1, 8, 32, 63])] += 1;
+    pub fn compiled(&mut self, contract: &[u8], rows: usize) {
+        self.records[bucket(contract.len() / 6, [1, 8, 32, 63])] += 1;
         self.max_rows = self.max_rows.max(rows);
+        self.max_windows = self.max_windows.max(sum_of_windows(contract));
     }
 
-    /// Counts the kinds of a contract's records.
+    /// Counts the kinds of a contract's records, and the windows.
     pub fn contract_kinds(&mut self, contract: &[u8]) {
         for record in contract.chunks_exact(6) {
             *self.kinds.entry(record[2]).or_default() += 1;
+            if record[2] == 10 {
+                self.windows[bucket(record[5].into(), [0, 3, 14, 15])] += 1;
+            }
         }
     }
 
@@ -226,7 +234,10 @@ impl Tally {
         print_counts("compiled, by records", &records, &self.records);
         if self.max_rows > 0 {
             println!("  most rows of an image: {}", self.max_rows);
+            println!("  greatest sum of windows: {}", self.max_windows);
         }
+        let windows = ["0:", "1 to 3:", "4 to 14:", "15:", "above:"];
+        print_counts("deadlines, by window", &windows, &self.windows);
         if !self.kinds.is_empty() {
             let count = |number: u8| self.kinds.get(&number).copied().unwrap_or(0);
             let known: Vec<String> = KINDS

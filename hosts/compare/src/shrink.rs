@@ -69,6 +69,7 @@ pub fn input(input: Vec<u8>, differs: &mut dyn FnMut(&Vec<u8>) -> bool) -> Vec<u
         s.changed = false;
         quiet_periods(&mut s);
         while replace_in_input(&mut s) {}
+        shorten_windows(&mut s, |input| input);
         drop_parts(&mut s, 6, |input| input);
         drop_parts(&mut s, 1, |input| input);
         for at in 0..s.now.len() {
@@ -139,6 +140,23 @@ fn drop_parts<T: Clone, E>(s: &mut Shrinker<T>, unit: usize, list: impl Fn(&mut 
     }
 }
 
+/// Shorter windows of deadlines, the shortest that will do.
+fn shorten_windows<T: Clone>(s: &mut Shrinker<T>, contract: impl Fn(&mut T) -> &mut Vec<u8>) {
+    for number in 0..contract(&mut s.now).len() / 6 {
+        let at = number * 6;
+        if contract(&mut s.now)[at + 2] != 10 {
+            continue;
+        }
+        for window in 1..contract(&mut s.now)[at + 5] {
+            let mut candidate = s.now.clone();
+            contract(&mut candidate)[at + 5] = window;
+            if s.offer(candidate) {
+                break;
+            }
+        }
+    }
+}
+
 fn drop_calls(s: &mut Shrinker<Case>) {
     drop_parts(s, 1, |case| &mut case.calls);
 }
@@ -169,8 +187,9 @@ fn spans(contract: &[u8]) -> Option<Vec<Vec<usize>>> {
 fn shrink_contract(s: &mut Shrinker<Case>) {
     while replace_by_operand(s) {}
     drop_parts(s, 6, start_bytes);
+    shorten_windows(s, start_bytes);
     if let Start::Contract { bytes, buffer, .. } = &s.now.start {
-        let (least, buffer) = (least_buffer(bytes.len() / 6), *buffer);
+        let (least, buffer) = (least_buffer(bytes), *buffer);
         for lengths in [(least, 16), (0, 16), (buffer, 16)] {
             if offer_lengths(s, lengths) {
                 return;
@@ -212,8 +231,8 @@ fn replace_by_operand(s: &mut Shrinker<Case>) -> bool {
     for smaller in smaller_trees(&start_bytes(&mut s.now).clone()) {
         let mut candidate = s.now.clone();
         if let Start::Contract { bytes, buffer, .. } = &mut candidate.start {
-            if *buffer >= least_buffer(bytes.len() / 6) {
-                *buffer = least_buffer(smaller.len() / 6);
+            if *buffer >= least_buffer(bytes) {
+                *buffer = least_buffer(&smaller);
             }
             *bytes = smaller;
         }
@@ -347,6 +366,16 @@ mod tests {
         assert_eq!(smaller.calls.len(), 1);
         let lists = byte_lists(&mut smaller);
         assert_eq!(lists, [&[0, 0, 6, 0, 0, 0][..], &[0; 12]]);
+    }
+
+    #[test]
+    fn a_window_gets_short() {
+        let mut smaller = smaller(|case| {
+            let deadline = |record: &[u8]| record[2] == 10 && record[5] >= 3;
+            matches!(&case.start, Start::Contract { bytes, .. }
+                if bytes.chunks_exact(6).any(deadline))
+        });
+        assert_eq!(byte_lists(&mut smaller), [&[0, 0, 10, 0, 0, 3]]);
     }
 
     #[test]

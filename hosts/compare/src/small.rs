@@ -1,4 +1,5 @@
-//! Every small contract, on every short list of periods, through the Rust wrapper.
+//! Every small contract, with windows that short lists outlast, on every short list of periods,
+//! through the Rust wrapper.
 
 use monitor::{Blame, Image, Monitor, Period};
 use reference::{contract, Decision};
@@ -7,9 +8,17 @@ use std::num::NonZeroU32;
 /// How long the lists are: after the decision only one period more is looked at.
 const PERIODS: usize = 4;
 
+/// The windows of the contracts' deadlines.
+const WINDOWS: [u8; 2] = [2, 3];
+
 /// A contract record of action 0.
 fn record(kind: u8, party: u8) -> Vec<u8> {
     vec![0x54, 0x43, kind, party, 0, 0]
+}
+
+/// The record of a deadline on action 0.
+fn deadline(party: u8, window: u8) -> Vec<u8> {
+    vec![0x54, 0x43, 10, party, 0, window]
 }
 
 /// All records of these kinds, each with both parties.
@@ -25,10 +34,14 @@ struct Spelled {
 }
 
 fn one_record() -> Spelled {
+    let mut clauses = of_parties(&[1, 2, 3]);
+    for window in WINDOWS {
+        clauses.extend([deadline(1, window), deadline(2, window)]);
+    }
     let mut expressions = of_parties(&[17, 18]);
     expressions.extend([16, 19, 20].map(|kind| record(kind, 0)));
     Spelled {
-        clauses: of_parties(&[1, 2, 3]),
+        clauses,
         expressions,
     }
 }
@@ -150,7 +163,8 @@ pub fn compare(records: usize) -> bool {
         spelled.push(next);
     }
     println!(
-        "every contract of at most {records} records on one action: {contracts}, {steps} steps"
+        "every contract of at most {records} records on one action, with windows of {WINDOWS:?}: \
+         {contracts}, {steps} steps"
     );
     true
 }

@@ -20,14 +20,28 @@ pub fn period(random: &mut Random, actions: usize) -> Period {
     Period { one, two }
 }
 
-/// Periods that leave the clause open with the given chance, if a few draws find such ones.
+/// A period on the first `actions` actions in which none succeeds.
+fn fruitless(random: &mut Random, actions: usize) -> Period {
+    let mask = ((1u32 << actions) - 1) as u16;
+    let one = random.next() as u16 & mask;
+    let two = random.next() as u16 & mask & !one;
+    Period { one, two }
+}
+
+/// Periods that leave the clause open with some chance, if a few draws find such ones; in many
+/// lists most are fruitless, so that windows end.
 pub fn for_clause(random: &mut Random, clause: &Clause, length: usize) -> Vec<Period> {
     let care = random.pick(&[0, 50, 90, 98, 100]);
+    let failures = random.pick(&[0, 0, 50, 90, 100]);
     let actions = random.pick(&[1, 2, 3, 4, 16]);
     let mut monitor = Monitor::new(clause);
     let mut periods = Vec::with_capacity(length);
     for _ in 0..length {
-        let mut next = period(random, actions);
+        let mut next = if random.percent(failures) {
+            fruitless(random, actions)
+        } else {
+            period(random, actions)
+        };
         if random.percent(care) && monitor.decision() == Decision::Undecided {
             for _ in 0..8 {
                 let mut tried = monitor.clone();
@@ -92,5 +106,33 @@ pub fn damage(random: &mut Random, trace: &mut Vec<u8>) {
             }
         }
         _ => trace.extend(bad_period(random)),
+    }
+}
+
+#[cfg(test)]
+mod tests {
+    use super::*;
+
+    #[test]
+    fn every_window_is_met_and_missed_in_its_last_period() {
+        for window in 1..=15 {
+            let clause = Clause::Deadline(1, 0, window);
+            let (mut met, mut blames) = (0, [0; 2]);
+            for seed in 0..500 {
+                let mut monitor = Monitor::new(&clause);
+                for period in for_clause(&mut Random::new(seed), &clause, 15) {
+                    monitor.step(period.one, period.two);
+                }
+                match monitor.decision() {
+                    Decision::Satisfied { period } if period == window.into() => met += 1,
+                    Decision::Violated { blame, .. } => blames[blame as usize - 1] += 1,
+                    _ => {}
+                }
+            }
+            assert!(
+                met > 10 && blames.iter().all(|count| *count > 10),
+                "{window} {met} {blames:?}"
+            );
+        }
     }
 }

@@ -37,7 +37,8 @@ impl Expression {
     }
 }
 
-/// A clause: kinds 1 to 9. Duty, ban and power have a party and an action.
+/// A clause: kinds 1 to 10. Duty, ban and power have a party and an action, a deadline also a
+/// window of 1 to 15 periods.
 #[derive(Clone, Debug, PartialEq, Eq)]
 pub enum Clause {
     Duty(u8, u8),
@@ -49,6 +50,7 @@ pub enum Clause {
     Repeat(Rc<Clause>),
     When(Rc<Expression>, Rc<Clause>),
     Until(Rc<Clause>, Rc<Expression>),
+    Deadline(u8, u8, u8),
 }
 
 /// The other party: "p is the record's party, q the other".

@@ -22,6 +22,7 @@ pub struct Kind {
     pub operands: &'static [Sort],
     pub party: bool,
     pub action: bool,
+    pub window: bool,
 }
 
 const C: Sort = Sort::Clause;
@@ -34,6 +35,7 @@ const fn kind(number: u8, completes: Sort, operands: &'static [Sort]) -> Kind {
         operands,
         party: false,
         action: false,
+        window: false,
     }
 }
 
@@ -44,11 +46,18 @@ const fn with_fields(number: u8, completes: Sort, party: bool) -> Kind {
         operands: &[],
         party,
         action: true,
+        window: false,
     }
 }
 
+/// "Kind 10 is a duty with a window."
+const DEADLINE: Kind = Kind {
+    window: true,
+    ..with_fields(10, C, true)
+};
+
 /// "One fixed table gives for each kind its operands and the fields it uses."
-pub const KINDS: [Kind; 17] = [
+pub const KINDS: [Kind; 18] = [
     with_fields(1, C, true),
     with_fields(2, C, true),
     with_fields(3, C, true),
@@ -58,6 +67,7 @@ pub const KINDS: [Kind; 17] = [
     kind(7, C, &[C]),
     kind(8, C, &[E, C]),
     kind(9, C, &[C, E]),
+    DEADLINE,
     kind(16, E, &[]),
     with_fields(17, E, true),
     with_fields(18, E, true),
@@ -121,7 +131,7 @@ fn read_record(record: &[u8], number: usize, stack: &mut Vec<Operand>) -> Result
     let Some(operands) = take_operands(kind, stack) else {
         return refused(5, number);
     };
-    let completed = complete(kind.number, record[3], record[4], &operands);
+    let completed = complete(record, &operands);
     if under_when_or_until(&completed).is_some_and(|expression| expression.holds_empty) {
         return refused(7, number);
     }
@@ -129,8 +139,8 @@ fn read_record(record: &[u8], number: usize, stack: &mut Vec<Operand>) -> Result
     Ok(())
 }
 
-/// "Party (1 or 2), action (0 to 15), a last byte that no kind uses. A field that a kind doesn't
-/// use is 0."
+/// "Party (1 or 2), action (0 to 15)", "a window d of 1 to 15 in the record's last byte". "A field
+/// that a kind doesn't use is 0."
 fn fields_are_good(kind: &Kind, record: &[u8]) -> bool {
     let party = if kind.party {
         record[3] == 1 || record[3] == 2
@@ -142,7 +152,12 @@ fn fields_are_good(kind: &Kind, record: &[u8]) -> bool {
     } else {
         record[4] == 0
     };
-    party && action && record[5] == 0
+    let window = if kind.window {
+        (1..=15).contains(&record[5])
+    } else {
+        record[5] == 0
+    };
+    party && action && window
 }
 
 /// The operands of a record, first one first; none if some are "missing or of the wrong sort".
@@ -156,8 +171,9 @@ fn take_operands(kind: &Kind, stack: &mut Vec<Operand>) -> Option<Vec<Operand>> 
 }
 
 /// The clause or expression that a good record completes.
-fn complete(kind: u8, party: u8, action: u8, operands: &[Operand]) -> Operand {
+fn complete(record: &[u8], operands: &[Operand]) -> Operand {
     use Operand::{Clause as C, Expression as E};
+    let (kind, party, action, window) = (record[2], record[3], record[4], record[5]);
     let clause = match (kind, operands) {
         (1, []) => Clause::Duty(party, action),
         (2, []) => Clause::Ban(party, action),
@@ -168,6 +184,7 @@ fn complete(kind: u8, party: u8, action: u8, operands: &[Operand]) -> Operand {
         (7, [C(clause)]) => Clause::Repeat(clause.clone()),
         (8, [E(expression), C(clause)]) => Clause::When(expression.clone(), clause.clone()),
         (9, [C(clause), E(expression)]) => Clause::Until(clause.clone(), expression.clone()),
+        (10, []) => Clause::Deadline(party, action, window),
         _ => return E(Expression::new(shape(kind, party, action, operands))),
     };
     C(Rc::new(clause))
@@ -200,21 +217,30 @@ fn under_when_or_until(completed: &Operand) -> Option<&Expression> {
     }
 }
 
-/// "Image buffer under 8 × (32 × records + 65) bytes": the least length that refusal 8 lets pass.
-pub fn least_buffer(records: usize) -> usize {
-    8 * (32 * records + 65)
+/// "Image buffer under 8 × (32 × records + 65) bytes", and "4 rows for each period of each window"
+/// more: the least length that refusal 8 lets pass.
+pub fn least_buffer(contract: &[u8]) -> usize {
+    8 * (32 * (contract.len() / RECORD_BYTES) + 65 + 4 * sum_of_windows(contract))
 }
 
-/// The most rows of the image of a contract of so many records: what such a buffer has room for
-/// beside the end record.
-pub fn max_rows(records: usize) -> usize {
-    32 * records + 64
+/// The most rows of the contract's image: what such a buffer has room for beside the end record.
+pub fn max_rows(contract: &[u8]) -> usize {
+    least_buffer(contract) / 8 - 1
+}
+
+/// The sum of the windows of a contract's deadlines.
+pub fn sum_of_windows(contract: &[u8]) -> usize {
+    contract
+        .chunks_exact(RECORD_BYTES)
+        .filter(|record| record[2] == DEADLINE.number)
+        .map(|record| usize::from(record[5]))
+        .sum()
 }
 
 /// What compile reads: the clause, or the first of refusals 1 to 8.
 pub fn compile(contract: &[u8], buffer_length: usize) -> Result<Rc<Clause>, Refusal> {
     let clause = read(contract)?;
-    if buffer_length < least_buffer(contract.len() / RECORD_BYTES) {
+    if buffer_length < least_buffer(contract) {
         return refused(8, 0);
     }
     Ok(clause)

@@ -110,6 +110,7 @@ pub fn decision(clause: &Clause, list: &[Period]) -> Decision {
             (own, Reading::Accepted(k)) if own.period() > k => Decision::Satisfied { period: k },
             (own, _) => own,
         },
+        Clause::Deadline(party, action, window) => deadline(*party, *action, *window, list),
     }
 }
 
@@ -135,6 +136,20 @@ pub fn literal(clause: &Clause, first: Period) -> Decision {
     match blame {
         0 => Decision::Satisfied { period: 1 },
         blame => Decision::Violated { period: 1, blame },
+    }
+}
+
+/// "Satisfied in the first of its d periods in which both try. If none of them succeeds it is
+/// violated at the d-th, with a plain duty's blame for that period."
+fn deadline(party: u8, action: u8, window: u8, list: &[Period]) -> Decision {
+    let window = usize::from(window);
+    let mut its_periods = list.iter().take(window);
+    if let Some(before) = its_periods.position(|period| period.succeeds(action)) {
+        return Decision::Satisfied { period: before + 1 };
+    }
+    match list.get(window - 1) {
+        None => Decision::Undecided,
+        Some(last) => literal(&Clause::Duty(party, action), *last).later_by(window - 1),
     }
 }
 

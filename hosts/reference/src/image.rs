@@ -4,8 +4,10 @@ use crate::records::{refused, two_bytes, Refusal, END_MARK, ROW_MARK};
 
 /// Bytes of a row, and of the end record.
 pub const ROW_BYTES: usize = 8;
-/// "An image is 1 to 2,112 rows."
-pub const MAX_ROWS: usize = 2112;
+/// "An image may have 5,952 rows."
+pub const MAX_ROWS: usize = 5952;
+/// Bytes of the longest image: 47,624.
+pub const MAX_BYTES: usize = ROW_BYTES * (MAX_ROWS + 1);
 
 /// A row: "`54 52`, kind, a zero byte, two-byte fields x and y".
 #[derive(Clone, Copy, Debug, PartialEq, Eq)]
@@ -31,12 +33,12 @@ pub struct Image {
     pub violated_two: usize,
 }
 
-/// The image of these bytes, or refusal 9: "image length no multiple of 8, under 16 or over
-/// 16,904; 0. Then a row or the end record not as above; first bad row, row count for the end
-/// record".
+/// The image of these bytes, or refusal 9: "image length no multiple of 8, under 16 or over" that
+/// of the longest; "0. Then a row or the end record not as above; first bad row, row count for the
+/// end record".
 pub fn read(bytes: &[u8]) -> Result<Image, Refusal> {
     let length = bytes.len();
-    if !length.is_multiple_of(ROW_BYTES) || !(16..=16904).contains(&length) {
+    if !length.is_multiple_of(ROW_BYTES) || !(16..=MAX_BYTES).contains(&length) {
         return refused(9, 0);
     }
     let count = length / ROW_BYTES - 1;

@@ -1,6 +1,7 @@
-//! The plugin contract monitor a second time, from document 01 alone, to compare the monitor with.
+//! The plugin contract monitor a second time, from document 01 and document 02's text on deadlines
+//! alone, to compare the monitor with.
 //!
-//! Quotations in the comments are document 01's words. The meaning of a contract is here twice:
+//! Quotations in the comments are these documents' words. The meaning of a contract is here twice:
 //! [`definition`] decides whole lists of periods as the text says it, slowly; [`monitor`] goes from
 //! period to period and keeps what is left to read. Nothing here makes the rows of an image:
 //! "which rows compile picks is free".

@@ -49,10 +49,7 @@ impl Rest {
 /// The first period of a clause.
 fn first_step(clause: &Rc<Clause>, period: Period) -> Progress {
     match &**clause {
-        Clause::Duty(..) | Clause::Ban(..) | Clause::Power(..) => match literal(clause, period) {
-            Decision::Violated { blame, .. } => Progress::Violated(blame),
-            _ => Progress::Satisfied,
-        },
+        Clause::Duty(..) | Clause::Ban(..) | Clause::Power(..) => decided(literal(clause, period)),
         Clause::Both(left, right) => both(unread(left).step(period), unread(right).step(period)),
         Clause::Then(left, right) => then(unread(left).step(period), right),
         Clause::Repair(left, right) => repair(unread(left).step(period), right),
@@ -62,7 +59,26 @@ fn first_step(clause: &Rc<Clause>, period: Period) -> Progress {
         Clause::Until(own, expression) => {
             until(unread(own).step(period), begin_reading(expression, period))
         }
+        Clause::Deadline(party, action, window) => deadline(*party, *action, *window, period),
     }
+}
+
+/// A decision in this period.
+fn decided(decision: Decision) -> Progress {
+    match decision {
+        Decision::Violated { blame, .. } => Progress::Violated(blame),
+        _ => Progress::Satisfied,
+    }
+}
+
+/// A period without success leaves a deadline with one period fewer, and the last of its periods
+/// is a plain duty's.
+fn deadline(party: u8, action: u8, window: u8, period: Period) -> Progress {
+    if window > 1 && !period.succeeds(action) {
+        let later = Clause::Deadline(party, action, window - 1);
+        return Progress::Open(Rest::Unread(Rc::new(later)));
+    }
+    decided(literal(&Clause::Duty(party, action), period))
 }
 
 /// "Violated at the earlier violation; the two blames are united if they fall in the same period."

@@ -4,24 +4,9 @@
 mod common;
 
 use common::*;
-use reference::definition::{decision, reading, Reading};
+use reference::definition::{reading, Reading};
 use reference::watch::watch;
-use reference::{Clause, Decision, Monitor};
-
-/// Both meanings give this decision.
-fn decides(clause: &Clause, trace: &str, expected: Decision) {
-    let list = periods(trace);
-    assert_eq!(
-        decision(clause, &list),
-        expected,
-        "the definition on {trace}"
-    );
-    let mut monitor = Monitor::new(clause);
-    for period in &list {
-        monitor.step(period.one, period.two);
-    }
-    assert_eq!(monitor.decision(), expected, "the monitor on {trace}");
-}
+use reference::Monitor;
 
 #[test]
 fn duty_ban_and_power() {
@@ -179,13 +164,6 @@ fn example() -> Vec<u8> {
     contract(&[(1, 1, 0), (1, 1, 1), (6, 0, 0), (7, 0, 0)])
 }
 
-fn trace(text: &str) -> Vec<u8> {
-    periods(text)
-        .iter()
-        .flat_map(|period| period.record())
-        .collect()
-}
-
 #[test]
 fn the_example_of_watch() {
     let input = [example(), trace("a/a, -/-, b/-, a/a")].concat();
@@ -219,8 +197,8 @@ fn other_inputs_of_watch() {
     let unaligned = [vec![0x54, 0x43, 1, 0x54, 0x50, 0], vec![0; 5]].concat();
     assert_eq!(watch(&unaligned), "refused 1 0\n");
     assert_eq!(watch(&[unaligned, vec![0]].concat()), "refused 4 0\n");
-    let kind_ten = [contract(&[(10, 0, 0)]), trace("a/a")].concat();
-    assert_eq!(watch(&kind_ten), "refused 3 0\n");
+    let kind_eleven = [contract(&[(11, 0, 0)]), trace("a/a")].concat();
+    assert_eq!(watch(&kind_eleven), "refused 3 0\n");
 }
 
 #[test]

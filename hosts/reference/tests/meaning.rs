@@ -48,10 +48,12 @@ fn without_empty(random: &mut Random, atoms: u64, actions: u64) -> Rc<Expression
 fn clause(random: &mut Random, depth: u64, actions: u64) -> Rc<Clause> {
     let (party, action) = (1 + random.below(2) as u8, random.below(actions) as u8);
     if depth == 0 {
-        return match random.below(3) {
+        return match random.below(5) {
             0 => duty(party, action),
             1 => ban(party, action),
-            _ => power(party, action),
+            2 => power(party, action),
+            3 => deadline(party, action, 1 + random.below(4) as u8),
+            _ => deadline(party, action, 1 + random.below(15) as u8),
         };
     }
     match random.below(7) {
@@ -80,9 +82,15 @@ fn clause(random: &mut Random, depth: u64, actions: u64) -> Rc<Clause> {
     }
 }
 
+/// A list with many attempts, or with few, so that windows end.
 fn list(random: &mut Random, length: u64, actions: u64) -> Vec<Period> {
     let mask = (1 << actions) - 1;
-    let attempts = |random: &mut Random| ((random.next() | random.next()) & mask) as u16;
+    let many = random.below(3) > 0;
+    let attempts = |random: &mut Random| {
+        let (one, two) = (random.next(), random.next());
+        let drawn = if many { one | two } else { one & two };
+        (drawn & mask) as u16
+    };
     (0..length)
         .map(|_| Period {
             one: attempts(random),
@@ -93,13 +101,13 @@ fn list(random: &mut Random, length: u64, actions: u64) -> Vec<Period> {
 
 #[test]
 fn the_monitor_decides_as_the_definition() {
-    let (mut satisfied, mut violated, mut late) = (0, 0, 0);
+    let (mut satisfied, mut violated, mut late, mut very_late) = (0, 0, 0, 0);
     for seed in 0..20000 {
         let mut random = Random(seed);
         let actions = 1 + random.below(3);
         let depth = random.below(5);
         let clause = clause(&mut random, depth, actions);
-        let length = random.below(11);
+        let length = random.below(20);
         let list = list(&mut random, length, actions);
         let mut monitor = Monitor::new(&clause);
         for n in 0..=list.len() {
@@ -118,8 +126,9 @@ fn the_monitor_decides_as_the_definition() {
         satisfied += usize::from(matches!(monitor.decision(), Decision::Satisfied { .. }));
         violated += usize::from(matches!(monitor.decision(), Decision::Violated { .. }));
         late += usize::from(monitor.decision_period() > 2);
+        very_late += usize::from(monitor.decision_period() > 10);
     }
-    assert!(satisfied > 3000 && violated > 3000 && late > 500);
+    assert!(satisfied > 3000 && violated > 3000 && late > 500 && very_late > 100);
 }
 
 /// What the waiting expression says of the list.

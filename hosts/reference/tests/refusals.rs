@@ -30,7 +30,7 @@ fn one_to_three() {
         2,
         1,
     );
-    for kind in [0, 10, 11, 12, 13, 14, 15, 24, 255] {
+    for kind in [0, 11, 12, 13, 14, 15, 24, 255] {
         refuses(&contract(&[(kind, 0, 0)]), 3, 0);
     }
 }
@@ -45,6 +45,35 @@ fn fields() {
     refuses(&contract(&[(1, 1, 0), (7, 0, 1)]), 4, 1);
     refuses(&[0x54, 0x43, 1, 1, 0, 1], 4, 0);
     assert!(read(&contract(&[(1, 2, 15)])).is_ok());
+}
+
+#[test]
+fn windows() {
+    for window in 1..=15 {
+        let clause = read(&deadline_record(2, 15, window)).expect("a good window");
+        assert_eq!(clause, deadline(2, 15, window));
+    }
+    for window in [0, 16, 17, 128, 255] {
+        refuses(&deadline_record(1, 0, window), 4, 0);
+    }
+    refuses(&deadline_record(0, 0, 1), 4, 0);
+    refuses(&deadline_record(3, 0, 1), 4, 0);
+    refuses(&deadline_record(1, 16, 1), 4, 0);
+    refuses(&[deadline_record(1, 0, 1), record(10, 1, 0)].concat(), 4, 1);
+}
+
+#[test]
+fn a_last_byte_that_the_kind_does_not_use() {
+    let with_party = [1, 2, 3, 17, 18].map(|kind| (kind, 1, 0));
+    let without = [4, 5, 6, 7, 8, 9, 16, 19, 20, 21, 22, 23].map(|kind| (kind, 0, 0));
+    for (kind, party, action) in with_party.into_iter().chain(without) {
+        let mut bytes = record(kind, party, action);
+        assert_ne!(read(&bytes).err().map(|refusal| refusal.number), Some(4));
+        for last in [1, 15, 16, 255] {
+            bytes[5] = last;
+            refuses(&bytes, 4, 0);
+        }
+    }
 }
 
 #[test]
@@ -79,7 +108,7 @@ fn order_within_a_contract() {
         0,
     );
     // 7 at record 3 goes before 3 at record 4, and before 6.
-    let empty = [(16, 0, 0), (23, 0, 0), (1, 1, 0), (8, 0, 0), (10, 0, 0)];
+    let empty = [(16, 0, 0), (23, 0, 0), (1, 1, 0), (8, 0, 0), (11, 0, 0)];
     refuses(&contract(&empty), 7, 3);
     refuses(
         &contract(&[(1, 1, 0), (16, 0, 0), (23, 0, 0), (1, 1, 0), (8, 0, 0)]),
@@ -88,23 +117,70 @@ fn order_within_a_contract() {
     );
     // 4 goes before 5 in one record.
     refuses(&contract(&[(7, 1, 0)]), 4, 0);
-    refuses(&[0x54, 0x44, 10, 3, 16, 1], 2, 0);
-    refuses(&contract(&[(10, 3, 16)]), 3, 0);
+    refuses(&[0x54, 0x44, 11, 3, 16, 1], 2, 0);
+    refuses(&[0x54, 0x43, 11, 3, 16, 1], 3, 0);
+    // A bad window goes before 5 at the next record, and a good one makes a clause.
+    let repeat_any = contract(&[(16, 0, 0), (7, 0, 0)]);
+    refuses(
+        &[deadline_record(1, 0, 16).as_slice(), &repeat_any].concat(),
+        4,
+        0,
+    );
+    refuses(
+        &[deadline_record(1, 0, 15).as_slice(), &repeat_any].concat(),
+        5,
+        2,
+    );
+    refuses(
+        &[deadline_record(1, 0, 15), record(23, 0, 0)].concat(),
+        5,
+        1,
+    );
+    refuses(&[deadline_record(1, 0, 15); 2].concat(), 6, 2);
 }
 
 #[test]
 fn buffers() {
     let one = contract(&[(1, 1, 0)]);
-    assert_eq!(least_buffer(1), 776);
-    assert_eq!(compile(&one, 775).unwrap_err(), refusal(8, 0));
-    assert!(compile(&one, 776).is_ok());
+    takes_from(&one, 776);
     assert_eq!(
         compile(&contract(&[(7, 0, 0)]), 0).unwrap_err(),
         refusal(5, 0)
     );
     let most = contract(&[[(1, 1, 0)].as_slice(), &[(7, 0, 0); 63]].concat());
-    assert!(compile(&most, least_buffer(64)).is_ok());
+    takes_from(&most, 16904);
     refuses(&[most, contract(&[(7, 0, 0)])].concat(), 1, 0);
+}
+
+/// The contract is taken with a buffer of that length, and refused with one byte less.
+fn takes_from(contract: &[u8], length: usize) {
+    assert_eq!(least_buffer(contract), length);
+    assert!(compile(contract, length).is_ok());
+    assert_eq!(compile(contract, length - 1).unwrap_err(), refusal(8, 0));
+}
+
+#[test]
+fn buffers_of_contracts_with_deadlines() {
+    takes_from(&deadline_record(1, 0, 1), 808);
+    takes_from(&deadline_record(1, 0, 15), 1256);
+    let halves = [deadline_record(1, 0, 15), deadline_record(2, 1, 1)].concat();
+    takes_from(&[halves.as_slice(), &record(4, 0, 0)].concat(), 1800);
+    let mixed = contract(&[(1, 1, 0), (4, 0, 0), (7, 0, 0)]);
+    takes_from(
+        &[deadline_record(1, 0, 3).as_slice(), &mixed].concat(),
+        1640,
+    );
+    assert_eq!(compile(&halves, 0).unwrap_err(), refusal(6, 2));
+
+    // As many deadlines as 64 records can have.
+    let mut most = deadline_record(1, 0, 15).to_vec();
+    for _ in 1..32 {
+        most.extend(deadline_record(2, 1, 15));
+        most.extend(record(4, 0, 0));
+    }
+    most.extend(record(7, 0, 0));
+    assert_eq!(most.len(), 64 * 6);
+    takes_from(&most, 32264);
 }
 
 fn row(kind: u8, x: u16, y: u16) -> Vec<u8> {
@@ -141,7 +217,7 @@ fn image_refused(bytes: &[u8], place: u64) {
 
 #[test]
 fn images() {
-    for length in [0, 8, 15, 17, 16912] {
+    for length in [0, 8, 15, 17, 47623, 47625, 47632] {
         image_refused(&vec![0; length], 0);
     }
     image_refused(&[row(3, 0, 0), end(0, 0, 0)].concat(), 0);
@@ -160,7 +236,15 @@ fn images() {
     image_refused(&[row(0, 0, 0), end(0, 0, 1)].concat(), 1);
     image_refused(&[row(0, 0, 0), row(0, 0, 0)].concat(), 1);
     assert!(image::read(&[row(6, 1, 0), row(1, 0, 0), end(1, 0, 0)].concat()).is_ok());
-    assert!(image::read(&[row(0, 0, 0).repeat(2112), end(0, 0, 2111)].concat()).is_ok());
+    for rows in [2112, 2113, 5952] {
+        assert!(image::read(&of_rows(rows)).is_ok());
+    }
+    image_refused(&of_rows(5953), 0);
+}
+
+/// An image of so many false rows, whose end names the last.
+fn of_rows(rows: u16) -> Vec<u8> {
+    [row(0, 0, 0).repeat(rows.into()), end(0, 0, rows - 1)].concat()
 }
 
 /// Number and place of a reply.
@@ -211,6 +295,22 @@ fn states() {
         assert_eq!(step(&image, &mut state, &GOOD[..5], &mut reply), 1);
         assert_eq!((answer(&reply), state), ((10, 0), before), "{what}");
     }
+}
+
+#[test]
+fn states_of_the_longest_image() {
+    let image = of_rows(5952);
+    assert_eq!(image.len(), 47624);
+    let mut reply = [7; 24];
+    for length in [2122, 5961, 5963] {
+        assert_eq!(begin(&image, &mut vec![9; length], &mut reply), 1);
+        assert_eq!(answer(&reply), (10, 0));
+    }
+    let mut state = vec![9; 5962];
+    assert_eq!(begin(&image, &mut state, &mut reply), 1);
+    assert_eq!(answer(&reply), (0, 0));
+    assert_eq!(step(&image, &mut state, &GOOD, &mut reply), 1);
+    assert_eq!((answer(&reply), verdict(&reply)), ((0, 0), (0, 0, 0)));
 }
 
 #[test]

@@ -1,13 +1,19 @@
 //! Contracts and traces for the tests.
 #![allow(dead_code)]
 
+use reference::definition::decision;
 use reference::records::Period;
-use reference::{Clause, Decision, Expression, Shape};
+use reference::{Clause, Decision, Expression, Monitor, Shape};
 use std::rc::Rc;
 
 /// A contract record.
 pub fn record(kind: u8, party: u8, action: u8) -> [u8; 6] {
     [0x54, 0x43, kind, party, action, 0]
+}
+
+/// The contract record of a deadline.
+pub fn deadline_record(party: u8, action: u8, window: u8) -> [u8; 6] {
+    [0x54, 0x43, 10, party, action, window]
 }
 
 /// A contract of these kinds, parties and actions.
@@ -39,6 +45,29 @@ fn attempts(text: &str) -> u16 {
         .filter(|letter| *letter != b'-')
         .map(|letter| 1 << (letter - b'a'))
         .sum()
+}
+
+/// The records of the periods of such a text.
+pub fn trace(text: &str) -> Vec<u8> {
+    periods(text)
+        .iter()
+        .flat_map(|period| period.record())
+        .collect()
+}
+
+/// Both meanings give this decision.
+pub fn decides(clause: &Clause, trace: &str, expected: Decision) {
+    let list = periods(trace);
+    assert_eq!(
+        decision(clause, &list),
+        expected,
+        "the definition on {trace}"
+    );
+    let mut monitor = Monitor::new(clause);
+    for period in &list {
+        monitor.step(period.one, period.two);
+    }
+    assert_eq!(monitor.decision(), expected, "the monitor on {trace}");
 }
 
 pub const A: u8 = 0;
@@ -78,6 +107,10 @@ pub fn when(expression: Rc<Expression>, clause: Rc<Clause>) -> Rc<Clause> {
 
 pub fn until(clause: Rc<Clause>, expression: Rc<Expression>) -> Rc<Clause> {
     Rc::new(Clause::Until(clause, expression))
+}
+
+pub fn deadline(party: u8, action: u8, window: u8) -> Rc<Clause> {
+    Rc::new(Clause::Deadline(party, action, window))
 }
 
 pub fn any() -> Rc<Expression> {
