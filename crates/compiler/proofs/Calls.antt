@@ -18,7 +18,7 @@ use Rattle.layout.specs.Images.{rowCount}
 use Rattle.layout.proofs.Images.{GoodImage, passed-good}
 use Rattle.contract.specs.Meaning.{Clause}
 use Rattle.reader.specs.Spelling.{Spells}
-use Rattle.reader.specs.Reader.{taken, read, contractRecords}
+use Rattle.reader.specs.Reader.{taken, read}
 use Rattle.reader.proofs.Reader.{spells-taken}
 use Rattle.image.specs.Limits.{bufferFor}
 use Rattle.image.specs.Images.{imageFor}

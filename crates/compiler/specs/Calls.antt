@@ -13,7 +13,6 @@ use Rattle.layout.specs.Images.{rowCount}
 use Rattle.layout.specs.Refusals.{imageTest}
 use Rattle.contract.specs.Meaning.{Clause}
 use Rattle.reader.specs.Spelling.{Spells}
-use Rattle.reader.specs.Reader.{contractRecords}
 use Rattle.image.specs.Limits.{allowedFor, bufferFor}
 use Rattle.image.specs.Images.{imageFor}
 use Rattle.image.specs.Monitors.{Monitors}

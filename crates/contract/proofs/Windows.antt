@@ -1,12 +1,12 @@
 -- A deadline of window 1 means what the plain duty means, and one of window d what d duties nested by repair mean. Document 02, card 1.
-use Prim.Native.Nat.{ℕ, zero, suc, _+_, _-_}
+use Prim.Native.Nat.{ℕ, zero, suc, _-_}
 use native.Mathlib.Omega.{arith}
 use mathlib.Core.Bool.{Bool, true, false, _&&_, and-comm, cond}
 use mathlib.Core.List.{List, [], _∷_}
 use mathlib.Core.Path.{_≡_, refl, ap, _∙_}
 use lib.ListN.{take, drop}
 use Rattle.periods.specs.Periods.{Party, party1, party2, other, Period, tries, succeeds}
-use Rattle.contract.specs.Meaning.{duty, Clause, literal, deadline, repair, Decision, undecided, satisfied, violated, literalDecision, later, after, firstSuccess, deadlineMeaning, repairMeaning, meaning}
+use Rattle.contract.specs.Meaning.{duty, Clause, literal, deadline, repair, Decision, undecided, satisfied, violated, literalDecision, later, firstSuccess, deadlineMeaning, repairMeaning, meaning}
 
 -- an action succeeds when its party tries it and the other does
 pub by-party : (p : Party) (x : Period) (a : ℕ) → succeeds x a ≡ (tries x p a && tries x (other p) a)

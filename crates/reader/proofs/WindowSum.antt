@@ -14,7 +14,7 @@ use Rattle.reader.specs.Limits.{maxWindow, recordBytes}
 use Rattle.reader.specs.Table.{Sort, clause, Kind, duty, ban, power, both, then, repair, repeat, when, until, deadline, any, tries, idle, succeeds, fails, seq, or, star, line}
 use Rattle.reader.specs.Trees.{Tree, Trees, Fields, node}
 use Rattle.reader.specs.Spelling.{spellRecord, spell, records, windows, spellTree, treeRecords, treeWindows, deadlineRecord, InRange, Spells}
-use Rattle.reader.specs.Reader.{windowAt, windowsOf, contractRecords, contractWindows}
+use Rattle.reader.specs.Reader.{windowAt, windowsOf, contractWindows}
 use Rattle.reader.proofs.Fields.{used, recordOf, allowed-last}
 use Rattle.reader.proofs.Spelling.{spellTrees, treesRecords, All, on-tree, spell-node, records-node, length-tree, length-spellTrees}
 use Rattle.reader.proofs.Reader.{spelled-count}

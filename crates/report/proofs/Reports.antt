@@ -32,7 +32,7 @@ use Rattle.runner.specs.Calls.{begin}
 use Rattle.runner.proofs.Refusals.{begin-passes}
 use Rattle.runner.proofs.StepCalls.{begin-written, begin-sound}
 use Rattle.contract.specs.Meaning.{Clause}
-use Rattle.reader.specs.Reader.{Result, refused, taken, read, contractRecords, readTest}
+use Rattle.reader.specs.Reader.{Result, refused, taken, read, readTest}
 use Rattle.reader.proofs.Reader.{taken-count, taken-spells, spells-taken}
 use Rattle.reader.proofs.WindowSum.{spelled-windows, windows-max}
 use Rattle.reader.proofs.Places.{place-max}

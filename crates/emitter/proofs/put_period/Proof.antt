@@ -1,5 +1,4 @@
 -- `emitter::put_period` meets its contract: three rows, one behind the other.
-use native.Mathlib.Omega.{arith}
 use borrow.Author.Needs.{needs}
 use Rattle.emitter.proofs.Periods.{written-period}
 use Rattle.emitter.proofs.put_period.Statement.{statement}

@@ -1,7 +1,6 @@
 -- `emitter::put_window` meets its contract: after each turn the rows of one later period more are written.
 use Prim.Native.Nat.{_-_}
 use native.Mathlib.Omega.{arith}
-use mathlib.Core.Path.{_≡_, sym, _∙_}
 use Rattle.emitter.proofs.Periods.{WindowAt, none-yet, period-room, one-more, all-done}
 use Rattle.emitter.proofs.Periods as P
 use Rattle.emitter.proofs.put_window.Statement.{statement}
@@ -28,19 +27,13 @@ put-period-requires : tie.Need-put-period-requires Inv-loop μ-loop
 put-period-requires c κs = period-room (c .before .before .loop .inv) (c .before .before .before .before .pre) (omega arith)
 
 add-earlier : tie.Need-add-earlier Inv-loop μ-loop
-add-earlier c =
-    let h = period-room (c .before .before .before .before .before .loop .inv) (c .before .before .before .before .before .before .before .pre) (omega arith) in
-    omega (arith, h .few)
+add-earlier c = omega (arith, period-room (c .before .before .before .before .before .loop .inv) (c .before .before .before .before .before .before .before .pre) (omega arith) .few)
 
 add-missed : tie.Need-add-missed Inv-loop μ-loop
-add-missed c =
-    let h = period-room (c .before .before .before .before .before .loop .inv) (c .before .before .before .before .before .before .before .pre) (omega arith) in
-    omega (arith, h .few)
+add-missed c = omega (arith, period-room (c .before .before .before .before .before .loop .inv) (c .before .before .before .before .before .before .before .pre) (omega arith) .few)
 
 add-next : tie.Need-add-next Inv-loop μ-loop
-add-next c =
-    let h = period-room (c .before .before .before .before .before .loop .inv) (c .before .before .before .before .before .before .before .pre) (omega arith) in
-    omega (arith, h .few)
+add-next c = omega (arith, period-room (c .before .before .before .before .before .loop .inv) (c .before .before .before .before .before .before .before .pre) (omega arith) .few)
 
 add-j : tie.Need-add-j Inv-loop μ-loop
 add-j c = omega arith
