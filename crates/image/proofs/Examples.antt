@@ -21,9 +21,9 @@ use Rattle.reader.specs.Trees.{goodFields, node}
 use Rattle.reader.specs.Reader as Reader
 use Rattle.reader.specs.Reader.{operandsOf, readRecord, readRecords, read}
 use Rattle.image.specs.Widths.{afterExpression, afterClause}
-use Rattle.image.specs.Blocks.{endRow, liveRow, expressionRows, outputsOf, clauseRows}
+use Rattle.image.specs.Blocks.{endRow, liveRow, expressionRows, outputsOf, windowRows, clauseRows}
 use Rattle.image.specs.Images.{rowsFor, image, imageFor}
-use Rattle.image.specs.Examples.{linesFrom, lines, repliesFrom, replies, KindVectors, StudentVectors, WatchVector}
+use Rattle.image.specs.Examples.{linesFrom, lines, repliesFrom, replies, KindVectors, StudentVectors, DeadlineVectors, WatchVector, RowVectors, RoomVectors}
 
 pub student-vectors : StudentVectors
 unfolding
@@ -46,6 +46,22 @@ unfolding
 kind-vectors =
     record { powers-and-duties = refl; accepted-second = refl; rejected-fails = refl; accepted-odd = refl; rejected-until = refl }
 
+pub deadline-vectors : DeadlineVectors
+unfolding
+    lines linesFrom image rowsFor clauseRows windowRows expressionRows outputsOf endRow afterClause afterExpression stateOf afterPeriod
+    valuesAfter newValues computed counted tries bit field value
+deadline-vectors =
+    record {
+      missed-by-own = refl;
+      missed-by-other = refl;
+      met-in-last = refl;
+      window-of-1 = refl;
+      window-of-15 = refl;
+      no-life-after-success = refl;
+      no-living-window = refl;
+      no-living-success = refl;
+    }
+
 pub watch-vector : WatchVector
 unfolding
     replies repliesFrom read Reader.goodContractLength Reader.contractRecords readRecords readRecord firstNumbered kindOf goodFields operandsOf node imageFor image
@@ -53,3 +69,12 @@ unfolding
     imageTest goodImageLength rowCount firstFailing goodRowAt goodEnd decode rowOf imageOf rowsOf stateTest stateOf stateBytes sound allAtMost allZero
     periodTest marksTest formOf wholePeriods markedAs countTest afterPeriod valuesAfter newValues computed counted periodAt periodFrom tries bit marked bytes field value
 watch-vector = record { replied = refl }
+
+pub row-vectors : RowVectors
+unfolding
+    read Reader.goodContractLength Reader.contractRecords readRecords readRecord firstNumbered kindOf goodFields operandsOf node imageFor image
+    rowsFor clauseRows windowRows outputsOf afterClause imageBytes rowsBytes endBytes encode rowCount marked bytes field value
+row-vectors = record { rows-of-window-1 = refl; rows-of-window-3 = refl; row-counts = refl; most-rows = refl }
+
+pub room-vectors : RoomVectors
+room-vectors = record { rows-for-64 = refl; bytes-for-1 = refl; bytes-for-64 = refl }

@@ -1,20 +1,24 @@
--- Vectors of the image, a dozen: every kind, every error of document 01's "What students hand in", and the example of "Watch" through the bytes.
+-- Vectors of the image: every kind, every error of document 01's "What students hand in", and the example of "Watch" through the bytes; the rows
+-- of deadlines (document 02, card 1), and the room for rows.
 use Prim.Native.Nat.{ℕ, _+_}
-use mathlib.Core.List.{List, [], _∷_}
+use mathlib.Core.List.{List, [], _∷_, _++_, map}
 use mathlib.Core.Path.{_≡_}
 use lib.ListN.{length, replicate}
 use Rattle.records.specs.Examples.{area}
 use Rattle.records.specs.Verdicts.{Verdict, «open», met, broken, broken-after}
 use Rattle.periods.specs.Periods.{party1, party2, Period}
 use Rattle.layout.specs.Images.{Image, rowCount}
+use Rattle.layout.specs.Examples.{row, end}
 use Rattle.states.specs.States.{State, stateOf}
 use Rattle.states.specs.Verdicts.{verdict}
 use Rattle.machine.specs.Machine.{afterPeriod}
 use Rattle.runner.specs.Calls.{begin, step}
 use Rattle.runner.specs.Examples.{reply}
 use Rattle.contract.specs.Expressions.{any, tries, idle, succeeds, fails, atom, seq, or, star}
-use Rattle.contract.specs.Meaning.{Clause, both, then, repair, repeat, when, until}
+use Rattle.contract.specs.Meaning.{Clause, deadline, both, then, repair, repeat, when, until}
 use Rattle.contract.specs.Examples.{a, b, duty, ban, power, a/a, a/-, -/a, -/-, b/a, b/b, b/-}
+use Rattle.reader.specs.Examples.{six, joined}
+use Rattle.image.specs.Limits.{allowedRows, bufferBytes}
 use Rattle.image.specs.Images.{image, imageFor}
 
 -- verdict, blame and decision period
@@ -32,7 +36,7 @@ linesFrom m s (x ∷ w) =
 unfoldable pub lines : Clause → List Period → List Line
 lines c w = linesFrom (image c) (stateOf (replicate (10 + length (image c .rows)) 0)) w
 
--- ---- kinds; those that are not here are among the students' below
+-- ---- kinds; those that are not here are among the students' and the deadlines' below
 
 pub record KindVectors : Type 0 where
   -- both violated in one period: the blames are united
@@ -79,6 +83,34 @@ pub record StudentVectors : Type 0 where
       lines (repair (until (duty party1 a) (atom (tries party1 b))) (duty party2 a)) (b/a ∷ a/- ∷ [])
       ≡ («open», 0, 0) ∷ (broken, 2, 2) ∷ []
 
+-- ---- deadlines; what a wrong block would give stands in brackets
+
+pub record DeadlineVectors : Type 0 where
+  -- the blame goes by period 3 alone (blame 2, by the periods before; broken in 1 or 2)
+  pub missed-by-own :
+      lines (deadline party1 a 3) (a/- ∷ a/- ∷ -/a ∷ [])
+      ≡ («open», 0, 0) ∷ («open», 0, 0) ∷ (broken, 1, 3) ∷ []
+  pub missed-by-other :
+      lines (deadline party2 a 3) (a/- ∷ -/- ∷ -/a ∷ [])
+      ≡ («open», 0, 0) ∷ («open», 0, 0) ∷ (broken, 1, 3) ∷ []
+  -- both try in no period before the last
+  pub met-in-last : lines (deadline party1 a 3) (a/- ∷ -/a ∷ a/a ∷ []) ≡ («open», 0, 0) ∷ («open», 0, 0) ∷ (met, 0, 3) ∷ []
+  -- the least window and the greatest
+  pub window-of-1 : lines (deadline party1 a 1) (a/- ∷ []) ≡ (broken, 2, 1) ∷ []
+  pub window-of-15 : lines (deadline party2 a 15) (replicate 15 a/-) ≡ replicate 14 («open», 0, 0) ++ ((broken, 2, 15) ∷ [])
+  -- met in period 2, it is not missed in period 3, in which the other half goes on (broken there, blame 1)
+  pub no-life-after-success :
+      lines (both (deadline party1 a 3) (repeat (ban party1 b))) (-/- ∷ a/a ∷ -/- ∷ [])
+      ≡ («open», 0, 0) ∷ («open», 0, 0) ∷ («open», 0, 0) ∷ []
+  -- begun in period 1, it dies with the `until` that finished there and is not missed in period 3 (broken there, blame 1)
+  pub no-living-window :
+      lines (repeat (until (deadline party1 a 3) (atom (tries party1 b)))) (b/- ∷ -/- ∷ -/- ∷ [])
+      ≡ («open», 0, 0) ∷ («open», 0, 0) ∷ («open», 0, 0) ∷ []
+  -- nor is it met in period 2, so the right of `then` is not begun again in period 3 (open there)
+  pub no-living-success :
+      lines (then (until (deadline party1 a 2) (atom (tries party1 b))) (deadline party1 b 2)) (b/- ∷ a/a ∷ -/- ∷ [])
+      ≡ («open», 0, 0) ∷ («open», 0, 0) ∷ (broken, 1, 3) ∷ []
+
 -- ---- the contract and the periods of "Watch", byte for byte: its image, begin, and a step call for each period
 
 abbrev pub watchedBytes : List ℕ
@@ -112,3 +144,41 @@ pub record WatchVector : Type 0 where
   pub replied :
       replies watchedBytes watchedRecords
       ≡ reply 0 0 0 0 0 ∷ reply 0 0 0 0 0 ∷ reply 0 2 0 2 3 ∷ reply 0 4 0 2 3 ∷ []
+
+-- ---- the rows of deadlines, and the room for rows
+
+-- a contract of one deadline
+abbrev pub oneDeadline : (party action window : ℕ) → List ℕ
+oneDeadline p a d = 0x54 ∷ 0x43 ∷ 0x0A ∷ p ∷ a ∷ d ∷ []
+
+pub record RowVectors : Type 0 where
+  -- kind and fields of each row: the fixed rows, the deadline's six before its window's rows and six after them
+  pub rows-of-window-1 :
+      imageFor (oneDeadline 1 0 1)
+      ≡ joined
+      (row 0 0 0 ∷ row 1 0 0 ∷ row 3 1 0
+      ∷ row 2 1 0 ∷ row 2 2 0 ∷ row 4 3 4 ∷ row 3 5 0 ∷ row 4 2 6 ∷ row 4 1 6
+      ∷ row 4 2 0 ∷ row 5 1 9 ∷ row 4 10 5 ∷ row 3 3 0 ∷ row 4 8 12 ∷ row 4 8 3
+      ∷ end 11 13 14 ∷ [])
+  -- of party 2, with three rows for each of periods 2 and 3
+  pub rows-of-window-3 :
+      imageFor (oneDeadline 2 1 3)
+      ≡ joined
+      (row 0 0 0 ∷ row 1 0 0 ∷ row 3 1 0
+      ∷ row 2 2 1 ∷ row 2 1 1 ∷ row 4 3 4 ∷ row 3 5 0 ∷ row 4 2 6 ∷ row 4 1 6
+      ∷ row 6 8 0 ∷ row 5 0 9 ∷ row 4 7 9
+      ∷ row 6 11 0 ∷ row 5 10 12 ∷ row 4 7 12
+      ∷ row 4 2 13 ∷ row 5 1 15 ∷ row 4 16 5 ∷ row 3 3 0 ∷ row 4 14 18 ∷ row 4 14 3
+      ∷ end 17 20 19 ∷ [])
+  pub row-counts : map (λ (d : ℕ). rowCount (imageFor (oneDeadline 1 0 d))) (1 ∷ 2 ∷ 3 ∷ 15 ∷ []) ≡ 15 ∷ 18 ∷ 21 ∷ 57 ∷ []
+  -- the most that 64 records have: 32 deadlines of 15 periods each, 31 times `both`, and `repeat`
+  pub most-rows :
+      rowCount (imageFor (joined (replicate 32 (oneDeadline 1 0 15) ++ replicate 31 (six 4 0 0) ++ (six 7 0 0 ∷ [])))) ≡ 2170
+
+-- without windows, and with a window of 1 period or 64 of 15
+pub record RoomVectors : Type 0 where
+  -- "1 to 2,112 rows"; "5,952 rows"
+  pub rows-for-64 : allowedRows 64 0 ∷ allowedRows 64 960 ∷ [] ≡ 2112 ∷ 5952 ∷ []
+  -- "A buffer of 776 bytes takes one record"; 8 × (32 + 65 + 4)
+  pub bytes-for-1 : bufferBytes 1 0 ∷ bufferBytes 1 1 ∷ [] ≡ 776 ∷ 808 ∷ []
+  pub bytes-for-64 : bufferBytes 64 0 ∷ bufferBytes 64 960 ∷ [] ≡ 16904 ∷ 47624 ∷ []
