@@ -7,7 +7,7 @@ use mathlib.Core.List.{List, [], _∷_}
 use mathlib.Core.Option.{Option, none, some}
 use mathlib.Core.Path.{_≡_, refl, sym, _∙_}
 use Rattle.periods.specs.Periods.{Party, party1, party2, other, Period, tries, succeeds}
-use Rattle.contract.specs.Meaning.{duty, Clause, literal, deadline, repair, only, meaning, EmptyFree}
+use Rattle.contract.specs.Meaning.{duty, Clause, literal, deadline, only, meaning, EmptyFree}
 use Rattle.contract.proofs.Windows.{by-party, deadline-none, deadline-one, deadline-more}
 use Rattle.image.proofs.Signals.{Signal, at, _≐_, at-or, Report, isMet, isBroken, literalReport, Says, exactly, HandsOver, Window, at-last, more, deadlineReport}
 use Rattle.image.proofs.Threads.{Exclusive, exclusive-hands-over, thread}
@@ -36,6 +36,7 @@ missed-broken q true true true = refl
 missed-broken q true true false = sym (someone-blamed (only (other q)))
 missed-broken q true false u = sym (someone-blamed (only q))
 
+-- a deadline is satisfied where it waits and both try, and so is a duty
 met-where : (q : Party) (w z t u : Bool) → isMet (literalReport duty q (cond (t && u) w z) t u) ≡ (w && (t && u))
 met-where q true z true true = refl
 met-where q false z true true = refl
@@ -106,7 +107,7 @@ module _ {K older W G missed : Signal} (x : Apart K older W G) (waiting : (p : P
   start-is w p h = w .starts p h ∙ rw (x .goes p h) (each (at missed h) refl)
     where
       each : (m : Bool) → at missed h ≡ m → (K p h && not (at older h) && m) ≡ (K p h && m)
-      each true e = rw (not-older h e, and-true)
+      each true e = rw (not-older h e) (and-true (K p h && true))
       each false e = rw (and-false (K p h), and-false)
 
   abbrev newlyOlder : Signal
@@ -145,16 +146,17 @@ module _ {K older W G missed : Signal} (x : Apart K older W G) (waiting : (p : P
 -- ---- the window
 
 module _ (q : Party) (a : ℕ) where
-  abbrev says : (waits last sat one two : Signal) → Type 0
-  says waits last sat one two =
+  abbrev DeadlineSays : (waits last sat one two : Signal) → Type 0
+  DeadlineSays waits last sat one two =
       (p : Period) (h : List Period) → Says (sat p h) (one p h) (two p h) (deadlineReport q a (waits p h) (last p h) p)
 
-  abbrev unmet : (W missed : Signal) → Type 0
-  unmet W missed = missed ≐ λ p h. W p h && not (succeeds p a)
+  -- the duty is missed where it waits and not both try
+  abbrev Misses : (W missed : Signal) → Type 0
+  Misses W missed = missed ≐ λ p h. W p h && not (succeeds p a)
 
   -- one period is left: a plain duty
-  behaves-last : (K : Signal) {W G missed earlier last sat one two : Signal} → unmet W missed → (earlier ≐ λ p h. false) → (last ≐ missed)
-      → says (λ p h. W p h || K p h && earlier p h) last sat one two → Behaves (literal duty q a) W G sat one two
+  behaves-last : (K : Signal) {W G missed earlier last sat one two : Signal} → Misses W missed → (earlier ≐ λ p h. false) → (last ≐ missed)
+      → DeadlineSays (λ p h. W p h || K p h && earlier p h) last sat one two → Behaves (literal duty q a) W G sat one two
   behaves-last K {W} m e l s = behaves-literal λ p h. rw (e p h, l p h, m p h, one-period (W p h) (K p h) (succeeds p a)) at (s p h)
     where
       one-period : (w k t : Bool) → cond t (w || k && false) (w && not t) ≡ w
@@ -164,8 +166,8 @@ module _ (q : Party) (a : ℕ) where
       one-period false false true = refl
       one-period false k false = refl
 
-  behaves-window : (n : ℕ) {K older W G missed earlier last sat one two : Signal} → Apart K older W G → Exclusive W G → unmet W missed
-      → Window a K n missed earlier last → says (λ p h. W p h || K p h && earlier p h) last sat one two
+  behaves-window : (n : ℕ) {K older W G missed earlier last sat one two : Signal} → Apart K older W G → Exclusive W G → Misses W missed
+      → Window a K n missed earlier last → DeadlineSays (λ p h. W p h || K p h && earlier p h) last sat one two
       → Behaves (deadline q a (suc n)) W G sat one two
   unfolding EmptyFree
   behaves-window zero {K} x y m (at-last e l) s = behaves-same (deadline-one q a) (behaves-last K m e l s)
@@ -174,7 +176,7 @@ module _ (q : Party) (a : ℕ) where
       (behaves-repair (tt, tt) y (behaves-literal {S = W} {K = G} λ p h. exactly (literalReport duty q (W p h) (tries p q a) (tries p (other q) a)))
       (λ p h. m p h ∙ rw (by-party q p a) (missed-broken q (W p h) (tries p q a) (tries p (other q) a)))
       hands
-      (behaves-window n (apart-next x waiting hands) (exclusive-hands-over hands) next-unmet w rest-says)
+      (behaves-window n (apart-next x waiting hands) (exclusive-hands-over hands) next-missed w rest-says)
       sat-or)
     where
       waiting : (p : Period) (h : List Period) → missed p h ≡ true → W p h ≡ true
@@ -189,8 +191,8 @@ module _ (q : Party) (a : ℕ) where
       hands : HandsOver missed G start go
       hands = record { starts = λ p h. refl; goes = λ p h. refl }
 
-      next-unmet : unmet start next
-      next-unmet p h = i p h ∙ sym (rw (start-is x waiting hands p h) (swap (K p h) (at missed h) (not (succeeds p a))))
+      next-missed : Misses start next
+      next-missed p h = i p h ∙ sym (rw (start-is x waiting hands p h) (swap (K p h) (at missed h) (not (succeeds p a))))
 
       rest : Period → List Period → Report
       rest p h = deadlineReport q a (start p h || K p h && later p h) (last p h) p
@@ -199,7 +201,7 @@ module _ (q : Party) (a : ℕ) where
           → isBroken r (deadlineReport q a (W p h || K p h && earlier p h) (last p h) p) ≡ isBroken r (rest p h)
       blamed r p h = rw (by-party q p a) (broken-last r q _ _ (last p h) (tries p q a) (tries p (other q) a))
 
-      rest-says : says (λ p h. start p h || K p h && later p h) last (λ p h. isMet (rest p h)) one two
+      rest-says : DeadlineSays (λ p h. start p h || K p h && later p h) last (λ p h. isMet (rest p h)) one two
       rest-says p h = record { sat-is = refl; one-is = s p h .one-is ∙ blamed party1 p h; two-is = s p h .two-is ∙ blamed party2 p h }
 
       sat-or : sat ≐ λ p h. isMet (literalReport duty q (W p h) (tries p q a) (tries p (other q) a)) || isMet (rest p h)
@@ -216,8 +218,8 @@ module _ (q : Party) (a : ℕ) where
             met-where q (K p h && at missed h || K p h && later p h) (last p h) t u,
           ) (in-either (W p h) (K p h) (at missed h) (later p h) (t && u))
 
-  pub behaves-deadline : (d : ℕ) {S K missed earlier last sat one two : Signal} → Exclusive S K → unmet S missed
-      → Window a K (d - 1) missed earlier last → says (λ p h. S p h || K p h && earlier p h) last sat one two
+  pub behaves-deadline : (d : ℕ) {S K missed earlier last sat one two : Signal} → Exclusive S K → Misses S missed
+      → Window a K (d - 1) missed earlier last → DeadlineSays (λ p h. S p h || K p h && earlier p h) last sat one two
       → Behaves (deadline q a d) S K sat one two
   behaves-deadline zero {K = K} x m (at-last e l) s = behaves-same (deadline-none q a) (behaves-last K m e l s)
   behaves-deadline (suc n) x m w s =

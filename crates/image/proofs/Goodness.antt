@@ -19,7 +19,7 @@ use Rattle.reader.specs.Spelling.{atomRecord, literalRecord, deadlineRecord, re
 use Rattle.reader.proofs.Fields.{allowed-action}
 use Rattle.reader.proofs.WindowSum.{windows-max}
 use Rattle.image.specs.Widths.{width, neverRow, periodRows, _⊹_, afterPeriods, inside, fixedRows, afterExpression, afterClause}
-use Rattle.image.specs.Blocks.{joinRow, endRow, expressionRows, outputsOf, windowRows, lastRow, clauseRows}
+use Rattle.image.specs.Blocks.{joinRow, endRow, expressionRows, outputsOf, windowRows, clauseRows}
 use Rattle.image.specs.Images.{rowsFor, image}
 use Rattle.image.proofs.Sizes.{after-periods, after-clause, length-rowsFor, rows-max, inside-expression, inside-ifEmpty, inside-clause, inside-window, inside-two}
 

@@ -111,8 +111,8 @@ pub record JoinsOn (ended S K start : Signal) : Type 0 where
 pub record Remembers (now go kept : Signal) : Type 0 where
   pub stays : kept ≐ λ p h. go p h && at kept h || now p h
 
--- The periods of a window from one in which the duty is `missed`, n more after it. `last`: missed in the window's last period. `earlier`: missed in the
--- period before, in one of the window's periods but the last.
+-- The periods of a window from one of them on, n more after it. `missed`: the duty is missed in that period of the window. `last`: in the last one.
+-- `earlier`: it was missed in the period before, in one of these but the last.
 pub data Window (a : ℕ) (K : Signal) : ℕ → (missed earlier last : Signal) → Type 0 where
   at-last : {missed earlier last : Signal}
       → (earlier ≐ λ p h. false)

@@ -17,7 +17,7 @@ use Rattle.reader.specs.Spelling.{atomRecord, literalRecord, deadlineRecord, ex
 use Rattle.reader.proofs.Table.{of-all}
 use Rattle.image.specs.Limits.{allowedRows}
 use Rattle.image.specs.Widths.{width, periodRows, laterPeriods, size, maxSize, neverRow, maxRowsFor, _⊹_, afterPeriods, inside, afterRecord, expressionSize, clauseSize, fixedRows, afterExpression, afterClause}
-use Rattle.image.specs.Blocks.{joinRow, endRow, liveRow, ifEmpty, expressionRows, Outputs, blaming, windowEnd, outputsOf, windowRows, lastRow, clauseRows}
+use Rattle.image.specs.Blocks.{joinRow, endRow, liveRow, ifEmpty, expressionRows, Outputs, blaming, outputsOf, windowRows, lastRow, clauseRows}
 use Rattle.image.specs.Images.{rowsFor}
 
 -- ---- row numbers
@@ -92,7 +92,7 @@ pub length-rowsFor : (c : Clause) → length (rowsFor c) ≡ clauseSize c + fixe
 unfolding rowsFor
 length-rowsFor c = rw (length-clause c) (omega arith)
 
--- no record has more rows than the widest beside its window's
+-- no record has more rows than the widest kind and its window's
 size-max : (r : Record) → size r ≤ maxSize + periodRows * r .fields .last
 size-max r =
     let w = width (r .kind) in
@@ -186,7 +186,7 @@ inside-clause (until c e) b h =
     let p = after-expression e (inside Table.until b) in
     omega (arith, inside-clause c (afterExpression e (inside Table.until b)) (omega arith))
 
--- the last row of a window that is given out
+-- the rows of a window's last period stand before the window's end
 pub inside-window : (n k x c : ℕ) → k < periodRows → x < c → lastRow n k x c < afterPeriods n c
 inside-window zero k x c h i = i
 inside-window (suc n) k x c h i = inside-window n k (c ⊹ k) (c ⊹ periodRows) h (omega (arith, ⊹-plus c k))

@@ -11,7 +11,7 @@ use Rattle.contract.specs.Meaning.{Literal, duty, ban, power, Clause, literal, 
 use Rattle.contract.proofs.Windows.{by-party}
 use Rattle.image.specs.Widths.{neverRow, periodRows, _⊹_, afterPeriods, afterExpression, afterClause}
 use Rattle.image.specs.Blocks.{untilDone, handOver, joinOn, remember, endRow, liveRow, ifEmpty, expressionRows, blaming, outputsOf, windowRows, lastRow, clauseRows}
-use Rattle.image.proofs.Signals.{Signal, at, _≐_, Obeys, Report, isMet, isBroken, literalReport, Says, Window, at-last, more, deadlineReport, UntilDone, HandsOver, JoinsOn, Remembers, whereEmpty, WiredExpression, wired-atom, wired-seq, wired-or, wired-star, WiredClause, wired-literal, wired-deadline, wired-both, wired-then, wired-repair, wired-repeat, wired-when, wired-until}
+use Rattle.image.proofs.Signals.{Signal, at, _≐_, Obeys, Report, isMet, isBroken, literalReport, Says, Window, at-last, more, UntilDone, HandsOver, JoinsOn, Remembers, whereEmpty, WiredExpression, wired-atom, wired-seq, wired-or, wired-star, WiredClause, wired-literal, wired-deadline, wired-both, wired-then, wired-repair, wired-repeat, wired-when, wired-until}
 
 -- that signals obey rows, as a type that shows the rows: each law below reads its own rows there and hands the rest on
 record GivesRows (v : ℕ → Signal) (b : ℕ) (rows : List Row) : Type 0 where
@@ -43,7 +43,7 @@ module _ {v : ℕ → Signal} {b : ℕ} {rest : List Row} {G : Type 0} where
 
 -- ---- literals
 
--- three values say a report of a literal of party q: one blames q, one the other party
+-- three values say a report of a literal, or of a deadline, of party q: one blames q, one the other party
 record LiteralSays (q : Party) (s : Report) (sat own others : Bool) : Type 0 where
   sat-is : sat ≡ isMet s
   own-is : own ≡ isBroken q s
@@ -113,18 +113,19 @@ deadline-says q true false false u e = says-nothing
 deadline-says q false false false u e = says-nothing
 
 -- an action does not succeed where the duty is missed
-unmet : (x s : Bool) → (x && not s) ≡ true → s ≡ false
-unmet x false e = refl
-unmet true true e = absurd (false≢true e)
-unmet false true e = absurd (false≢true e)
+missed-unmet : (x s : Bool) → (x && not s) ≡ true → s ≡ false
+missed-unmet x false e = refl
+missed-unmet true true e = absurd (false≢true e)
+missed-unmet false true e = absurd (false≢true e)
 
 last-unmet : {a n : ℕ} {K missed earlier last : Signal} → Window a K n missed earlier last
     → ((p : Period) (h : List Period) → missed p h ≡ true → Periods.succeeds p a ≡ false)
     → (p : Period) (h : List Period) → last p h ≡ true → Periods.succeeds p a ≡ false
 last-unmet (at-last e l) m p h i = m p h (sym (l p h) ∙ i)
-last-unmet {a} {K = K} (more {missed = missed} n w e) m p h i =
-    last-unmet w (λ p h j. unmet (K p h) (Periods.succeeds p a) (and-eq-true-iff _ _ .0 (sym (n p h) ∙ j) .0)) p h i
+last-unmet {a} {K = K} (more n w e) m p h i =
+    last-unmet w (λ p h j. missed-unmet (K p h) (Periods.succeeds p a) (and-eq-true-iff _ _ .0 (sym (n p h) ∙ j) .0)) p h i
 
+-- the rows of a window's later periods; `later` is `earlier` of these alone
 wire-window : (v : ℕ → Signal) (a K n g e m c : ℕ) {rest : List Row} {G : Type 0}
     → (v g ≐ λ p h. v K p h && not (Periods.succeeds p a)) → GivesRows v c (windowRows n g e m c rest)
     → ((later : Signal) → Window a (v K) n (v m) later (v (lastRow n 2 m c)) → (v (lastRow n 1 e c) ≐ λ p h. v e p h || later p h)
@@ -217,7 +218,7 @@ module _ (v : ℕ → Signal) (never-is : v neverRow ≐ λ p h. false) where
       let (on, (waits, (sat, (notOwn, (own, (others, o′)))))) = o₂ .signals in
       k (wired-deadline missed w λ p h. says-blaming v q _ _ _
       (rw (sat p h, waits p h, on p h, either p h, never-is p h, own p h, others p h, notOwn p h, success p h, tryOwn p h, tryOther p h, by-party q p a)
-      (deadline-says q _ _ _ _ λ i. sym (by-party q p a) ∙ last-unmet w (λ p h j. unmet (v S p h) (Periods.succeeds p a) (sym (missed p h) ∙ j)) p h i)))
+      (deadline-says q _ _ _ _ λ i. sym (by-party q p a) ∙ last-unmet w (λ p h j. missed-unmet (v S p h) (Periods.succeeds p a) (sym (missed p h) ∙ j)) p h i)))
       (record { signals = o′ })
   wire-clause (both l r) o k =
       until-done o λ stops o₁.

@@ -110,7 +110,7 @@ pub record Outputs : Type 0 where
 abbrev outputs : (sat one two : ℕ) → Outputs
 outputs s x y = record { sat = s; one = x; two = y }
 
--- a literal's outputs: its own party p to blame, or the other
+-- the outputs of a literal and of a deadline: its own party p to blame, or the other
 abbrev pub blaming : Party → (sat own others : ℕ) → Outputs
 blaming party1 s x y = outputs s x y
 blaming party2 s x y = outputs s y x
@@ -162,27 +162,33 @@ literalRows power p a b S rest =
     attempt p a ∷ attempt (other p) a ∷ conjunction S b ∷ negation (b ⊹ 1) ∷ conjunction (b ⊹ 2) (b ⊹ 3)
     ∷ negation (b ⊹ 4) ∷ conjunction S (b ⊹ 5) ∷ rest
 
--- The later periods of a window, from row c on. A duty is `missed` where it waits and not both try; in a later period of its window it waits
--- where it goes on and was missed in the period before. `goesUnmet`: it goes on and not both try. `earlier`: it was missed in the period before, in one
--- of the window's periods so far.
+-- The rows of n later periods of a window, from row c on. The duty is `missed` where it waits and not both try; it waits in the next period of
+-- the window where the block goes on and it was missed in the period before. `goesUnmet`: the block goes on and not both try. `earlier`: the duty was
+-- missed in the period before, in one of the window's periods so far.
 unfoldable pub windowRows : (n : ℕ) → (goesUnmet earlier missed c : ℕ) → List Row → List Row
-windowRows zero g e m c rest = rest
-windowRows (suc n) g e m c rest = previous m ∷ disjunction e c ∷ conjunction g c ∷ windowRows n g (c ⊹ 1) (c ⊹ 2) (c ⊹ periodRows) rest
+windowRows zero goesUnmet earlier missed c rest = rest
+windowRows (suc n) goesUnmet earlier missed c rest =
+    previous missed ∷ disjunction earlier c ∷ conjunction goesUnmet c ∷ windowRows n goesUnmet (c ⊹ 1) (c ⊹ 2) (c ⊹ periodRows) rest
 
--- row k of the last of n later periods, x where there is none
+-- row k of the last of n later periods whose rows start at row c; x where there is none
 abbrev pub lastRow : (n k x c : ℕ) → ℕ
 lastRow zero k x c = x
 lastRow (suc n) k x c = lastRow n k (c ⊹ k) (c ⊹ periodRows)
 
--- The block of a deadline: the duty waits from the period in which it begins to read, as long as it is missed, to the last of the window's.
+-- The block of a deadline: the duty waits from the period in which it begins to read, as long as it is missed, to the last of its window.
+-- `waits`: in any of these. `missed`: in the last.
 abbrev pub deadlineRows : Party → (action window : ℕ) → (b S K : ℕ) → List Row → List Row
 deadlineRows p a d b S K rest =
+    let success = b ⊹ 2 in
+    let failure = b ⊹ 3 in
+    let c = inside Table.deadline b in
     let n = windowEnd d b in
-    let earlier = lastRow (d - 1) 1 neverRow (b ⊹ 6) in
-    let missed = lastRow (d - 1) 2 (b ⊹ 5) (b ⊹ 6) in
-    attempt p a ∷ attempt (other p) a ∷ conjunction b (b ⊹ 1) ∷ negation (b ⊹ 2) ∷ conjunction K (b ⊹ 3) ∷ conjunction S (b ⊹ 3)
-    ∷ windowRows (d - 1) (b ⊹ 4) neverRow (b ⊹ 5) (b ⊹ 6)
-    (conjunction K earlier ∷ disjunction S n ∷ conjunction (n ⊹ 1) (b ⊹ 2)
+    let earlier = lastRow (d - 1) 1 neverRow c in
+    let missed = lastRow (d - 1) 2 (b ⊹ 5) c in
+    let waits = n ⊹ 1 in
+    attempt p a ∷ attempt (other p) a ∷ conjunction b (b ⊹ 1) ∷ negation success ∷ conjunction K failure ∷ conjunction S failure
+    ∷ windowRows (d - 1) (b ⊹ 4) neverRow (b ⊹ 5) c
+    (conjunction K earlier ∷ disjunction S n ∷ conjunction waits success
     ∷ negation b ∷ conjunction missed (n ⊹ 3) ∷ conjunction missed b ∷ rest)
 
 -- The block of a clause.

@@ -4,11 +4,11 @@ use mathlib.Core.List.{List}
 use Rattle.layout.specs.Limits.{rowBytes}
 use Rattle.reader.specs.Reader.{contractRecords, contractWindows}
 
--- how many rows it makes room for: "4 rows for each period of each window" more
+-- how many rows it makes room for, "4 rows for each period of each window" among them; `windows` is the sum of all windows
 abbrev pub allowedRows : (records windows : ℕ) → ℕ
 allowedRows n d = 32 * n + 64 + 4 * d
 
--- "8 × (32 × records + 65) bytes": with the end record's
+-- with the end record's: "8 × (32 × records + 65) bytes" where there are no windows
 abbrev pub bufferBytes : (records windows : ℕ) → ℕ
 bufferBytes n d = rowBytes * (allowedRows n d + 1)
 

@@ -34,8 +34,8 @@ pub record RightFor (clause : Clause) (image : List ℕ) : Type 0 where
   pub shows : (w : List Period)
       → Shows (meaning clause w) (afterPeriods (imageOf image) (stateOf (replicate (headBytes + rowCount image) 0)) w)
 
--- how many rows it has, for a contract that means this clause: as many as the widths of the contract's records and the fixed rows add up to, no
--- more than the widest records would have, and so within what refusal 8 makes room for
+-- how many rows it has, for a contract that means this clause: as many as the sizes of the contract's records and the fixed rows add up to, no
+-- more than the widest records would have with windows as long, and so within what refusal 8 makes room for
 pub record SizedFor (contract : List ℕ) (clause : Clause) (image : List ℕ) : Type 0 where
   pub rows-are : rowCount image ≡ clauseSize clause + fixedRows
   pub rows-max : rowCount image ≤ maxRowsFor (contractRecords contract) (contractWindows contract)

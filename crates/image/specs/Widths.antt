@@ -38,11 +38,11 @@ width seq = rows 3 3
 width or = rows 0 2
 width star = rows 3 1
 
--- A window's rows stand where operands' rows would: so many for each of its periods after the first. The last byte of a record is its window, 0 in
--- every other kind.
+-- A window's rows stand where operands' rows would: so many for each of its periods after the first.
 abbrev pub periodRows : ℕ
 periodRows = 3
 
+-- how many periods those are: the last byte of a deadline is its window, and 0 in every other kind
 abbrev pub laterPeriods : Record → ℕ
 laterPeriods r = r .fields .last - 1
 
@@ -50,11 +50,11 @@ laterPeriods r = r .fields .last - 1
 abbrev pub size : Record → ℕ
 size r = width (r .kind) .before + periodRows * laterPeriods r + width (r .kind) .after
 
--- no record has more rows of its own beside its window's
+-- no record has more rows of its own, those of a window not counted
 abbrev pub maxSize : ℕ
 maxSize = 14
 
--- the rows of a tree: the sum of the widths of its records
+-- the rows of a tree: the sum of the sizes of its records
 unfoldable pub expressionSize : Expression → ℕ
 expressionSize (atom x) = size (atomRecord x)
 expressionSize (E.seq l r) = expressionSize l + expressionSize r + size (plainRecord seq)
@@ -84,7 +84,7 @@ laterRow = 2
 abbrev pub fixedRows : ℕ
 fixedRows = 3
 
--- a contract of so many records with windows of so many periods has no more rows than this
+-- a contract of so many records, with windows of so many periods in all, has no more rows than this
 abbrev pub maxRowsFor : (records windows : ℕ) → ℕ
 maxRowsFor n d = maxSize * n + periodRows * d + fixedRows
 
