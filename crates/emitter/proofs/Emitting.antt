@@ -20,7 +20,7 @@ use Rattle.emitter.specs.declared.Wires.{Wires}
 use Rattle.emitter.specs.Rows.{numbersOf, writtenRows}
 use Rattle.emitter.specs.Plans.{planOf}
 use Rattle.emitter.specs.Blocks.{lastRecord, recordFrom, noBlock, windowBlock, laterRows, basesOf, recordWritten, recordBlock, wiresOf, treeRows, afterTree, blockOf, EndsWith, Emitted}
-use Rattle.image.proofs.Sizes.{after-periods, length-window}
+use Rattle.image.proofs.Sizes.{after-window, length-window}
 use Rattle.emitter.proofs.Writing.{written-after, written-around}
 use Rattle.emitter.proofs.Plans.{leftBlock, rightBlock, operandRows, nodeBases, rows-node, block-node, after-tree}
 use Rattle.emitter.proofs.Tables.{inside-is, length-kindRows}
@@ -101,7 +101,7 @@ pub record Known (own : Record) (r : RecordBody) (count : ℕ) (p : Plan) : Type
 -- the operands' rows reach to the row after the left one's
 next-left : (d : ℕ) (ss : List Sort) (ts : Trees ss) (m b S : ℕ) (w : Wires) → length ss ≤ 2
     → leftBlock d ss ts m b S .next ≡ b + length (operandRows d ss ts b S w)
-next-left d [] ts m b S w h = rw (after-periods d b, length-window d) (omega arith)
+next-left d [] ts m b S w h = rw (after-window d b, length-window d) (omega arith)
 next-left d (s ∷ []) ts m b S w h = after-tree s (ts .0) b (w .start) (w .go)
 next-left d (s ∷ s′ ∷ []) ts m b S w h =
     rw length-append

@@ -7,9 +7,9 @@ use lib.ListN.{length, length-map}
 use lib.Seq.{sets}
 use Rattle.layout.specs.Limits.{rowBytes}
 use Rattle.layout.specs.Rows.{Row, previous, conjunction, disjunction, kind, rowRecord}
-use Rattle.image.specs.Widths.{neverRow, periodRows, _⊹_, afterPeriods}
+use Rattle.image.specs.Widths.{neverRow, periodRows, _⊹_, afterWindow}
 use Rattle.image.specs.Blocks.{windowRows, lastRow}
-use Rattle.image.proofs.Sizes.{after-periods, length-window, inside-window}
+use Rattle.image.proofs.Sizes.{after-window, length-window, inside-window}
 use Rattle.emitter.specs.Rows.{numbersOf, writtenRows}
 use Rattle.emitter.specs.Blocks.{laterRows}
 use Rattle.emitter.specs.Premises.{PeriodRoom, WindowRoom}
@@ -35,15 +35,15 @@ written-period image one two three c g e m i j k =
 
 -- ---- one period more
 
-after-next : (n c : ℕ) → afterPeriods (suc n) c ≡ afterPeriods n c + 3
-after-next n c = rw (after-periods n c, after-periods (suc n) c) (omega arith)
+after-next : (n c : ℕ) → afterWindow (suc n) c ≡ afterWindow n c + 3
+after-next n c = rw (after-window n c, after-window (suc n) c) (omega arith)
 
-last-next : (n k x c : ℕ) → lastRow (suc n) k x c ≡ afterPeriods n c ⊹ k
+last-next : (n k x c : ℕ) → lastRow (suc n) k x c ≡ afterWindow n c ⊹ k
 last-next zero k x c = refl
 last-next (suc n) k x c = last-next n k (c ⊹ k) (c ⊹ periodRows)
 
 window-next : (n g e m c : ℕ) (rest : List Row)
-    → windowRows (suc n) g e m c rest ≡ windowRows n g e m c (windowRows 1 g (lastRow n 1 e c) (lastRow n 2 m c) (afterPeriods n c) rest)
+    → windowRows (suc n) g e m c rest ≡ windowRows n g e m c (windowRows 1 g (lastRow n 1 e c) (lastRow n 2 m c) (afterWindow n c) rest)
 unfolding windowRows
 window-next zero g e m c rest = refl
 window-next (suc n) g e m c rest =
@@ -57,7 +57,7 @@ pub record WindowAt (image₀ : List ℕ) (at window : ℕ) (image : List ℕ) (
   pub count : j ≡ done + 1
   pub few : done ≤ window - 1
   pub rows-are : image ≡ writtenRows image₀ at (map numbersOf (laterRows done at))
-  pub next-is : next ≡ afterPeriods done at
+  pub next-is : next ≡ afterWindow done at
   pub earlier-is : earlier ≡ lastRow done 1 neverRow at
   pub missed-is : missed ≡ lastRow done 2 (at - 1) at
 
@@ -82,15 +82,15 @@ module _ {image₀ : List ℕ} {at window : ℕ} {image : List ℕ} {next earlie
   period-room r h =
       let d = w .done in
       let c = w .count in
-      let n = after-periods d at in
-      let e = after-periods (window - 1) at in
-      let f = inside-window d 1 neverRow at (omega arith) (omega (arith, r .first-missed)) in
-      let m = inside-window d 2 (at - 1) at (omega arith) (omega (arith, r .first-missed)) in
+      let n = after-window d at in
+      let e = after-window (window - 1) at in
+      let f = inside-window d 1 neverRow at (omega arith) (omega (arith, r .one-before)) in
+      let m = inside-window d 2 (at - 1) at (omega arith) (omega (arith, r .one-before)) in
       rw (same-length, w .next-is, w .earlier-is, w .missed-is)
       record {
         room = omega (arith, r .room);
         few = omega (arith, r .few);
-        unmet-lower = omega (arith, r .first-missed);
+        unmet-lower = omega (arith, r .one-before);
         earlier-lower = f;
         missed-lower = m;
       }
@@ -112,10 +112,10 @@ module _ {image₀ : List ℕ} {at window : ℕ} {image : List ℕ} {next earlie
               w .missed-is,
               w .rows-are,
               window-next d (at - 2) neverRow (at - 1) at [],
-              window-onto d (at - 2) neverRow (at - 1) at [] (windowRows 1 (at - 2) (lastRow d 1 neverRow at) (lastRow d 2 (at - 1) at) (afterPeriods d at) []),
+              window-onto d (at - 2) neverRow (at - 1) at [] (windowRows 1 (at - 2) (lastRow d 1 neverRow at) (lastRow d 2 (at - 1) at) (afterWindow d at) []),
               map-append,
             )
-            (written-after image₀ at (afterPeriods d at) _ _ (rw (length-map, length-window d) (omega (arith, after-periods d at))));
+            (written-after image₀ at (afterWindow d at) _ _ (rw (length-map, length-window d) (omega (arith, after-window d at))));
         next-is = rw (w .next-is) (sym (after-next d at));
         earlier-is = rw (w .next-is, last-next d 1 neverRow at) (omega arith);
         missed-is = rw (w .next-is, last-next d 2 (at - 1) at) (omega arith);

@@ -20,7 +20,7 @@ use Rattle.reader.specs.Codes.{emptyCode}
 use Rattle.reader.proofs.Table.{of-all}
 use Rattle.reader.proofs.Fields.{uses, recordOf}
 use Rattle.image.specs.Widths.{width, laterPeriods, neverRow}
-use Rattle.image.proofs.Sizes.{after-periods, inside-expression, inside-clause, inside-window}
+use Rattle.image.proofs.Sizes.{after-window, inside-expression, inside-clause, inside-window}
 use Rattle.emitter.specs.declared.RecordBody.{RecordBody}
 use Rattle.emitter.specs.declared.Block.{Block}
 use Rattle.emitter.specs.declared.Plan.{Plan}
@@ -103,7 +103,7 @@ module _ {contract : List ℕ} {last : ℕ} {image : List ℕ} {b S : ℕ} {w : 
   ordered : (m : ℕ) (ss : List Sort) (ts : Trees ss) → Room contract last image b S w d m ss ts → Ordered b S w d m ss ts
   ordered m [] ts r =
       let h = r .begins in
-      let n = after-periods d b in
+      let n = after-window d b in
       let earlier = inside-window d 1 neverRow b (omega arith) (omega arith) in
       let missed = inside-window d 2 (b - 1) b (omega arith) (omega arith) in
       omega arith
@@ -254,8 +254,8 @@ module _ {contract : List ℕ} {n : ℕ} {image : List ℕ} {b S K : ℕ} (e : E
             record {
               room = g .room;
               few = g .few;
-              first-missed = omega (arith, g .begins);
-              goes-unmet = rw (i .body-is, i .plan-is) (λ j. omega (arith, unmet-row k f j, before-is (recordOf k f)));
+              one-before = omega (arith, g .begins);
+              two-before = rw (i .body-is, i .plan-is) (λ j. omega (arith, unmet-row k f j, before-is (recordOf k f)));
             }
         none k f i (s ∷ ss) ts e g = absurd (omega arith)
 

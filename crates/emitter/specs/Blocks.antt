@@ -13,7 +13,7 @@ use Rattle.reader.specs.Trees.{Tree, Record, partyNamed}
 use Rattle.reader.specs.Spelling.{spellTree, treeRecords}
 use Rattle.reader.specs.Reader.{kindAt, fieldsAt, operand}
 use Rattle.reader.specs.Codes.{emptyCode, codeOf, completed}
-use Rattle.image.specs.Widths.{neverRow, afterPeriods, afterExpression, afterClause}
+use Rattle.image.specs.Widths.{neverRow, afterWindow, afterExpression, afterClause}
 use Rattle.image.specs.Blocks.{endRow, liveRow, expressionRows, Outputs, outputsOf, windowRows, lastRow, clauseRows}
 use Rattle.emitter.specs.declared.RecordBody.{RecordBody}
 use Rattle.emitter.specs.declared.Plan.{Plan}
@@ -44,9 +44,9 @@ noBlock m n = record { before = m; next = n; sat = 0; one = 0; two = 0; code = 0
 -- last, and `one` that it is missed now, in the last. In the window's first period row c - 1 tells that.
 abbrev pub windowBlock : (before n c : ℕ) → Block
 windowBlock m n c =
-    record { before = m; next = afterPeriods n c; sat = lastRow n 1 neverRow c; one = lastRow n 2 (c - 1) c; two = 0; code = 0 }
+    record { before = m; next = afterWindow n c; sat = lastRow n 1 neverRow c; one = lastRow n 2 (c - 1) c; two = 0; code = 0 }
 
--- its rows; row c - 2 tells that the duty goes on and not both try
+-- its rows; row c - 2 tells that the block goes on and not both try
 abbrev pub laterRows : (n c : ℕ) → List Row
 laterRows n c = windowRows n (c - 2) neverRow (c - 1) c []
 

@@ -9,7 +9,7 @@ use Rattle.records.specs.Holding.{AllBelow}
 use Rattle.reader.specs.Trees.{Tree}
 use Rattle.reader.specs.Taken.{Contract}
 use Rattle.image.specs.Limits.{bufferFor}
-use Rattle.image.specs.Widths.{periodRows, afterPeriods}
+use Rattle.image.specs.Widths.{periodRows, afterWindow}
 use Rattle.emitter.specs.declared.Plan.{Plan}
 use Rattle.emitter.specs.Rows.{leafRows, rowTable}
 use Rattle.emitter.specs.Blocks.{afterTree, EndsWith}
@@ -37,10 +37,10 @@ pub record PeriodRoom (size c unmet earlier missed : ℕ) : Type 0 where
 
 -- an image buffer of so many bytes has room for the rows of a window's n later periods from row c on, and the rows that these name stand before them
 pub record WindowRoom (size n c : ℕ) : Type 0 where
-  pub room : rowBytes * afterPeriods n c ≤ size
-  pub few : afterPeriods n c ≤ maxRows
-  pub first-missed : 1 ≤ c
-  pub goes-unmet : 1 ≤ n → 2 ≤ c
+  pub room : rowBytes * afterWindow n c ≤ size
+  pub few : afterWindow n c ≤ maxRows
+  pub one-before : 1 ≤ c
+  pub two-before : 1 ≤ n → 2 ≤ c
 
 -- there is room for a record's own rows, n being the first row after its operands' rows
 pub record RecordRows (size : ℕ) (p : Plan) (b n : ℕ) (bases : List ℕ) : Type 0 where

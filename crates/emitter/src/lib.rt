@@ -515,7 +515,7 @@ fn put_record(
 
 // ---- the rows of a window
 
-// Writes the rows of one later period of a window from row `at` on. `unmet`: the duty goes on and not both try; `earlier`: it was missed in the
+// Writes the rows of one later period of a window from row `at` on. `unmet`: the block goes on and not both try; `earlier`: it was missed in the
 // period before, in one of the window's periods so far; `missed`: it was missed in the last of these.
 fn put_period(image: &mut [u8], at: u32, unmet: u32, earlier: u32, missed: u32)
     requires { ⌜ PeriodRoom (length (now image)) at unmet earlier missed ⌝ }

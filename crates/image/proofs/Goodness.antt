@@ -18,10 +18,10 @@ use Rattle.reader.specs.Table.{Kind}
 use Rattle.reader.specs.Spelling.{atomRecord, literalRecord, deadlineRecord, records, ExpressionInRange, InRange}
 use Rattle.reader.proofs.Fields.{allowed-action}
 use Rattle.reader.proofs.WindowSum.{windows-max}
-use Rattle.image.specs.Widths.{width, neverRow, periodRows, _⊹_, afterPeriods, inside, fixedRows, afterExpression, afterClause}
+use Rattle.image.specs.Widths.{width, neverRow, periodRows, _⊹_, afterWindow, inside, fixedRows, afterExpression, afterClause}
 use Rattle.image.specs.Blocks.{joinRow, endRow, expressionRows, outputsOf, windowRows, clauseRows}
 use Rattle.image.specs.Images.{rowsFor, image}
-use Rattle.image.proofs.Sizes.{after-periods, after-clause, length-rowsFor, rows-max, inside-expression, inside-ifEmpty, inside-clause, inside-window, inside-two}
+use Rattle.image.proofs.Sizes.{after-window, after-clause, length-rowsFor, rows-max, inside-expression, inside-ifEmpty, inside-clause, inside-window, inside-two}
 
 -- ---- good rows
 
@@ -125,12 +125,12 @@ module _ (n : ℕ) where
       let parts = inside-expression e (inside Table.star b) (joinRow b) (omega arith) in
       before Table.star (omega arith) (good-expression e i (omega arith) (after Table.star (omega arith) g))
 
-  good-window : (m : ℕ) {g e x c : ℕ} {rest : List Row} → (g < c) × (e < c) × (x < c) → afterPeriods m c ≤ n
-      → GoodFrom n (afterPeriods m c) rest → GoodFrom n c (windowRows m g e x c rest)
+  good-window : (m : ℕ) {g e x c : ℕ} {rest : List Row} → (g < c) × (e < c) × (x < c) → afterWindow m c ≤ n
+      → GoodFrom n (afterWindow m c) rest → GoodFrom n c (windowRows m g e x c rest)
   unfolding windowRows
   good-window zero h i r = r
   good-window (suc m) {c = c} h i r =
-      let l = after-periods m (c ⊹ periodRows) in
+      let l = after-window m (c ⊹ periodRows) in
       first periodRows (omega arith) (good-window m (omega arith) i r)
 
   good-clause : (c : Clause) {b S K : ℕ} {rest : List Row} → InRange c → InPlace n b S K (afterClause c b)
@@ -147,7 +147,7 @@ module _ (n : ℕ) where
       before Table.power (omega arith) g
   good-clause (deadline p a d) {b} i h g =
       let j = allowed-action (deadlineRecord p a d) i in
-      let l = after-periods (d - 1) (inside Table.deadline b) in
+      let l = after-window (d - 1) (inside Table.deadline b) in
       let earlier = inside-window (d - 1) 1 neverRow (inside Table.deadline b) (omega arith) (omega arith) in
       let missed = inside-window (d - 1) 2 (b ⊹ 5) (inside Table.deadline b) (omega arith) (omega arith) in
       before Table.deadline (omega arith) (good-window (d - 1) (omega arith) (omega arith) (after Table.deadline (omega arith) g))

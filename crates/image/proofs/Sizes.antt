@@ -16,7 +16,7 @@ use Rattle.reader.specs.Trees.{Record}
 use Rattle.reader.specs.Spelling.{atomRecord, literalRecord, deadlineRecord, expressionRecords, records, windows}
 use Rattle.reader.proofs.Table.{of-all}
 use Rattle.image.specs.Limits.{allowedRows}
-use Rattle.image.specs.Widths.{width, periodRows, laterPeriods, size, maxSize, neverRow, maxRowsFor, _⊹_, afterPeriods, inside, afterRecord, expressionSize, clauseSize, fixedRows, afterExpression, afterClause}
+use Rattle.image.specs.Widths.{width, periodRows, laterPeriods, size, maxSize, neverRow, maxRowsFor, _⊹_, afterWindow, inside, afterRecord, expressionSize, clauseSize, fixedRows, afterExpression, afterClause}
 use Rattle.image.specs.Blocks.{joinRow, endRow, liveRow, ifEmpty, expressionRows, Outputs, blaming, outputsOf, windowRows, lastRow, clauseRows}
 use Rattle.image.specs.Images.{rowsFor}
 
@@ -28,9 +28,9 @@ pub ⊹-plus : (b k : ℕ) → b ⊹ k ≡ b + k
 ⊹-plus b (suc k) = omega (arith, ⊹-plus b k)
 
 -- the first row after those of n later periods of a window
-pub after-periods : (n c : ℕ) → afterPeriods n c ≡ c + periodRows * n
-after-periods zero c = omega arith
-after-periods (suc n) c = rw (after-periods n (c ⊹ periodRows)) (omega arith)
+pub after-window : (n c : ℕ) → afterWindow n c ≡ c + periodRows * n
+after-window zero c = omega arith
+after-window (suc n) c = rw (after-window n (c ⊹ periodRows)) (omega arith)
 
 -- ---- how many rows
 
@@ -38,7 +38,7 @@ after-periods (suc n) c = rw (after-periods n (c ⊹ periodRows)) (omega arith)
 after-record : (r : Record) (b : ℕ) → afterRecord r (λ n. n) b ≡ b + size r
 after-record r b =
     let k = r .kind in
-    omega (arith, ⊹-plus (afterPeriods (laterPeriods r) (inside k b)) (width k .after), after-periods (laterPeriods r) (inside k b), ⊹-plus b (width k .before))
+    omega (arith, ⊹-plus (afterWindow (laterPeriods r) (inside k b)) (width k .after), after-window (laterPeriods r) (inside k b), ⊹-plus b (width k .before))
 
 pub after-expression : (e : Expression) (b : ℕ) → afterExpression e b ≡ b + expressionSize e
 unfolding afterExpression expressionSize
@@ -176,7 +176,7 @@ unfolding outputsOf afterClause
 inside-clause (literal duty p a) b h = inside-literal p (omega arith) (omega arith)
 inside-clause (literal ban p a) b h = inside-literal p (omega arith) (omega arith)
 inside-clause (literal power p a) b h = inside-literal p (omega arith) (omega arith)
-inside-clause (deadline p a d) b h = let e = after-periods (d - 1) (inside Table.deadline b) in inside-literal p (omega arith) (omega arith)
+inside-clause (deadline p a d) b h = let e = after-window (d - 1) (inside Table.deadline b) in inside-literal p (omega arith) (omega arith)
 inside-clause (both l r) b h = omega (arith, after-clause l (afterClause r (inside Table.both b)), after-clause r (inside Table.both b))
 inside-clause (then l r) b h = omega (arith, inside-clause r (inside Table.then b) (omega arith), after-clause l (afterClause r (inside Table.then b)))
 inside-clause (repair l r) b h = omega (arith, inside-clause r (inside Table.repair b) (omega arith), after-clause l (afterClause r (inside Table.repair b)))
@@ -187,7 +187,7 @@ inside-clause (until c e) b h =
     omega (arith, inside-clause c (afterExpression e (inside Table.until b)) (omega arith))
 
 -- the rows of a window's last period stand before the window's end
-pub inside-window : (n k x c : ℕ) → k < periodRows → x < c → lastRow n k x c < afterPeriods n c
+pub inside-window : (n k x c : ℕ) → k < periodRows → x < c → lastRow n k x c < afterWindow n c
 inside-window zero k x c h i = i
 inside-window (suc n) k x c h i = inside-window n k (c ⊹ k) (c ⊹ periodRows) h (omega (arith, ⊹-plus c k))
 

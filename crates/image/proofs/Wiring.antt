@@ -9,7 +9,7 @@ use Rattle.layout.specs.Rows.{Row}
 use Rattle.contract.specs.Expressions.{Atom, any, tries, idle, succeeds, fails, holds, Expression, atom, seq, or, star, holdsEmpty}
 use Rattle.contract.specs.Meaning.{Literal, duty, ban, power, Clause, literal, deadline, both, then, repair, repeat, when, until, only}
 use Rattle.contract.proofs.Windows.{by-party}
-use Rattle.image.specs.Widths.{neverRow, periodRows, _⊹_, afterPeriods, afterExpression, afterClause}
+use Rattle.image.specs.Widths.{neverRow, periodRows, _⊹_, afterWindow, afterExpression, afterClause}
 use Rattle.image.specs.Blocks.{untilDone, handOver, joinOn, remember, endRow, liveRow, ifEmpty, expressionRows, blaming, outputsOf, windowRows, lastRow, clauseRows}
 use Rattle.image.proofs.Signals.{Signal, at, _≐_, Obeys, Report, isMet, isBroken, literalReport, Says, Window, at-last, more, UntilDone, HandsOver, JoinsOn, Remembers, whereEmpty, WiredExpression, wired-atom, wired-seq, wired-or, wired-star, WiredClause, wired-literal, wired-deadline, wired-both, wired-then, wired-repair, wired-repeat, wired-when, wired-until}
 
@@ -129,14 +129,14 @@ last-unmet {a} {K = K} (more n w e) m p h i =
 wire-window : (v : ℕ → Signal) (a K n g e m c : ℕ) {rest : List Row} {G : Type 0}
     → (v g ≐ λ p h. v K p h && not (Periods.succeeds p a)) → GivesRows v c (windowRows n g e m c rest)
     → ((later : Signal) → Window a (v K) n (v m) later (v (lastRow n 2 m c)) → (v (lastRow n 1 e c) ≐ λ p h. v e p h || later p h)
-    → GivesRows v (afterPeriods n c) rest → G)
+    → GivesRows v (afterWindow n c) rest → G)
     → G
 unfolding windowRows
-wire-window v a K zero g e m c goesUnmet o k = k (λ p h. false) (at-last (λ p h. refl) (λ p h. refl)) (λ p h. sym (or-false (v e p h))) o
-wire-window v a K (suc n) g e m c goesUnmet o k =
+wire-window v a K zero g e m c unmet o k = k (λ p h. false) (at-last (λ p h. refl) (λ p h. refl)) (λ p h. sym (or-false (v e p h))) o
+wire-window v a K (suc n) g e m c unmet o k =
     let (was, (collects, (misses, o′))) = o .signals in
-    wire-window v a K n g (c ⊹ 1) (c ⊹ 2) (c ⊹ periodRows) goesUnmet (record { signals = o′ }) λ later w either o″.
-    k (λ p h. at (v m) h || later p h) (more (λ p h. misses p h ∙ rw (goesUnmet p h, was p h)) w (λ p h. refl))
+    wire-window v a K n g (c ⊹ 1) (c ⊹ 2) (c ⊹ periodRows) unmet (record { signals = o′ }) λ later w either o″.
+    k (λ p h. at (v m) h || later p h) (more (λ p h. misses p h ∙ rw (unmet p h, was p h)) w (λ p h. refl))
     (λ p h. either p h ∙ rw (collects p h, was p h) (or-assoc (v e p h) (at (v m) h) (later p h))) o″
 
 module _ (v : ℕ → Signal) (never-is : v neverRow ≐ λ p h. false) where
@@ -211,10 +211,10 @@ module _ (v : ℕ → Signal) (never-is : v neverRow ≐ λ p h. false) where
       rw (sat p h, clear p h, others p h, asked p h, notOther p h, tryOwn p h, tryOther p h, never-is p h) (power-says q (v S p h) _ _))
       (record { signals = o′ })
   wire-clause (deadline q a d) {b} {S} {K} o k =
-      let (tryOwn, (tryOther, (success, (failure, (goesUnmet, (misses, o₁)))))) = o .signals in
+      let (tryOwn, (tryOther, (success, (failure, (unmet, (misses, o₁)))))) = o .signals in
       let met : (v (b ⊹ 2) ≐ λ p h. Periods.succeeds p a) = λ p h. success p h ∙ rw (tryOwn p h, tryOther p h) (sym (by-party q p a)) in
       let missed : (v (b ⊹ 5) ≐ λ p h. v S p h && not (Periods.succeeds p a)) = λ p h. misses p h ∙ rw (failure p h, met p h) in
-      wire-window v a K (d - 1) (b ⊹ 4) neverRow (b ⊹ 5) (b ⊹ 6) (λ p h. goesUnmet p h ∙ rw (failure p h, met p h)) (record { signals = o₁ }) λ later w either o₂.
+      wire-window v a K (d - 1) (b ⊹ 4) neverRow (b ⊹ 5) (b ⊹ 6) (λ p h. unmet p h ∙ rw (failure p h, met p h)) (record { signals = o₁ }) λ later w either o₂.
       let (on, (waits, (sat, (notOwn, (own, (others, o′)))))) = o₂ .signals in
       k (wired-deadline missed w λ p h. says-blaming v q _ _ _
       (rw (sat p h, waits p h, on p h, either p h, never-is p h, own p h, others p h, notOwn p h, success p h, tryOwn p h, tryOther p h, by-party q p a)

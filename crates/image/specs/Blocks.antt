@@ -12,7 +12,7 @@ use Rattle.layout.specs.Rows.{Row, attempt, negation, conjunction, disjunction,
 use Rattle.contract.specs.Expressions.{Atom, any, tries, idle, succeeds, fails, Expression, atom, seq, or, star, holdsEmpty}
 use Rattle.contract.specs.Meaning.{Literal, duty, ban, power, Clause, literal, deadline, both, then, repair, repeat, when, until}
 use Rattle.reader.specs.Table
-use Rattle.image.specs.Widths.{neverRow, periodRows, _⊹_, afterPeriods, inside, afterExpression, afterClause}
+use Rattle.image.specs.Widths.{neverRow, periodRows, _⊹_, afterWindow, inside, afterExpression, afterClause}
 
 -- ---- rows that several kinds have, from row b on; what follows them is told where the rows stand that it needs
 
@@ -122,7 +122,7 @@ literalOutputs power p b = blaming p (b ⊹ 6) neverRow (b ⊹ 4)
 
 -- the first row after those of a deadline's window
 abbrev pub windowEnd : (window b : ℕ) → ℕ
-windowEnd d b = afterPeriods (d - 1) (inside Table.deadline b)
+windowEnd d b = afterWindow (d - 1) (inside Table.deadline b)
 
 -- where the block of a clause that starts at row b gives them out
 unfoldable pub outputsOf : Clause → (b : ℕ) → Outputs
@@ -163,12 +163,12 @@ literalRows power p a b S rest =
     ∷ negation (b ⊹ 4) ∷ conjunction S (b ⊹ 5) ∷ rest
 
 -- The rows of n later periods of a window, from row c on. The duty is `missed` where it waits and not both try; it waits in the next period of
--- the window where the block goes on and it was missed in the period before. `goesUnmet`: the block goes on and not both try. `earlier`: the duty was
+-- the window where the block goes on and it was missed in the period before. `unmet`: the block goes on and not both try. `earlier`: the duty was
 -- missed in the period before, in one of the window's periods so far.
-unfoldable pub windowRows : (n : ℕ) → (goesUnmet earlier missed c : ℕ) → List Row → List Row
-windowRows zero goesUnmet earlier missed c rest = rest
-windowRows (suc n) goesUnmet earlier missed c rest =
-    previous missed ∷ disjunction earlier c ∷ conjunction goesUnmet c ∷ windowRows n goesUnmet (c ⊹ 1) (c ⊹ 2) (c ⊹ periodRows) rest
+unfoldable pub windowRows : (n : ℕ) → (unmet earlier missed c : ℕ) → List Row → List Row
+windowRows zero unmet earlier missed c rest = rest
+windowRows (suc n) unmet earlier missed c rest =
+    previous missed ∷ disjunction earlier c ∷ conjunction unmet c ∷ windowRows n unmet (c ⊹ 1) (c ⊹ 2) (c ⊹ periodRows) rest
 
 -- row k of the last of n later periods whose rows start at row c; x where there is none
 abbrev pub lastRow : (n k x c : ℕ) → ℕ

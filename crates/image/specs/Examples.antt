@@ -17,7 +17,7 @@ use Rattle.runner.specs.Examples.{reply}
 use Rattle.contract.specs.Expressions.{any, tries, idle, succeeds, fails, atom, seq, or, star}
 use Rattle.contract.specs.Meaning.{Clause, deadline, both, then, repair, repeat, when, until}
 use Rattle.contract.specs.Examples.{a, b, duty, ban, power, a/a, a/-, -/a, -/-, b/a, b/b, b/-}
-use Rattle.reader.specs.Examples.{six, joined}
+use Rattle.reader.specs.Examples.{six, sixWith, joined}
 use Rattle.image.specs.Limits.{allowedRows, bufferBytes}
 use Rattle.image.specs.Images.{image, imageFor}
 
@@ -147,14 +147,10 @@ pub record WatchVector : Type 0 where
 
 -- ---- the rows of deadlines, and the room for rows
 
--- a contract of one deadline
-abbrev pub oneDeadline : (party action window : ℕ) → List ℕ
-oneDeadline p a d = 0x54 ∷ 0x43 ∷ 0x0A ∷ p ∷ a ∷ d ∷ []
-
 pub record RowVectors : Type 0 where
   -- kind and fields of each row: the fixed rows, the deadline's six before its window's rows and six after them
   pub rows-of-window-1 :
-      imageFor (oneDeadline 1 0 1)
+      imageFor (sixWith 10 1 0 1)
       ≡ joined
       (row 0 0 0 ∷ row 1 0 0 ∷ row 3 1 0
       ∷ row 2 1 0 ∷ row 2 2 0 ∷ row 4 3 4 ∷ row 3 5 0 ∷ row 4 2 6 ∷ row 4 1 6
@@ -162,7 +158,7 @@ pub record RowVectors : Type 0 where
       ∷ end 11 13 14 ∷ [])
   -- of party 2, with three rows for each of periods 2 and 3
   pub rows-of-window-3 :
-      imageFor (oneDeadline 2 1 3)
+      imageFor (sixWith 10 2 1 3)
       ≡ joined
       (row 0 0 0 ∷ row 1 0 0 ∷ row 3 1 0
       ∷ row 2 2 1 ∷ row 2 1 1 ∷ row 4 3 4 ∷ row 3 5 0 ∷ row 4 2 6 ∷ row 4 1 6
@@ -170,10 +166,10 @@ pub record RowVectors : Type 0 where
       ∷ row 6 11 0 ∷ row 5 10 12 ∷ row 4 7 12
       ∷ row 4 2 13 ∷ row 5 1 15 ∷ row 4 16 5 ∷ row 3 3 0 ∷ row 4 14 18 ∷ row 4 14 3
       ∷ end 17 20 19 ∷ [])
-  pub row-counts : map (λ (d : ℕ). rowCount (imageFor (oneDeadline 1 0 d))) (1 ∷ 2 ∷ 3 ∷ 15 ∷ []) ≡ 15 ∷ 18 ∷ 21 ∷ 57 ∷ []
+  pub row-counts : map (λ (d : ℕ). rowCount (imageFor (sixWith 10 1 0 d))) (1 ∷ 2 ∷ 3 ∷ 15 ∷ []) ≡ 15 ∷ 18 ∷ 21 ∷ 57 ∷ []
   -- the most that 64 records have: 32 deadlines of 15 periods each, 31 times `both`, and `repeat`
   pub most-rows :
-      rowCount (imageFor (joined (replicate 32 (oneDeadline 1 0 15) ++ replicate 31 (six 4 0 0) ++ (six 7 0 0 ∷ [])))) ≡ 2170
+      rowCount (imageFor (joined (replicate 32 (sixWith 10 1 0 15) ++ replicate 31 (six 4 0 0) ++ (six 7 0 0 ∷ [])))) ≡ 2170
 
 -- without windows, and with a window of 1 period or 64 of 15
 pub record RoomVectors : Type 0 where

@@ -97,9 +97,9 @@ b ⊹ zero = b
 b ⊹ suc k = suc (b ⊹ k)
 
 -- the first row after those of n later periods of a window that start at row c
-abbrev pub afterPeriods : (n c : ℕ) → ℕ
-afterPeriods zero c = c
-afterPeriods (suc n) c = afterPeriods n (c ⊹ periodRows)
+abbrev pub afterWindow : (n c : ℕ) → ℕ
+afterWindow zero c = c
+afterWindow (suc n) c = afterWindow n (c ⊹ periodRows)
 
 -- the first row of the operands, or of the window, of a record whose rows start at row b
 abbrev pub inside : Kind → ℕ → ℕ
@@ -107,7 +107,7 @@ inside k b = b ⊹ width k .before
 
 -- the first row after a record's rows and those of its operands, where m gives the row after the operands' rows
 abbrev pub afterRecord : Record → (ℕ → ℕ) → ℕ → ℕ
-afterRecord r m b = m (afterPeriods (laterPeriods r) (inside (r .kind) b)) ⊹ width (r .kind) .after
+afterRecord r m b = m (afterWindow (laterPeriods r) (inside (r .kind) b)) ⊹ width (r .kind) .after
 
 -- The first row after the rows of a tree that start at row b. The right operand's rows stand before the left operand's.
 unfoldable pub afterExpression : Expression → ℕ → ℕ

@@ -13,7 +13,7 @@ abbrev μ-loop : tie.MeasureT-loop
 μ-loop image₀ before at window next₀ earlier₀ missed₀ j₀ image next earlier missed j = window - j
 
 sub-missed : tie.Need-sub-missed Inv-loop μ-loop
-sub-missed c = c .before .pre .first-missed
+sub-missed c = c .before .pre .one-before
 
 loop-holds : tie.Need-loop-holds Inv-loop μ-loop
 loop-holds c = none-yet (c .before .args .image .now) (c .before .args .at) (c .before .args .window)
@@ -21,7 +21,7 @@ loop-holds c = none-yet (c .before .args .image .now) (c .before .args .at) (c .
 sub-put-period : tie.Need-sub-put-period Inv-loop μ-loop
 sub-put-period c =
     let n = c .before .before .loop .inv .count in
-    c .before .before .before .before .pre .goes-unmet (omega arith)
+    c .before .before .before .before .pre .two-before (omega arith)
 
 put-period-requires : tie.Need-put-period-requires Inv-loop μ-loop
 put-period-requires c κs = period-room (c .before .before .loop .inv) (c .before .before .before .before .pre) (omega arith)
