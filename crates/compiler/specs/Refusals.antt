@@ -1,4 +1,4 @@
--- The tests of compile, in their order. Document 01, "Replies that refuse"; document 02, card 1.
+-- The tests of compile, in their order. Document 01, "Replies that refuse"; document 02, "Duties with a deadline".
 use Prim.Native.Nat.{ℕ}
 use mathlib.Core.List.{List}
 use lib.Dec.{leb}

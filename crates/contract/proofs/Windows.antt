@@ -1,4 +1,4 @@
--- A deadline of window 1 means what the plain duty means, and one of window d what d duties nested by repair mean. Document 02, card 1.
+-- A deadline of window 1 means what the plain duty means, and one of window d what d duties nested by repair mean. Document 02, "Duties with a deadline".
 use Prim.Native.Nat.{ℕ, zero, suc, _-_}
 use native.Mathlib.Omega.{arith}
 use mathlib.Core.Bool.{Bool, true, false, _&&_, and-comm, cond}

@@ -1,4 +1,4 @@
--- The worked examples. Document 01, "Contracts and examples", "What students hand in" and "Watch"; of deadlines document 02, card 1.
+-- The worked examples. Document 01, "Contracts and examples", "What students hand in" and "Watch"; of deadlines document 02, "Duties with a deadline".
 use Prim.Native.Nat.{ℕ}
 use Prim.Native.String.{String}
 use mathlib.Core.Bool.{true, false}
@@ -220,7 +220,7 @@ pub record VerdictExamples : Type 0 where
       map (told (repeat (repair (duty party1 a) (duty party1 b))) (a/a ∷ -/- ∷ b/- ∷ a/a ∷ [])) (1 ∷ 2 ∷ 3 ∷ 4 ∷ [])
       ≡ ("open", 0, 0, 0) ∷ ("open", 0, 0, 0) ∷ ("broken", 2, 2, 3) ∷ ("broken-after", 4, 2, 3) ∷ []
 
--- document 02, card 1; what a wrong reading would give stands in brackets
+-- document 02, "Duties with a deadline"; what a wrong reading would give stands in brackets
 pub record DeadlineExamples : Type 0 where
   -- "satisfied in the first of its d periods in which both try"
   pub met-in-window :

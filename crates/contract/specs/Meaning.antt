@@ -1,5 +1,5 @@
 -- Clauses, their decisions and blame, and what a clause means on a list of periods.
--- Document 01, "Meaning of clauses"; of kind 10 document 02, card 1.
+-- Document 01, "Meaning of clauses"; of kind 10 document 02, "Duties with a deadline".
 use Prim.Native.Nat.{ℕ, zero, suc, _+_, _-_, max}
 use mathlib.Core.Bool.{Bool, true, false, cond}
 use mathlib.Core.List.{List, [], _∷_}

@@ -1,5 +1,5 @@
 -- Vectors of the image: every kind, every error of document 01's "What students hand in", and the example of "Watch" through the bytes; the rows
--- of deadlines (document 02, card 1), and the room for rows.
+-- of deadlines (document 02, "Duties with a deadline"), and the room for rows.
 use Prim.Native.Nat.{ℕ, _+_}
 use mathlib.Core.List.{List, [], _∷_, _++_, map}
 use mathlib.Core.Path.{_≡_}

@@ -1,4 +1,4 @@
--- The room that an image buffer must have. Document 01, "Replies that refuse", 8; document 02, card 1.
+-- The room that an image buffer must have. Document 01, "Replies that refuse", 8; document 02, "Duties with a deadline".
 use Prim.Native.Nat.{ℕ, _+_, _*_}
 use mathlib.Core.List.{List}
 use Rattle.layout.specs.Limits.{rowBytes}

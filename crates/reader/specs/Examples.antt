@@ -1,5 +1,5 @@
 -- Vectors of the reader: a contract for each kind, its bytes and the clause that they spell; refusals 1 to 7, number and place, and their order.
--- Document 01, "Records" and "Replies that refuse"; of kind 10 document 02, card 1.
+-- Document 01, "Records" and "Replies that refuse"; of kind 10 document 02, "Duties with a deadline".
 use Prim.Native.Nat.{ℕ}
 use mathlib.Core.List.{List, [], _∷_, _++_, map}
 use mathlib.Core.Path.{_≡_}

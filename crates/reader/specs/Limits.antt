@@ -1,4 +1,4 @@
--- How many records a contract may have, how long one is, and how many periods a window. Document 01, "Records"; document 02, card 1.
+-- How many records a contract may have, how long one is, and how many periods a window. Document 01, "Records"; document 02, "Duties with a deadline".
 use Prim.Native.Nat.{ℕ}
 
 -- a contract is 1 to 64 records

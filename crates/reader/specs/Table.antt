@@ -1,5 +1,5 @@
 -- The one fixed table: what a record of each kind completes, its operands, and what its fields may be. Document 01, "Records"; of kind 10
--- document 02, card 1.
+-- document 02, "Duties with a deadline".
 use Prim.Native.Nat.{ℕ, _-_}
 use mathlib.Core.Bool.{Bool, _&&_, cond}
 use mathlib.Core.List.{List, [], _∷_}
