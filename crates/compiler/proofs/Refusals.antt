@@ -71,7 +71,7 @@ module _ (contract buffer : List ℕ) where
       let room = leb (bufferFor contract) (length buffer) in
       only-append readFaults (ShortBuffer ∷ []) (readTest contract) (require room ShortBuffer 0) (read-only contract) (only-require (ShortBuffer ∷ []) ShortBuffer refl room 0)
 
--- the records of a contract that is taken are few and whole, and so are its windows
+-- the records of a contract that is taken are few and whole, and the sum of its windows is small
 pub has-records : (contract : List ℕ) → readTest contract ≡ Passed → HasRecords contract (contractRecords contract)
 unfolding contractRecords
 has-records contract e = let k = test-passed contract e in record { whole = omega arith; few = omega (arith, taken-count contract (k .clause) (k .is), k .spells .few-records) }

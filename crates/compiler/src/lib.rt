@@ -45,7 +45,7 @@ pub const COMPILE_REPLY_BYTES: usize = records::REPLY_HEAD;
 // An image buffer must have room for so many rows for each record, so many for each period of each window, and so many more with the end record.
 const RECORD_ROWS: usize = 32;
 
-const WINDOW_ROWS: usize = 4;
+const WINDOW_PERIOD_ROWS: usize = 4;
 
 const MORE_ROWS: usize = 65;
 
@@ -59,7 +59,9 @@ fn compile_test(contract: &[u8], image: &[u8]) -> Test
     };
     let n = reader::contract_records(contract);
     let windows = reader::windows(contract, n);
-    if image.len() < layout::ROW_BYTES * (RECORD_ROWS * n + WINDOW_ROWS * windows + MORE_ROWS) {
+    if image.len()
+        < layout::ROW_BYTES * (RECORD_ROWS * n + WINDOW_PERIOD_ROWS * windows + MORE_ROWS)
+    {
         return Test::Refused(Fault::ShortBuffer, 0);
     }
     Test::Passed

@@ -6,7 +6,7 @@ use mathlib.Core.List.{List, [], _∷_}
 use mathlib.Core.Path.{_≡_, refl, ap, _∙_}
 use lib.ListN.{take, drop}
 use Rattle.periods.specs.Periods.{Party, party1, party2, other, Period, tries, succeeds}
-use Rattle.contract.specs.Meaning.{duty, Clause, literal, deadline, repair, Decision, undecided, satisfied, violated, literalDecision, later, firstSuccess, deadlineMeaning, repairMeaning, meaning}
+use Rattle.contract.specs.Meaning.{duty, Clause, literal, deadline, repair, Decision, undecided, satisfied, violated, literalDecision, later, firstSuccess, orElse, repairMeaning, meaning}
 
 -- an action succeeds when its party tries it and the other does
 pub by-party : (p : Party) (x : Period) (a : ℕ) → succeeds x a ≡ (tries x p a && tries x (other p) a)
@@ -24,10 +24,10 @@ later-suc n undecided = refl
 later-suc n (satisfied k) = ap satisfied (omega arith)
 later-suc n (violated k b) = ap (λ (m : ℕ). violated m b) (omega arith)
 
-deadline-later : (n : ℕ) (s last : Decision) → deadlineMeaning (later n s) (later n last) ≡ later n (deadlineMeaning s last)
-deadline-later n undecided last = refl
-deadline-later n (satisfied k) last = refl
-deadline-later n (violated k b) last = refl
+or-else-later : (n : ℕ) (s last : Decision) → orElse (later n s) (later n last) ≡ later n (orElse s last)
+or-else-later n undecided last = refl
+or-else-later n (satisfied k) last = refl
+or-else-later n (violated k b) last = refl
 
 repair-same : (d : Decision) {f g : ℕ → Decision} → ((k : ℕ) → f k ≡ g k) → repairMeaning d f ≡ repairMeaning d g
 repair-same undecided e = refl
@@ -46,7 +46,7 @@ module _ (p : Party) (a : ℕ) where
   deadline-one (x ∷ w) = rw (by-party p x a) (go (tries x p a) (tries x (other p) a))
     where
       go : (s t : Bool)
-          → deadlineMeaning (cond (s && t) (satisfied 1) undecided) (later 0 (literalDecision duty p s t)) ≡ literalDecision duty p s t
+          → orElse (cond (s && t) (satisfied 1) undecided) (later 0 (literalDecision duty p s t)) ≡ literalDecision duty p s t
       go true true = refl
       go true false = refl
       go false t = refl
@@ -67,11 +67,11 @@ module _ (p : Party) (a : ℕ) where
       last = later n (meaning (literal duty p a) (drop n w))
 
       go : (s t : Bool)
-          → deadlineMeaning (cond (s && t) (satisfied 1) (later 1 success)) (later 1 last)
-          ≡ repairMeaning (literalDecision duty p s t) (λ k. later k (deadlineMeaning (firstSuccess a (take (suc n) (drop k (x ∷ w)))) (later n (meaning (literal duty p a) (drop n (drop k (x ∷ w)))))))
+          → orElse (cond (s && t) (satisfied 1) (later 1 success)) (later 1 last)
+          ≡ repairMeaning (literalDecision duty p s t) (λ k. later k (orElse (firstSuccess a (take (suc n) (drop k (x ∷ w)))) (later n (meaning (literal duty p a) (drop n (drop k (x ∷ w)))))))
       go true true = refl
-      go true false = deadline-later 1 success last
-      go false t = deadline-later 1 success last
+      go true false = or-else-later 1 success last
+      go false t = or-else-later 1 success last
 
   -- d duties nested by repair: n of them and the last
   abbrev pub nestedDuties : (n : ℕ) → Clause

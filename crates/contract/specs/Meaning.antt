@@ -132,17 +132,21 @@ unfoldable pub firstSuccess : (action : ℕ) → List Period → Decision
 firstSuccess a [] = undecided
 firstSuccess a (x ∷ w) = cond (succeeds x a) (satisfied 1) (later 1 (firstSuccess a w))
 
+-- the first decision if there is one, otherwise the second
+abbrev pub orElse : Decision → Decision → Decision
+orElse undecided d = d
+orElse (satisfied k) d = satisfied k
+orElse (violated k b) d = violated k b
+
 -- Deadline: satisfied in the first of its d periods in which both try. If none of them succeeds it is violated at the d-th, with a plain duty's blame
 -- for that period: as a plain duty decides that reads from period d.
-abbrev pub deadlineMeaning : (success last : Decision) → Decision
-deadlineMeaning undecided last = last
-deadlineMeaning (satisfied k) last = satisfied k
-deadlineMeaning (violated k b) last = violated k b
+abbrev pub deadlineMeaning : Party → (action window : ℕ) → List Period → Decision
+deadlineMeaning p a d w = orElse (firstSuccess a (take d w)) (after (literalMeaning duty p a) w (d - 1))
 
 -- what a clause means on a list of periods
 unfoldable pub meaning : Clause → List Period → Decision
 meaning (literal l p a) w = literalMeaning l p a w
-meaning (deadline p a d) w = deadlineMeaning (firstSuccess a (take d w)) (after (literalMeaning duty p a) w (d - 1))
+meaning (deadline p a d) w = deadlineMeaning p a d w
 meaning (both l r) w = bothMeaning (meaning l w) (meaning r w)
 meaning (then l r) w = thenMeaning (meaning l w) (after (meaning r) w)
 meaning (repair l r) w = repairMeaning (meaning l w) (after (meaning r) w)

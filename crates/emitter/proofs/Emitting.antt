@@ -19,7 +19,7 @@ use Rattle.emitter.specs.declared.Plan.{Plan}
 use Rattle.emitter.specs.declared.Wires.{Wires}
 use Rattle.emitter.specs.Rows.{numbersOf, writtenRows}
 use Rattle.emitter.specs.Plans.{planOf}
-use Rattle.emitter.specs.Blocks.{lastRecord, recordFrom, noBlock, windowBlock, laterRows, basesOf, recordWritten, recordBlock, wiresOf, treeRows, afterTree, blockOf, EndsWith, Emitted}
+use Rattle.emitter.specs.Blocks.{lastRecord, recordFrom, noBlock, windowBlock, windowFrom, basesOf, recordWritten, recordBlock, wiresOf, treeRows, afterTree, blockOf, EndsWith, Emitted}
 use Rattle.image.proofs.Sizes.{after-window, length-window}
 use Rattle.emitter.proofs.Writing.{written-after, written-around}
 use Rattle.emitter.proofs.Plans.{leftBlock, rightBlock, operandRows, nodeBases, rows-node, block-node, after-tree}
@@ -40,7 +40,7 @@ pub record Written (contract : List ℕ) (last count d : ℕ) (image : List ℕ)
       → Placed image b S w later left right d m ss ts
 
 module _ {contract : List ℕ} {last d : ℕ} {image : List ℕ} {b S : ℕ} {w : Wires} where
-  pub written-no : {later : List ℕ} {window : Block} → later ≡ writtenRows image b (map numbersOf (laterRows d b)) → window ≡ windowBlock last d b
+  pub written-no : {later : List ℕ} {window : Block} → later ≡ writtenRows image b (map numbersOf (windowFrom d b)) → window ≡ windowBlock last d b
       → Written contract last 0 d image b S w later window window
   written-no {later} {window} g i = record { placed = each }
     where

@@ -11,7 +11,7 @@ use Rattle.image.specs.Widths.{neverRow, periodRows, _⊹_, afterWindow}
 use Rattle.image.specs.Blocks.{windowRows, lastRow}
 use Rattle.image.proofs.Sizes.{after-window, length-window, inside-window}
 use Rattle.emitter.specs.Rows.{numbersOf, writtenRows}
-use Rattle.emitter.specs.Blocks.{laterRows}
+use Rattle.emitter.specs.Blocks.{windowFrom}
 use Rattle.emitter.specs.Premises.{PeriodRoom, WindowRoom}
 use Rattle.emitter.proofs.Writing.{sets-row, length-written, written-none, written-after}
 use Rattle.emitter.proofs.Plans.{window-onto}
@@ -52,16 +52,16 @@ window-next (suc n) g e m c rest =
 -- ---- the loop
 
 -- the rows of so many later periods of a window are written from row `at` on, j being one more than they are
-pub record WindowAt (image₀ : List ℕ) (at window : ℕ) (image : List ℕ) (next earlier missed j : ℕ) : Type 0 where
+pub record WindowSoFar (image₀ : List ℕ) (at window : ℕ) (image : List ℕ) (next earlier missed j : ℕ) : Type 0 where
   pub done : ℕ
   pub count : j ≡ done + 1
   pub few : done ≤ window - 1
-  pub rows-are : image ≡ writtenRows image₀ at (map numbersOf (laterRows done at))
+  pub rows-are : image ≡ writtenRows image₀ at (map numbersOf (windowFrom done at))
   pub next-is : next ≡ afterWindow done at
   pub earlier-is : earlier ≡ lastRow done 1 neverRow at
   pub missed-is : missed ≡ lastRow done 2 (at - 1) at
 
-pub none-yet : (image : List ℕ) (at window : ℕ) → WindowAt image at window image at 0 (at - 1) 1
+pub none-yet : (image : List ℕ) (at window : ℕ) → WindowSoFar image at window image at 0 (at - 1) 1
 unfolding windowRows
 none-yet image at window = record {
   done = 0;
@@ -73,9 +73,9 @@ none-yet image at window = record {
   missed-is = refl;
 }
 
-module _ {image₀ : List ℕ} {at window : ℕ} {image : List ℕ} {next earlier missed j : ℕ} (w : WindowAt image₀ at window image next earlier missed j) where
+module _ {image₀ : List ℕ} {at window : ℕ} {image : List ℕ} {next earlier missed j : ℕ} (w : WindowSoFar image₀ at window image next earlier missed j) where
   pub same-length : length image ≡ length image₀
-  same-length = rw (w .rows-are) (length-written image₀ at (map numbersOf (laterRows (w .done) at)))
+  same-length = rw (w .rows-are) (length-written image₀ at (map numbersOf (windowFrom (w .done) at)))
 
   -- there is room for one period more
   pub period-room : WindowRoom (length image₀) (window - 1) at → j < window → PeriodRoom (length image) next (at - 2) earlier missed
@@ -96,7 +96,7 @@ module _ {image₀ : List ℕ} {at window : ℕ} {image : List ℕ} {next earlie
       }
 
   pub one-more : {later : List ℕ} → j < window → later ≡ writtenRows image next (map numbersOf (windowRows 1 (at - 2) earlier missed next []))
-      → WindowAt image₀ at window later (next + 3) (next + 1) (next + 2) (j + 1)
+      → WindowSoFar image₀ at window later (next + 3) (next + 1) (next + 2) (j + 1)
   one-more {later} h i =
       let d = w .done in
       let c = w .count in

@@ -26,7 +26,7 @@ use Rattle.emitter.specs.declared.Block.{Block}
 use Rattle.emitter.specs.declared.Wires.{Wires}
 use Rattle.emitter.specs.Rows.{RowNumbers, numbersOf, rowTable, tableRows}
 use Rattle.emitter.specs.Plans.{planOf}
-use Rattle.emitter.specs.Blocks.{noBlock, windowBlock, laterRows, otherNumber, basesOf, recordBlock, wiresOf, treeRows, afterTree, blockOf}
+use Rattle.emitter.specs.Blocks.{noBlock, windowBlock, windowFrom, otherNumber, basesOf, recordBlock, wiresOf, treeRows, afterTree, blockOf}
 
 -- ---- rows and what follows them
 
@@ -80,7 +80,7 @@ rightBlock n (s ∷ []) ts m b S = blockOf s (ts .0) m b S
 rightBlock n (s ∷ s′ ∷ ss) ts m b S = blockOf s′ (ts .1 .0) (m + treeRecords s (ts .0)) b S
 
 abbrev pub operandRows : (n : ℕ) (ss : List Sort) → Trees ss → (b S : ℕ) → Wires → List Row
-operandRows n [] ts b S w = laterRows n b
+operandRows n [] ts b S w = windowFrom n b
 operandRows n (s ∷ []) ts b S w = treeRows s (ts .0) b (w .start) (w .go)
 operandRows n (s ∷ s′ ∷ ss) ts b S w =
     treeRows s′ (ts .1 .0) b (w .start) (w .go) ++ treeRows s (ts .0) (afterTree s′ (ts .1 .0) b) S (w .keep)
@@ -177,7 +177,7 @@ after-node seq f ts m b S = omega arith
 after-node or f ts m b S = omega arith
 after-node star f ts m b S = omega arith
 
--- a literal's outputs by its party's number
+-- the outputs of a literal and of a deadline by its party's number
 blaming-is : (p : Party) (s x y : ℕ)
     → let second = eqb (partyNumber p) (partyNumber party2) in
     blaming p s x y ≡ record { sat = s; one = cond second y x; two = cond second x y }

@@ -47,8 +47,8 @@ windowBlock m n c =
     record { before = m; next = afterWindow n c; sat = lastRow n 1 neverRow c; one = lastRow n 2 (c - 1) c; two = 0; code = 0 }
 
 -- its rows; row c - 2 tells that the block goes on and not both try
-abbrev pub laterRows : (n c : ℕ) → List Row
-laterRows n c = windowRows n (c - 2) neverRow (c - 1) c []
+abbrev pub windowFrom : (n c : ℕ) → List Row
+windowFrom n c = windowRows n (c - 2) neverRow (c - 1) c []
 
 -- the other party's number
 abbrev pub otherNumber : ℕ → ℕ
@@ -67,7 +67,7 @@ unfoldable pub recordWritten : (image bases : List ℕ) → Plan → (b n : ℕ)
 recordWritten image bases p b n =
     writtenRows (writtenRows image b (tableRows bases rowTable (p .from) (p .before))) n (tableRows bases rowTable (p .from + p .before) (p .after))
 
--- what its block gives; a literal's plan has its own party's blame before the other's, the block has party 1's before party 2's
+-- what its block gives; a literal's and a deadline's plan has its own party's blame before the other's, the block has party 1's before party 2's
 unfoldable pub recordBlock : (bases : List ℕ) → Plan → (kind party : ℕ) → (left right : Block) → Block
 recordBlock bases p kind party l r =
     let blames-own = valueAt bases (p .one) in

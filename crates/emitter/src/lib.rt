@@ -12,7 +12,7 @@ ghost use Rattle.reader.specs.Table.{Kind, kindOf};
 ghost use Rattle.image.specs.Blocks.{windowRows};
 ghost use Rattle.emitter.specs.Rows.{numbersOf, leafRows, nodeRows, rowTable, unpacked, valueAt, tableRows, writtenRows};
 ghost use Rattle.emitter.specs.Plans.{named, planOf};
-ghost use Rattle.emitter.specs.Blocks.{lastRecord, recordFrom, otherNumber, basesOf, wiresOf, noBlock, windowBlock, laterRows, recordBlock, recordWritten, Emitted};
+ghost use Rattle.emitter.specs.Blocks.{lastRecord, recordFrom, otherNumber, basesOf, wiresOf, noBlock, windowBlock, windowFrom, recordBlock, recordWritten, Emitted};
 ghost use Rattle.emitter.specs.Premises.{RoomFrom, RoomForRows, RecordRows, PeriodRoom, WindowRoom, Emits};
 use layout::AND;
 use layout::ATTEMPT;
@@ -290,7 +290,8 @@ const PLANS: [PlanLine; 18] = [
 
 // How a kind's rows are laid out: the first of its own rows in the tables, how many stand before its operands' rows and how many after them; the
 // rows that tell the right operand when it begins to read (start) and when it goes on (go), and the left operand when it goes on (keep; it
-// begins with the whole); and the rows that the block gives out, of a literal with its own party's blame as `one` and the other's as `two`.
+// begins with the whole); and the rows that the block gives out, of a literal and of a deadline with its own party's blame as `one` and the
+// other's as `two`.
 pub struct Plan {
     pub from: u8,
     pub before: u8,
@@ -337,7 +338,8 @@ fn plan_of(r: RecordBody) -> Plan
 
 // The rows of a tree, once they are written: how many records stand before the tree's own, the row after its rows, the three rows that it
 // gives out, and the tree's code as an operand. Of a clause `sat` is that it is satisfied, `one` that it is violated with party 1, `two` with
-// party 2 to blame; of an expression they are the end of a list, that one may go on, and never.
+// party 2 to blame; of an expression they are the end of a list, that one may go on, and never;
+// of a window's later periods `earlier`, `missed` and never.
 pub struct Block {
     pub before: usize,
     pub next: u32,
@@ -515,8 +517,8 @@ fn put_record(
 
 // ---- the rows of a window
 
-// Writes the rows of one later period of a window from row `at` on. `unmet`: the block goes on and not both try; `earlier`: it was missed in the
-// period before, in one of the window's periods so far; `missed`: it was missed in the last of these.
+// Writes the rows of one later period of a window from row `at` on. `unmet`: the block goes on and not both try. Of the window's periods so far,
+// `missed` tells that the duty is missed now in the last one, `earlier` that it was missed in the period before in one before that.
 fn put_period(image: &mut [u8], at: u32, unmet: u32, earlier: u32, missed: u32)
     requires { ⌜ PeriodRoom (length (now image)) at unmet earlier missed ⌝ }
     ensures { λ _. ⌜ now (image .exit) ≡ writtenRows (now (image .entry)) at (map numbersOf (windowRows 1 unmet earlier missed at [])) ⌝ }
@@ -526,10 +528,10 @@ fn put_period(image: &mut [u8], at: u32, unmet: u32, earlier: u32, missed: u32)
     layout::put_row(image, at + 2, AND, unmet, at);
 }
 
-// Writes the rows of a window's later periods, where the record's own rows before them end at row `at`, and gives their block.
+// Writes the rows of a window's later periods from row `at` on, right after the record's own rows before them, and gives their block.
 fn put_window(image: &mut [u8], before: usize, at: u32, window: u8) -> Block
     requires { ⌜ WindowRoom (length (now image)) (window - 1) at ⌝ }
-    ensures written { λ _. ⌜ now (image .exit) ≡ writtenRows (now (image .entry)) at (map numbersOf (laterRows (window - 1) at)) ⌝ }
+    ensures written { λ _. ⌜ now (image .exit) ≡ writtenRows (now (image .entry)) at (map numbersOf (windowFrom (window - 1) at)) ⌝ }
     ensures gives { λ r. ⌜ r ≡ windowBlock before (window - 1) at ⌝ }
 {
     let mut next = at;
@@ -586,8 +588,8 @@ pub fn emit(contract: &[u8], n: usize, image: &mut [u8], at: u32, s: u32, k: u32
     let operands = reader::operands(r.kind);
     let inside = at + plan.before as u32;
     if operands == 0 {
-        let window = put_window(image, before, inside, r.last);
-        return put_record(image, plan, r, at, s, k, window, window);
+        let later = put_window(image, before, inside, r.last);
+        return put_record(image, plan, r, at, s, k, later, later);
     }
     let wires = wires_of(plan, at, s, k);
     let right = emit(contract, before, image, inside, wires.start, wires.go);

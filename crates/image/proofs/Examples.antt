@@ -77,4 +77,5 @@ unfolding
 row-vectors = record { rows-of-window-1 = refl; rows-of-window-3 = refl; row-counts = refl; most-rows = refl }
 
 pub room-vectors : RoomVectors
+unfolding Reader.contractRecords Reader.contractWindows Reader.windowsOf
 room-vectors = record { rows-for-64 = refl; bytes-for-1 = refl; bytes-for-64 = refl }

@@ -16,7 +16,7 @@ use Rattle.reader.specs.Trees.{Record}
 use Rattle.reader.specs.Spelling.{atomRecord, literalRecord, deadlineRecord, expressionRecords, records, windows}
 use Rattle.reader.proofs.Table.{of-all}
 use Rattle.image.specs.Limits.{allowedRows}
-use Rattle.image.specs.Widths.{width, periodRows, laterPeriods, size, maxSize, neverRow, maxRowsFor, _⊹_, afterWindow, inside, afterRecord, expressionSize, clauseSize, fixedRows, afterExpression, afterClause}
+use Rattle.image.specs.Widths.{width, periodRows, laterPeriods, size, maxWidth, neverRow, maxRowsFor, _⊹_, afterWindow, inside, afterRecord, expressionSize, clauseSize, fixedRows, afterExpression, afterClause}
 use Rattle.image.specs.Blocks.{joinRow, endRow, liveRow, ifEmpty, expressionRows, Outputs, blaming, outputsOf, windowRows, lastRow, clauseRows}
 use Rattle.image.specs.Images.{rowsFor}
 
@@ -93,10 +93,10 @@ unfolding rowsFor
 length-rowsFor c = rw (length-clause c) (omega arith)
 
 -- no record has more rows than the widest kind and its window's
-size-max : (r : Record) → size r ≤ maxSize + periodRows * r .fields .last
+size-max : (r : Record) → size r ≤ maxWidth + periodRows * r .fields .last
 size-max r =
     let w = width (r .kind) in
-    omega (arith, leb-true (w .before + w .after) maxSize (of-all (λ k. leb (width k .before + width k .after) maxSize) refl (r .kind)))
+    omega (arith, leb-true (w .before + w .after) maxWidth (of-all (λ k. leb (width k .before + width k .after) maxWidth) refl (r .kind)))
 
 atom-last : (x : Atom) → atomRecord x .fields .last ≡ 0
 atom-last any = refl
@@ -110,14 +110,14 @@ literal-last duty p a = refl
 literal-last ban p a = refl
 literal-last power p a = refl
 
-expression-max : (e : Expression) → expressionSize e ≤ maxSize * expressionRecords e
+expression-max : (e : Expression) → expressionSize e ≤ maxWidth * expressionRecords e
 unfolding expressionSize expressionRecords
 expression-max (atom x) = omega (arith, size-max (atomRecord x), atom-last x)
 expression-max (seq l r) = omega (arith, expression-max l, expression-max r)
 expression-max (or l r) = omega (arith, expression-max l, expression-max r)
 expression-max (star e) = omega (arith, expression-max e)
 
-clause-max : (c : Clause) → clauseSize c ≤ maxSize * records c + periodRows * windows c
+clause-max : (c : Clause) → clauseSize c ≤ maxWidth * records c + periodRows * windows c
 unfolding clauseSize records windows
 clause-max (literal l p a) = omega (arith, size-max (literalRecord l p a), literal-last l p a)
 clause-max (deadline p a d) = size-max (deadlineRecord p a d)

@@ -163,8 +163,8 @@ literalRows power p a b S rest =
     ∷ negation (b ⊹ 4) ∷ conjunction S (b ⊹ 5) ∷ rest
 
 -- The rows of n later periods of a window, from row c on. The duty is `missed` where it waits and not both try; it waits in the next period of
--- the window where the block goes on and it was missed in the period before. `unmet`: the block goes on and not both try. `earlier`: the duty was
--- missed in the period before, in one of the window's periods so far.
+-- the window where the block goes on and it was missed in the period before. `unmet`: the block goes on and not both try. Of the window's
+-- periods so far, `missed` tells that the duty is missed now in the last one, `earlier` that it was missed in the period before in one before that.
 unfoldable pub windowRows : (n : ℕ) → (unmet earlier missed c : ℕ) → List Row → List Row
 windowRows zero unmet earlier missed c rest = rest
 windowRows (suc n) unmet earlier missed c rest =

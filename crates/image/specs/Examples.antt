@@ -18,7 +18,7 @@ use Rattle.contract.specs.Expressions.{any, tries, idle, succeeds, fails, atom,
 use Rattle.contract.specs.Meaning.{Clause, deadline, both, then, repair, repeat, when, until}
 use Rattle.contract.specs.Examples.{a, b, duty, ban, power, a/a, a/-, -/a, -/-, b/a, b/b, b/-}
 use Rattle.reader.specs.Examples.{six, sixWith, joined}
-use Rattle.image.specs.Limits.{allowedRows, bufferBytes}
+use Rattle.image.specs.Limits.{allowedFor, bufferFor}
 use Rattle.image.specs.Images.{image, imageFor}
 
 -- verdict, blame and decision period
@@ -174,7 +174,7 @@ pub record RowVectors : Type 0 where
 -- without windows, and with a window of 1 period or 64 of 15
 pub record RoomVectors : Type 0 where
   -- "1 to 2,112 rows"; "5,952 rows"
-  pub rows-for-64 : allowedRows 64 0 ∷ allowedRows 64 960 ∷ [] ≡ 2112 ∷ 5952 ∷ []
+  pub rows-for-64 : map allowedFor (joined (replicate 64 (six 1 1 0)) ∷ joined (replicate 64 (sixWith 10 1 0 15)) ∷ []) ≡ 2112 ∷ 5952 ∷ []
   -- "A buffer of 776 bytes takes one record"; 8 × (32 + 65 + 4)
-  pub bytes-for-1 : bufferBytes 1 0 ∷ bufferBytes 1 1 ∷ [] ≡ 776 ∷ 808 ∷ []
-  pub bytes-for-64 : bufferBytes 64 0 ∷ bufferBytes 64 960 ∷ [] ≡ 16904 ∷ 47624 ∷ []
+  pub bytes-for-1 : map bufferFor (six 1 1 0 ∷ sixWith 10 1 0 1 ∷ []) ≡ 776 ∷ 808 ∷ []
+  pub bytes-for-64 : map bufferFor (joined (replicate 64 (six 1 1 0)) ∷ joined (replicate 64 (sixWith 10 1 0 15)) ∷ []) ≡ 16904 ∷ 47624 ∷ []

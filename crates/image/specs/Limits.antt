@@ -8,13 +8,10 @@ use Rattle.reader.specs.Reader.{contractRecords, contractWindows}
 abbrev pub allowedRows : (records windows : ℕ) → ℕ
 allowedRows n d = 32 * n + 64 + 4 * d
 
--- with the end record's: "8 × (32 × records + 65) bytes" where there are no windows
-abbrev pub bufferBytes : (records windows : ℕ) → ℕ
-bufferBytes n d = rowBytes * (allowedRows n d + 1)
-
--- for a contract, by its records and windows
+-- for a contract
 abbrev pub allowedFor : (contract : List ℕ) → ℕ
 allowedFor contract = allowedRows (contractRecords contract) (contractWindows contract)
 
+-- with the end record: "8 × (32 × records + 65) bytes" where there are no windows
 abbrev pub bufferFor : (contract : List ℕ) → ℕ
-bufferFor contract = bufferBytes (contractRecords contract) (contractWindows contract)
+bufferFor contract = rowBytes * (allowedFor contract + 1)

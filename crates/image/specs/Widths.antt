@@ -51,8 +51,8 @@ abbrev pub size : Record → ℕ
 size r = width (r .kind) .before + periodRows * laterPeriods r + width (r .kind) .after
 
 -- no record has more rows of its own, those of a window not counted
-abbrev pub maxSize : ℕ
-maxSize = 14
+abbrev pub maxWidth : ℕ
+maxWidth = 14
 
 -- the rows of a tree: the sum of the sizes of its records
 unfoldable pub expressionSize : Expression → ℕ
@@ -86,7 +86,7 @@ fixedRows = 3
 
 -- a contract of so many records, with windows of so many periods in all, has no more rows than this
 abbrev pub maxRowsFor : (records windows : ℕ) → ℕ
-maxRowsFor n d = maxSize * n + periodRows * d + fixedRows
+maxRowsFor n d = maxWidth * n + periodRows * d + fixedRows
 
 -- ---- row numbers
 

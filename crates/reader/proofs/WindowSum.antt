@@ -4,22 +4,27 @@ use native.Mathlib.Nat.{zero-add, add-zero, add-assoc}
 use native.Mathlib.Omega.{arith}
 use mathlib.Core.Bool.{cond}
 use mathlib.Core.List.{List, [], _∷_, _++_, append-nil, append-assoc}
-use mathlib.Core.Path.{_≡_, refl, sym, ap, _∙_}
+use mathlib.Core.Path.{_≡_, refl, sym}
 use lib.Dec.{eqb}
-use lib.ListN.{length, take, drop, take-append-drop}
-use lib.Seq.{drop-at, drop-drop, getD-drop, length-take-le}
+use lib.ListN.{length, drop}
+use lib.Seq.{drop-at, drop-drop, getD-drop}
 use Rattle.contract.specs.Meaning as M
 use Rattle.contract.specs.Meaning.{Clause}
 use Rattle.reader.specs.Limits.{maxWindow, recordBytes}
-use Rattle.reader.specs.Table.{Sort, clause, Kind, duty, ban, power, both, then, repair, repeat, when, until, deadline, any, tries, idle, succeeds, fails, seq, or, star, line}
+use Rattle.reader.specs.Table.{Sort, clause, expression, Kind, duty, ban, power, both, then, repair, repeat, when, until, deadline, any, tries, idle, succeeds, fails, seq, or, star, line}
 use Rattle.reader.specs.Trees.{Tree, Trees, Fields, node}
-use Rattle.reader.specs.Spelling.{spellRecord, spell, records, windows, spellTree, treeRecords, treeWindows, deadlineRecord, InRange, Spells}
+use Rattle.reader.specs.Spelling.{spellRecord, spell, records, windows, spellTree, treeRecords, deadlineRecord, InRange, Spells}
 use Rattle.reader.specs.Reader.{windowAt, windowsOf, contractWindows}
 use Rattle.reader.proofs.Fields.{used, recordOf, allowed-last}
 use Rattle.reader.proofs.Spelling.{spellTrees, treesRecords, All, on-tree, spell-node, records-node, length-tree, length-spellTrees}
 use Rattle.reader.proofs.Reader.{spelled-count}
 
 -- ---- a node's windows
+
+-- of a tree of either sort; an expression has none
+abbrev treeWindows : (s : Sort) → Tree s → ℕ
+treeWindows clause c = windows c
+treeWindows expression e = 0
 
 abbrev treesWindows : (ss : List Sort) → Trees ss → ℕ
 treesWindows [] ts = 0
@@ -97,18 +102,6 @@ windowed-node k f u ts h l m rest e =
 
 windowed : (s : Sort) (t : Tree s) → Windowed s t
 windowed = on-tree Windowed windowed-node
-
--- the first n records are m records and then those that spell a tree
-pub windows-ended : (l : List ℕ) (n m : ℕ) (s : Sort) (t : Tree s) → recordBytes * n ≤ length l → n ≡ m + treeRecords s t
-    → take (recordBytes * n) l ≡ take (recordBytes * m) l ++ spellTree s t → windowsOf l n ≡ windowsOf l m + treeWindows s t
-unfolding Windowed
-windows-ended l n m s t w c e =
-    let rest = drop (recordBytes * n) l in
-    let front = take (recordBytes * m) l in
-    let i : front ++ (spellTree s t ++ rest) ≡ l =
-    rw (← append-assoc front (spellTree s t) rest, ← e) (take-append-drop (recordBytes * n) l) in
-    let j = drop-at front (spellTree s t ++ rest) (recordBytes * m) (length-take-le (recordBytes * m) l (omega arith)) in
-    rw c (windowed s t l m rest (ap (drop (recordBytes * m)) (sym i) ∙ j))
 
 pub spelled-windows : (l : List ℕ) (c : Clause) → Spells l c → contractWindows l ≡ windows c
 unfolding contractWindows windowsOf Windowed

@@ -123,10 +123,11 @@ justOne n (o ∷ p ∷ st) = refused NotOneClause n
 unfoldable pub contractRecords : List ℕ → ℕ
 contractRecords l = length l / recordBytes
 
--- the sum of all windows of its first n records: a deadline's last byte is its window, and no other kind has one
+-- the window of the record from byte `at` on: a deadline's last byte; no other kind has one
 abbrev pub windowAt : List ℕ → (at : ℕ) → ℕ
 windowAt l at = cond (eqb (kindAt l at) (line deadline .number)) (fieldsAt l at .last) 0
 
+-- the sum of all windows of the first n records, and of a contract
 unfoldable pub windowsOf : List ℕ → (n : ℕ) → ℕ
 windowsOf l zero = 0
 windowsOf l (suc n) = windowsOf l n + windowAt l (recordBytes * n)

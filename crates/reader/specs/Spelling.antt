@@ -17,31 +17,27 @@ unfoldable pub spellRecord : Record → List ℕ
 spellRecord r = contractMark ++ (line (r .kind) .number ∷ r .fields .party ∷ r .fields .action ∷ r .fields .last ∷ [])
 
 -- a record of these fields
-abbrev recordOf : Kind → (party action last : ℕ) → Record
-recordOf k p a z = record { kind = k; fields = record { party = p; action = a; last = z } }
-
--- the last byte being 0
-abbrev recordWith : Kind → (party action : ℕ) → Record
-recordWith k p a = recordOf k p a 0
+abbrev recordWith : Kind → (party action last : ℕ) → Record
+recordWith k p a z = record { kind = k; fields = record { party = p; action = a; last = z } }
 
 -- the record of a kind that uses no field, as of every operator
 abbrev pub plainRecord : Kind → Record
-plainRecord k = recordWith k 0 0
+plainRecord k = recordWith k 0 0 0
 
 abbrev pub atomRecord : Atom → Record
 atomRecord any = plainRecord K.any
-atomRecord (tries p a) = recordWith K.tries (partyNumber p) a
-atomRecord (idle p a) = recordWith K.idle (partyNumber p) a
-atomRecord (succeeds a) = recordWith K.succeeds 0 a
-atomRecord (fails a) = recordWith K.fails 0 a
+atomRecord (tries p a) = recordWith K.tries (partyNumber p) a 0
+atomRecord (idle p a) = recordWith K.idle (partyNumber p) a 0
+atomRecord (succeeds a) = recordWith K.succeeds 0 a 0
+atomRecord (fails a) = recordWith K.fails 0 a 0
 
 abbrev pub literalRecord : Literal → Party → ℕ → Record
-literalRecord duty p a = recordWith K.duty (partyNumber p) a
-literalRecord ban p a = recordWith K.ban (partyNumber p) a
-literalRecord power p a = recordWith K.power (partyNumber p) a
+literalRecord duty p a = recordWith K.duty (partyNumber p) a 0
+literalRecord ban p a = recordWith K.ban (partyNumber p) a 0
+literalRecord power p a = recordWith K.power (partyNumber p) a 0
 
 abbrev pub deadlineRecord : Party → (action window : ℕ) → Record
-deadlineRecord p a d = recordOf K.deadline (partyNumber p) a d
+deadlineRecord p a d = recordWith K.deadline (partyNumber p) a d
 
 unfoldable pub spellExpression : Expression → List ℕ
 spellExpression (atom x) = spellRecord (atomRecord x)
@@ -95,10 +91,6 @@ spellTree K.expression e = spellExpression e
 abbrev pub treeRecords : (s : Sort) → Tree s → ℕ
 treeRecords K.clause c = records c
 treeRecords K.expression e = expressionRecords e
-
-abbrev pub treeWindows : (s : Sort) → Tree s → ℕ
-treeWindows K.clause c = windows c
-treeWindows K.expression e = 0
 
 -- a record's fields are in the ranges of its kind
 abbrev pub Allowed : Record → Type 0

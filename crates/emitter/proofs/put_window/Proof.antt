@@ -1,13 +1,13 @@
 -- `emitter::put_window` meets its contract: after each turn the rows of one later period more are written.
 use Prim.Native.Nat.{_-_}
 use native.Mathlib.Omega.{arith}
-use Rattle.emitter.proofs.Periods.{WindowAt, none-yet, period-room, one-more, all-done}
+use Rattle.emitter.proofs.Periods.{WindowSoFar, none-yet, period-room, one-more, all-done}
 use Rattle.emitter.proofs.Periods as P
 use Rattle.emitter.proofs.put_window.Statement.{statement}
 use Rattle.emitter.proofs.put_window.Tie as tie
 
 abbrev Inv-loop : tie.InvT-loop
-Inv-loop image₀ before at window next₀ earlier₀ missed₀ j₀ image next earlier missed j = WindowAt image₀ at window image next earlier missed j
+Inv-loop image₀ before at window next₀ earlier₀ missed₀ j₀ image next earlier missed j = WindowSoFar image₀ at window image next earlier missed j
 
 abbrev μ-loop : tie.MeasureT-loop
 μ-loop image₀ before at window next₀ earlier₀ missed₀ j₀ image next earlier missed j = window - j
