@@ -1,5 +1,5 @@
 /* Samples of begin, step and run in C: a printed line for each call, held to the file samples.expected. */
-/* Document 01, "Image and row machine", "Calls" and "Replies that refuse". */
+/* Document 01, "Image and row machine", "Calls" and "Replies that refuse"; document 02, "Duties with a deadline". */
 #include "testing.h"
 
 /* ---- bytes of images, states and traces */

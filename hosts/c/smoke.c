@@ -2,7 +2,7 @@
 /* The header's structs are its reply areas. What it prints is held to the file smoke.expected. */
 #include "testing.h"
 
-/* ---- the header's structs and numbers, once more as document 01 and the calls' replies have them */
+/* ---- the header's structs and numbers, once more as documents 01 and 02 and the calls' replies have them */
 
 /* A field of a reply: where it starts, and its bytes. */
 #define FIELD(reply, field, from, bytes) \

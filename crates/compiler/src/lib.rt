@@ -1,4 +1,5 @@
-// Compile: reads a contract and writes the image that monitors it. Document 01, "Image and row machine" and "Calls".
+// Compile: reads a contract and writes the image that monitors it. Document 01, "Image and row machine" and "Calls"; of windows
+// document 02, "Duties with a deadline".
 ghost use mathlib.Core.Path.{_≡_};
 ghost use lib.Seq.{sets};
 ghost use Rattle.layout.specs.Images.{rowCount};

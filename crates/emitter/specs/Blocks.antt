@@ -56,7 +56,7 @@ otherNumber p = partyNumber (other (partyNamed p))
 
 -- What the bases stand for, in their order: never; the rows that start the block and keep it going; the record's first row, and the first after
 -- its operands'; what the left operand's block gives out, and the right one's; two rows that count where an operand holds the empty list;
--- the record's party, the other party, the action.
+-- the record's party, the other party, the action. Here and below a deadline's window stands for its operands, its block for the left one's.
 abbrev pub basesOf : (b s k : ℕ) (left right : Block) (party action : ℕ) → List ℕ
 basesOf b s k l r p a =
     0 ∷ s ∷ k ∷ b ∷ l .next ∷ l .sat ∷ l .one ∷ l .two ∷ r .sat ∷ r .one ∷ r .two

@@ -99,7 +99,7 @@ disjunction x y = row (kind (L.disjunction x y)) x y
 abbrev previous : (x : ℕ) → TableRow
 previous x = row (kind (L.previous x)) x ZERO
 
--- a kind's own rows, those before its operands' rows and then those after them
+-- a kind's own rows, those before its operands' rows, or its window's, and then those after them
 abbrev pub kindRows : Kind → List TableRow
 kindRows duty = attempt P ∷ attempt Q ∷ conjunction S B ∷ conjunction (B ⊹ 2) (B ⊹ 1) ∷ negation B ∷ conjunction S (B ⊹ 4) ∷ negation (B ⊹ 1) ∷ conjunction (B ⊹ 2) (B ⊹ 6) ∷ []
 kindRows ban = attempt P ∷ attempt Q ∷ conjunction S B ∷ conjunction (B ⊹ 2) (B ⊹ 1) ∷ negation (B ⊹ 3) ∷ conjunction S (B ⊹ 4) ∷ []

@@ -31,7 +31,8 @@ const S: u8 = 0x10;
 
 const K: u8 = 0x20;
 
-// The record's first row, and the first after its operands' rows.
+// The record's first row, and the first after its operands' rows. Here and below a deadline's window stands for its operands, its block for the
+// left one's.
 const B: u8 = 0x30;
 
 const N: u8 = 0x40;
@@ -338,8 +339,8 @@ fn plan_of(r: RecordBody) -> Plan
 
 // The rows of a tree, once they are written: how many records stand before the tree's own, the row after its rows, the three rows that it
 // gives out, and the tree's code as an operand. Of a clause `sat` is that it is satisfied, `one` that it is violated with party 1, `two` with
-// party 2 to blame; of an expression they are the end of a list, that one may go on, and never;
-// of a window's later periods `earlier`, `missed` and never.
+// party 2 to blame; of an expression they are the end of a list, that one may go on, and never; of a window's later periods `earlier`, `missed`
+// and never.
 pub struct Block {
     pub before: usize,
     pub next: u32,

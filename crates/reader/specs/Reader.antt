@@ -1,5 +1,5 @@
 -- How a contract's bytes are read: record by record onto a stack of operands, to a clause or the first refusal.
--- Document 01, "Records" and, for refusals 1 to 7, "Replies that refuse".
+-- Document 01, "Records" and, for refusals 1 to 7, "Replies that refuse"; of windows document 02, "Duties with a deadline".
 use Prim.Native.Nat.{ℕ, zero, suc, _+_, _*_, _/_, _%_}
 use mathlib.Core.Bool.{Bool, false, _&&_, not, cond}
 use mathlib.Core.List.{List, [], _∷_}

@@ -1,4 +1,5 @@
--- The bytes that spell a clause, "operands before their operator", how many records it has and the sum of its windows. Document 01, "Records".
+-- The bytes that spell a clause, "operands before their operator", how many records it has and the sum of its windows. Document 01, "Records";
+-- of windows document 02, "Duties with a deadline".
 use Prim.Native.Nat.{ℕ, _+_, _≤_}
 use mathlib.Core.Bool.{true}
 use mathlib.Core.List.{List, [], _∷_, _++_}

@@ -1,4 +1,5 @@
-// The reader, which takes the bytes of a contract or refuses them. Document 01, "Records" and "Replies that refuse".
+// The reader, which takes the bytes of a contract or refuses them. Document 01, "Records" and "Replies that refuse"; of
+// windows document 02, "Duties with a deadline".
 ghost use mathlib.Core.Path.{_≡_};
 ghost use mathlib.Core.List.{[]};
 ghost use Prim.Native.Nat.{_+_, _≤_};
