@@ -21,4 +21,4 @@ pub compile-vectors : CompileVectors
 unfolding
     compile compileTest call fieldsBytes readTest read Reader.goodContractLength Reader.contractRecords Reader.contractWindows Reader.windowsOf readRecords readRecord firstNumbered kindOf goodFields operandsOf node imageFor image
     rowsFor windowRows clauseRows outputsOf afterClause imageBytes rowsBytes endBytes encode rowCount marked bytes holdsEmpty
-compile-vectors = record { taken = refl; small-inputs = refl; short-for-one = refl; short-for-two = refl; enough-for-two = refl; deadline-taken = refl; short-for-window = refl; short-for-windows = refl; room = refl; no-room = refl }
+compile-vectors = record { taken = refl; joint-taken = refl; small-inputs = refl; short-for-one = refl; short-for-two = refl; enough-for-two = refl; deadline-taken = refl; short-for-window = refl; short-for-windows = refl; room = refl; no-room = refl }

@@ -1,8 +1,9 @@
--- Vectors of compile: its result, the image buffer and the reply, byte for byte. Document 01, "Calls" and "Replies that refuse"; document 02, "Duties with a deadline".
+-- Vectors of compile: its result, the image buffer and the reply, byte for byte. Document 01, "Calls" and "Replies that refuse"; document 02, "Duties with a deadline" and
+-- "Duties that both parties own".
 use Prim.Native.Nat.{ℕ}
 use mathlib.Core.List.{List, [], _∷_, _++_, map}
 use mathlib.Core.Path.{_≡_}
-use lib.ListN.{replicate}
+use lib.ListN.{take, replicate}
 use Rattle.records.specs.Replies.{After}
 use Rattle.records.specs.Examples.{area, head, leaves}
 use Rattle.reader.specs.Examples.{six, sixWith, dutyBytes, repeatBytes, whenBytes, anyBytes, starBytes, joined}
@@ -27,6 +28,13 @@ dutyImage =
     ∷ 0x54 ∷ 0x52 ∷ 3 ∷ 0 ∷ 4 ∷ 0 ∷ 0 ∷ 0
     ∷ 0x54 ∷ 0x52 ∷ 4 ∷ 0 ∷ 5 ∷ 0 ∷ 9 ∷ 0
     ∷ 0x54 ∷ 0x45 ∷ 6 ∷ 0 ∷ 8 ∷ 0 ∷ 10 ∷ 0 ∷ []
+
+-- the image of a duty that both parties own: it differs in the last row
+abbrev pub jointImage : List ℕ
+jointImage =
+    take 80 dutyImage
+    ++ (0x54 ∷ 0x52 ∷ 4 ∷ 0 ∷ 1 ∷ 0 ∷ 9 ∷ 0
+    ∷ 0x54 ∷ 0x45 ∷ 6 ∷ 0 ∷ 8 ∷ 0 ∷ 10 ∷ 0 ∷ [])
 
 -- the image of a deadline of party 1 with window 2: eighteen rows and the end record
 abbrev pub deadlineImage : List ℕ
@@ -54,13 +62,14 @@ deadlineImage =
 pub record CompileVectors : Type 0 where
   -- "A buffer of 776 bytes takes one record"; the bytes beyond the image "keep their old values"
   pub taken : compile dutyBytes (area 776) (area 17) ≡ leaves (dutyImage ++ area 680) (head 0 11 0)
+  pub joint-taken : compile (six 1 3 0) (area 776) (area 17) ≡ leaves (jointImage ++ area 680) (head 0 11 0)
   -- the table's small inputs, 1 to 8: "every other field is 0 and every lent buffer but the reply's area is unchanged"
   pub small-inputs :
       map refusal
       ((0x54 ∷ 0x43 ∷ 0x01 ∷ 0x01 ∷ 0x00 ∷ [])
       ∷ (0x54 ∷ 0x44 ∷ 0x01 ∷ 0x01 ∷ 0x00 ∷ 0x00 ∷ [])
       ∷ six 11 0 0
-      ∷ six 1 3 0
+      ∷ six 1 4 0
       ∷ repeatBytes
       ∷ anyBytes
       ∷ joined (anyBytes ∷ starBytes ∷ dutyBytes ∷ whenBytes ∷ [])

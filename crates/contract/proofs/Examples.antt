@@ -4,9 +4,9 @@ use Rattle.periods.specs.Periods.{tries, succeeds, bit}
 use Rattle.contract.specs.Expressions.{holds, splits, joins, member, begins, holdsEmpty}
 use Rattle.contract.specs.Readings.{readingTo, reading}
 use Rattle.contract.specs.Meaning.{repeatMeaning, firstSuccess, meaning}
-use Rattle.contract.specs.Examples.{WorkedExamples, StudentExamples, ExpressionExamples, ClauseExamples, VerdictExamples, DeadlineExamples}
+use Rattle.contract.specs.Examples.{WorkedExamples, StudentExamples, ExpressionExamples, ClauseExamples, VerdictExamples, DeadlineExamples, JointExamples}
 
-pub examples : WorkedExamples × StudentExamples × ExpressionExamples × ClauseExamples × VerdictExamples × DeadlineExamples
+pub examples : WorkedExamples × StudentExamples × ExpressionExamples × ClauseExamples × VerdictExamples × DeadlineExamples × JointExamples
 unfolding meaning repeatMeaning firstSuccess reading readingTo member begins holdsEmpty splits joins holds tries succeeds bit
 examples = (
   record {
@@ -98,5 +98,20 @@ examples = (
     begun-later = refl;
     accepted-in-window = refl;
     told-missed = refl;
+  },
+  record {
+    joint-blames = refl;
+    joint-action = refl;
+    joint-once = refl;
+    joint-united = refl;
+    joint-united-both = refl;
+    joint-no-later-blame = refl;
+    joint-then = refl;
+    joint-repaired = refl;
+    joint-repairs = refl;
+    joint-repeated = refl;
+    joint-when = refl;
+    joint-until = refl;
+    told-joint = refl;
   },
 )

@@ -15,7 +15,7 @@ use Rattle.records.proofs.Written.{drop-take}
 use Rattle.periods.specs.Periods.{Party, other, Period, tries}
 use Rattle.contract.specs.Expressions.{Expression, Holds}
 use Rattle.contract.specs.Readings.{Reading, pending, accepted, rejected, reading}
-use Rattle.contract.specs.Meaning.{Literal, duty, ban, power, Clause, literal, deadline, both, then, repair, repeat, when, until, Blame, bothParties, unite, Decision, undecided, satisfied, violated, literalDecision, literalMeaning, earlier, bothMeaning, later, after, thenMeaning, repairMeaning, repeatMeaning, whenMeaning, noLater, untilMeaning, meaning, EmptyFree}
+use Rattle.contract.specs.Meaning.{Parties, only, bothParties, Literal, duty, ban, power, Clause, literal, deadline, both, then, repair, repeat, when, until, unite, Decision, undecided, satisfied, violated, literalDecision, firstParty, literalMeaning, earlier, bothMeaning, later, after, thenMeaning, repairMeaning, repeatMeaning, whenMeaning, noLater, untilMeaning, meaning, EmptyFree}
 use Rattle.contract.specs.Verdicts.{decisionPeriod}
 use Rattle.contract.proofs.Expressions.{some-list}
 use Rattle.contract.proofs.Windows.{deadline-none, deadline-one, deadline-more}
@@ -33,16 +33,20 @@ Within n undecided = Unit {0}
 Within n (satisfied k) = (1 ≤ k) × (k ≤ n)
 Within n (violated k b) = (1 ≤ k) × (k ≤ n)
 
-within-literal : (l : Literal) (p : Party) (s t : Bool) (n : ℕ) → Within (suc n) (literalDecision l p s t)
-within-literal duty p true true n = omega arith
-within-literal duty p true false n = omega arith
-within-literal duty p false t n = omega arith
-within-literal ban p true true n = omega arith
-within-literal ban p true false n = omega arith
-within-literal ban p false t n = omega arith
-within-literal power p true true n = omega arith
-within-literal power p true false n = omega arith
-within-literal power p false t n = omega arith
+within-literal : (l : Literal) (s t : Bool) (n : ℕ) → Within (suc n) (literalDecision l s t)
+within-literal (duty (only p)) true true n = omega arith
+within-literal (duty (only p)) true false n = omega arith
+within-literal (duty (only p)) false t n = omega arith
+within-literal (duty bothParties) true true n = omega arith
+within-literal (duty bothParties) true false n = omega arith
+within-literal (duty bothParties) false true n = omega arith
+within-literal (duty bothParties) false false n = omega arith
+within-literal (ban p) true true n = omega arith
+within-literal (ban p) true false n = omega arith
+within-literal (ban p) false t n = omega arith
+within-literal (power p) true true n = omega arith
+within-literal (power p) true false n = omega arith
+within-literal (power p) false t n = omega arith
 
 within-cond : (n : ℕ) (t : Bool) (a b : Decision) → Within n a → Within n b → Within n (cond t a b)
 within-cond n true a b p q = p
@@ -122,24 +126,24 @@ within-repeat m bounded zero w = tt
 within-repeat m bounded (suc f) w =
     within-then (length w) (m w) (after (repeatMeaning m f) w) (bounded w) (within-after (repeatMeaning m f) (within-repeat m bounded f) w)
 
-within-first : (l : Literal) (p : Party) (a : ℕ) (w : List Period) → Within (length w) (meaning (literal l p a) w)
+within-first : (l : Literal) (a : ℕ) (w : List Period) → Within (length w) (meaning (literal l a) w)
 unfolding meaning
-within-first l p a [] = tt
-within-first l p a (x ∷ w) = within-literal l p (tries x p a) (tries x (other p) a) (length w)
+within-first l a [] = tt
+within-first l a (x ∷ w) = within-literal l (tries x (firstParty l) a) (tries x (other (firstParty l)) a) (length w)
 
 within-deadline : (p : Party) (a d : ℕ) (w : List Period) → Within (length w) (meaning (deadline p a d) w)
 unfolding meaning
-within-deadline p a zero w = rw (deadline-none p a w) (within-first duty p a w)
-within-deadline p a (suc zero) w = rw (deadline-one p a w) (within-first duty p a w)
+within-deadline p a zero w = rw (deadline-none p a w) (within-first (duty (only p)) a w)
+within-deadline p a (suc zero) w = rw (deadline-one p a w) (within-first (duty (only p)) a w)
 within-deadline p a (suc (suc n)) w =
     rw (deadline-more p a n w)
-    (within-repair (length w) (meaning (literal duty p a) w) (after (meaning (deadline p a (suc n))) w) (within-first duty p a w)
+    (within-repair (length w) (meaning (literal (duty (only p)) a) w) (after (meaning (deadline p a (suc n))) w) (within-first (duty (only p)) a w)
     (within-after (meaning (deadline p a (suc n))) (within-deadline p a (suc n)) w))
 
 -- the deciding period lies between 1 and the length
 pub decision-within : (c : Clause) → EmptyFree c → (w : List Period) → Within (length w) (meaning c w)
 unfolding meaning EmptyFree
-decision-within (literal l p a) g w = within-first l p a w
+decision-within (literal l a) g w = within-first l a w
 decision-within (deadline p a d) g w = within-deadline p a d w
 decision-within (both l r) g w = within-both (length w) (meaning l w) (meaning r w) (decision-within l (g .0) w) (decision-within r (g .1) w)
 decision-within (then l r) g w =
@@ -176,12 +180,12 @@ within-period n (satisfied k) p = p .1
 within-period n (violated k b) p = p .1
 
 -- of two violations, the one that comes first
-pub data Order (j k : ℕ) (b c : Blame) : Decision → Type 0 where
+pub data Order (j k : ℕ) (b c : Parties) : Decision → Type 0 where
   left-first : j < k → Order j k b c (violated j b)
   right-first : k < j → Order j k b c (violated k c)
   together : j ≡ k → Order j k b c (violated j (unite b c))
 
-pub order : (j k : ℕ) (b c : Blame) → Order j k b c (earlier j b k c)
+pub order : (j k : ℕ) (b c : Parties) → Order j k b c (earlier j b k c)
 order j k b c = go (lt-or-le j k) (lt-or-le k j)
   where
     go : (j < k) ⊎ (k ≤ j) → (k < j) ⊎ (j ≤ k) → Order j k b c (earlier j b k c)
@@ -189,7 +193,7 @@ order j k b c = go (lt-or-le j k) (lt-or-le k j)
     go (inr l) (inl m) = rw (le-ltb j k l, lt-ltb k j m) (right-first m)
     go (inr l) (inr m) = rw (le-ltb j k l, le-ltb k j m) (together (omega arith))
 
-by-violations : (n j k : ℕ) (b c : Blame) {d : Decision} → Order j k b c d → (n < j) ⊎ (j ≤ n) → (n < k) ⊎ (k ≤ n)
+by-violations : (n j k : ℕ) (b c : Parties) {d : Decision} → Order j k b c d → (n < j) ⊎ (j ≤ n) → (n < k) ⊎ (k ≤ n)
     → bothMeaning (decidedBy n (violated j b)) (decidedBy n (violated k c)) ≡ decidedBy n d
 by-violations n j k b c (left-first l) (inl p) q = rw (lt-ltb n j p, lt-ltb n k (omega arith))
 by-violations n j k b c (left-first l) (inr p) (inl q) = rw (le-ltb n j p, lt-ltb n k q)
@@ -209,14 +213,14 @@ by-satisfactions n j k (inr p) (inl q) = rw (le-ltb n j p, lt-ltb n k q) (sym (n
 by-satisfactions n j k (inr p) (inr q) = rw (le-ltb n j p, le-ltb n k q) (sym (by-now n (bothMeaning (satisfied j) (satisfied k)) (omega arith)))
 
 -- beside a violation a satisfied half says nothing, whether either has been decided or not
-by-left : (t u : Bool) (j k : ℕ) (b : Blame)
+by-left : (t u : Bool) (j k : ℕ) (b : Parties)
     → bothMeaning (cond t undecided (violated j b)) (cond u undecided (satisfied k)) ≡ cond t undecided (violated j b)
 by-left true true j k b = refl
 by-left true false j k b = refl
 by-left false true j k b = refl
 by-left false false j k b = refl
 
-by-right : (t u : Bool) (j k : ℕ) (c : Blame)
+by-right : (t u : Bool) (j k : ℕ) (c : Parties)
     → bothMeaning (cond t undecided (satisfied j)) (cond u undecided (violated k c)) ≡ cond u undecided (violated k c)
 by-right true true j k c = refl
 by-right true false j k c = refl
@@ -348,29 +352,30 @@ module _ (m : List Period → Decision) (bounded : (w : List Period) → Within 
   by-repeat (suc f) (suc g) n w p q =
       by-turn f g n w (λ k e h. let u = used f g n k w e h p q in by-repeat f g (n - k) (drop k w) (u .0) (u .1))
 
-literal-by-now : (l : Literal) (p : Party) (s t : Bool) (n : ℕ) → literalDecision l p s t ≡ decidedBy (suc n) (literalDecision l p s t)
-literal-by-now l p s t n = sym (by-now (suc n) (literalDecision l p s t) (within-period (suc n) (literalDecision l p s t) (within-literal l p s t n)))
+literal-by-now : (l : Literal) (s t : Bool) (n : ℕ) → literalDecision l s t ≡ decidedBy (suc n) (literalDecision l s t)
+literal-by-now l s t n = sym (by-now (suc n) (literalDecision l s t) (within-period (suc n) (literalDecision l s t) (within-literal l s t n)))
 
-stable-literal : (l : Literal) (p : Party) (a : ℕ) → Stable (meaning (literal l p a))
+stable-literal : (l : Literal) (a : ℕ) → Stable (meaning (literal l a))
 unfolding meaning
-stable-literal l p a zero [] = refl
-stable-literal l p a zero (x ∷ w) = sym (not-at-start 1 (literalMeaning l p a (x ∷ w)) (within-literal l p (tries x p a) (tries x (other p) a) 0))
-stable-literal l p a (suc n) [] = refl
-stable-literal l p a (suc n) (x ∷ w) = literal-by-now l p (tries x p a) (tries x (other p) a) n
+stable-literal l a zero [] = refl
+stable-literal l a zero (x ∷ w) =
+    sym (not-at-start 1 (literalMeaning l a (x ∷ w)) (within-literal l (tries x (firstParty l) a) (tries x (other (firstParty l)) a) 0))
+stable-literal l a (suc n) [] = refl
+stable-literal l a (suc n) (x ∷ w) = literal-by-now l (tries x (firstParty l) a) (tries x (other (firstParty l)) a) n
 
 stable-deadline : (p : Party) (a d : ℕ) → Stable (meaning (deadline p a d))
 unfolding meaning
-stable-deadline p a zero n w = rw (deadline-none p a w, deadline-none p a (take n w)) (stable-literal duty p a n w)
-stable-deadline p a (suc zero) n w = rw (deadline-one p a w, deadline-one p a (take n w)) (stable-literal duty p a n w)
+stable-deadline p a zero n w = rw (deadline-none p a w, deadline-none p a (take n w)) (stable-literal (duty (only p)) a n w)
+stable-deadline p a (suc zero) n w = rw (deadline-one p a w, deadline-one p a (take n w)) (stable-literal (duty (only p)) a n w)
 stable-deadline p a (suc (suc d)) n w =
-    rw (deadline-more p a d w, deadline-more p a d (take n w), stable-literal duty p a n w)
-    (by-repair (meaning (deadline p a (suc d))) (meaning (deadline p a (suc d))) n w (meaning (literal duty p a) w)
+    rw (deadline-more p a d w, deadline-more p a d (take n w), stable-literal (duty (only p)) a n w)
+    (by-repair (meaning (deadline p a (suc d))) (meaning (deadline p a (suc d))) n w (meaning (literal (duty (only p)) a) w)
     (λ k h. stable-deadline p a (suc d) (n - k) (drop k w)))
 
 -- what a clause means on the first n periods is what it has decided by period n
 pub stable : (c : Clause) → EmptyFree c → Stable (meaning c)
 unfolding meaning EmptyFree
-stable (literal l p a) g n w = stable-literal l p a n w
+stable (literal l a) g n w = stable-literal l a n w
 stable (deadline p a d) g n w = stable-deadline p a d n w
 stable (both l r) g n w = rw (stable l (g .0) n w, stable r (g .1) n w) (by-both n (meaning l w) (meaning r w))
 stable (then l r) g n w =

@@ -6,7 +6,7 @@ use mathlib.Core.List.{List, [], _∷_}
 use mathlib.Core.Path.{_≡_, refl, ap, _∙_}
 use lib.ListN.{take, drop}
 use Rattle.periods.specs.Periods.{Party, party1, party2, other, Period, tries, succeeds}
-use Rattle.contract.specs.Meaning.{duty, Clause, literal, deadline, repair, Decision, undecided, satisfied, violated, literalDecision, later, firstSuccess, orElse, repairMeaning, meaning}
+use Rattle.contract.specs.Meaning.{only, duty, Clause, literal, deadline, repair, Decision, undecided, satisfied, violated, literalDecision, later, firstSuccess, orElse, repairMeaning, meaning}
 
 -- an action succeeds when its party tries it and the other does
 pub by-party : (p : Party) (x : Period) (a : ℕ) → succeeds x a ≡ (tries x p a && tries x (other p) a)
@@ -36,49 +36,49 @@ repair-same (violated k b) e = e k
 
 module _ (p : Party) (a : ℕ) where
   -- a window of no period, which no record has, is read as one of a single period
-  pub deadline-none : (w : List Period) → meaning (deadline p a 0) w ≡ meaning (literal duty p a) w
+  pub deadline-none : (w : List Period) → meaning (deadline p a 0) w ≡ meaning (literal (duty (only p)) a) w
   unfolding meaning firstSuccess
-  deadline-none w = later-none (meaning (literal duty p a) w)
+  deadline-none w = later-none (meaning (literal (duty (only p)) a) w)
 
-  pub deadline-one : (w : List Period) → meaning (deadline p a 1) w ≡ meaning (literal duty p a) w
+  pub deadline-one : (w : List Period) → meaning (deadline p a 1) w ≡ meaning (literal (duty (only p)) a) w
   unfolding meaning firstSuccess
   deadline-one [] = refl
   deadline-one (x ∷ w) = rw (by-party p x a) (go (tries x p a) (tries x (other p) a))
     where
       go : (s t : Bool)
-          → orElse (cond (s && t) (satisfied 1) undecided) (later 0 (literalDecision duty p s t)) ≡ literalDecision duty p s t
+          → orElse (cond (s && t) (satisfied 1) undecided) (later 0 (literalDecision (duty (only p)) s t)) ≡ literalDecision (duty (only p)) s t
       go true true = refl
       go true false = refl
       go false t = refl
 
   -- one period more: a duty, repaired by the deadline of the others
-  pub deadline-more : (n : ℕ) (w : List Period) → meaning (deadline p a (suc (suc n))) w ≡ meaning (repair (literal duty p a) (deadline p a (suc n))) w
+  pub deadline-more : (n : ℕ) (w : List Period) → meaning (deadline p a (suc (suc n))) w ≡ meaning (repair (literal (duty (only p)) a) (deadline p a (suc n))) w
   unfolding meaning firstSuccess
   deadline-more n [] = let e : suc (suc n) - 1 ≡ suc n = omega arith in rw e refl
   deadline-more n (x ∷ w) =
       let e : suc (suc n) - 1 ≡ suc n = omega arith in
       let i : suc n - 1 ≡ n = omega arith in
-      rw (e, i, by-party p x a, later-suc n (meaning (literal duty p a) (drop n w))) (go (tries x p a) (tries x (other p) a))
+      rw (e, i, by-party p x a, later-suc n (meaning (literal (duty (only p)) a) (drop n w))) (go (tries x p a) (tries x (other p) a))
     where
       success : Decision
       success = firstSuccess a (take (suc n) w)
 
       last : Decision
-      last = later n (meaning (literal duty p a) (drop n w))
+      last = later n (meaning (literal (duty (only p)) a) (drop n w))
 
       go : (s t : Bool)
           → orElse (cond (s && t) (satisfied 1) (later 1 success)) (later 1 last)
-          ≡ repairMeaning (literalDecision duty p s t) (λ k. later k (orElse (firstSuccess a (take (suc n) (drop k (x ∷ w)))) (later n (meaning (literal duty p a) (drop n (drop k (x ∷ w)))))))
+          ≡ repairMeaning (literalDecision (duty (only p)) s t) (λ k. later k (orElse (firstSuccess a (take (suc n) (drop k (x ∷ w)))) (later n (meaning (literal (duty (only p)) a) (drop n (drop k (x ∷ w)))))))
       go true true = refl
       go true false = or-else-later 1 success last
       go false t = or-else-later 1 success last
 
   -- d duties nested by repair: n of them and the last
   abbrev pub nestedDuties : (n : ℕ) → Clause
-  nestedDuties zero = literal duty p a
-  nestedDuties (suc n) = repair (literal duty p a) (nestedDuties n)
+  nestedDuties zero = literal (duty (only p)) a
+  nestedDuties (suc n) = repair (literal (duty (only p)) a) (nestedDuties n)
 
   pub deadline-nested : (n : ℕ) (w : List Period) → meaning (deadline p a (suc n)) w ≡ meaning (nestedDuties n) w
   unfolding meaning
   deadline-nested zero w = deadline-one w
-  deadline-nested (suc n) w = deadline-more n w ∙ repair-same (meaning (literal duty p a) w) (λ k. ap (later k) (deadline-nested n (drop k w)))
+  deadline-nested (suc n) w = deadline-more n w ∙ repair-same (meaning (literal (duty (only p)) a) w) (λ k. ap (later k) (deadline-nested n (drop k w)))

@@ -1,4 +1,5 @@
--- The worked examples. Document 01, "Contracts and examples", "What students hand in" and "Watch"; of deadlines document 02, "Duties with a deadline".
+-- The worked examples. Document 01, "Contracts and examples", "What students hand in" and "Watch"; of deadlines and of joint duties document 02,
+-- "Duties with a deadline" and "Duties that both parties own".
 use Prim.Native.Nat.{ℕ}
 use Prim.Native.String.{String}
 use mathlib.Core.Bool.{true, false}
@@ -21,13 +22,17 @@ b = 1
 
 -- kinds 1 to 3 by name
 abbrev pub duty : Party → ℕ → Clause
-duty p n = literal Literal.duty p n
+duty p n = literal (Literal.duty (only p)) n
+
+-- a duty that both parties own
+abbrev pub joint : ℕ → Clause
+joint n = literal (Literal.duty bothParties) n
 
 abbrev pub ban : Party → ℕ → Clause
-ban p n = literal Literal.ban p n
+ban p n = literal (Literal.ban p) n
 
 abbrev pub power : Party → ℕ → Clause
-power p n = literal Literal.power p n
+power p n = literal (Literal.power p) n
 
 -- one period, as its masks: bit 0 is set when the party tries a, bit 1 when it tries b
 abbrev pub one-period : (one two : ℕ) → Period
@@ -288,3 +293,53 @@ pub record DeadlineExamples : Type 0 where
   pub told-missed :
       map (told (deadline party1 a 2) (a/- ∷ -/- ∷ a/a ∷ [])) (0 ∷ 1 ∷ 2 ∷ 3 ∷ [])
       ≡ ("open", 0, 0, 0) ∷ ("open", 0, 0, 0) ∷ ("broken", 2, 1, 2) ∷ ("broken-after", 4, 1, 2) ∷ []
+
+-- document 02, "Duties that both parties own"; what a wrong reading would give stands in brackets
+pub record JointExamples : Type 0 where
+  -- "It is satisfied when both try; otherwise the blame is on each party that didn't try, so -/- blames both." (1 for -/-, as party 1's duty)
+  pub joint-blames :
+      meanings (joint a) ≡ satisfied 1 ∷ violated 1 (only party2) ∷ violated 1 (only party1) ∷ violated 1 bothParties ∷ []
+  -- open on no period; another action does not count
+  pub joint-action : map (meaning (joint a)) ([] ∷ (b/b ∷ []) ∷ (b/a ∷ []) ∷ []) ≡ undecided ∷ violated 1 bothParties ∷ violated 1 (only party1) ∷ []
+  -- period 1 alone counts (satisfied at 2; violated at 2; both to blame)
+  pub joint-once :
+      map (meaning (joint a)) ((-/- ∷ a/a ∷ []) ∷ (a/a ∷ -/- ∷ []) ∷ (a/- ∷ -/a ∷ []) ∷ [])
+      ≡ violated 1 bothParties ∷ satisfied 1 ∷ violated 1 (only party2) ∷ []
+  -- "Clauses above it treat that blame as any other": both unites it with the other half's in the same period
+  pub joint-united :
+      map (λ c. meaning c (b/a ∷ [])) (both (joint a) (power party1 b) ∷ both (power party1 b) (joint a) ∷ both (joint a) (duty party2 a) ∷ [])
+      ≡ violated 1 bothParties ∷ violated 1 bothParties ∷ violated 1 (only party1) ∷ []
+  pub joint-united-both :
+      map (λ c. meaning c (-/- ∷ [])) (both (joint a) (duty party1 b) ∷ both (duty party2 b) (joint a) ∷ both (joint a) (joint b) ∷ [])
+      ≡ replicate 3 (violated 1 bothParties)
+  -- and adds nothing of a later period, be it the other half's or its own (blame 3)
+  pub joint-no-later-blame :
+      map (λ c. meaning c (-/a ∷ -/- ∷ [])) (both (joint a) (then (duty party2 a) (duty party2 b)) ∷ both (duty party1 a) (then (ban party1 a) (joint a)) ∷ [])
+      ≡ violated 1 (only party1) ∷ violated 1 (only party1) ∷ []
+  -- then: its violation is the whole's; its satisfaction begins the right in period 2
+  pub joint-then :
+      map (meaning (then (joint a) (joint b))) ((-/- ∷ b/b ∷ []) ∷ (a/a ∷ b/b ∷ []) ∷ (a/a ∷ -/- ∷ []) ∷ (a/a ∷ b/- ∷ []) ∷ [])
+      ≡ violated 1 bothParties ∷ satisfied 2 ∷ violated 2 bothParties ∷ violated 2 (only party2) ∷ []
+  -- repair: the right's blame alone counts (3, by the left; 1, by the left)
+  pub joint-repaired :
+      map (meaning (repair (joint a) (duty party2 b))) ((a/a ∷ []) ∷ (-/- ∷ []) ∷ (-/- ∷ b/b ∷ []) ∷ (-/- ∷ -/- ∷ []) ∷ [])
+      ≡ satisfied 1 ∷ undecided ∷ satisfied 2 ∷ violated 2 (only party2) ∷ []
+  pub joint-repairs :
+      map (meaning (repair (duty party1 b) (joint a))) ((-/- ∷ a/a ∷ []) ∷ (-/- ∷ a/- ∷ []) ∷ (-/- ∷ -/- ∷ []) ∷ [])
+      ≡ satisfied 2 ∷ violated 2 (only party2) ∷ violated 2 bothParties ∷ []
+  -- repeat: its first violation is the whole's (blame 3, with that of period 3)
+  pub joint-repeated :
+      map (meaning (repeat (joint a))) ((a/a ∷ a/a ∷ []) ∷ (a/a ∷ -/- ∷ []) ∷ (a/a ∷ a/- ∷ -/a ∷ []) ∷ [])
+      ≡ undecided ∷ violated 2 bothParties ∷ violated 2 (only party2) ∷ []
+  -- when: begun in the period after acceptance
+  pub joint-when :
+      map (meaning (when tries-a (joint a))) ((-/- ∷ []) ∷ (a/- ∷ []) ∷ (a/- ∷ a/a ∷ []) ∷ (a/a ∷ -/- ∷ []) ∷ [])
+      ≡ satisfied 1 ∷ undecided ∷ satisfied 2 ∷ violated 2 bothParties ∷ []
+  -- until: acceptance in the same period does not undo its violation (satisfied at 1 or 2)
+  pub joint-until :
+      map (meaning (until (repeat (joint a)) (seq any* tries-b))) ((b/- ∷ []) ∷ (a/a ∷ b/- ∷ []) ∷ (a/a ∷ b/a ∷ []) ∷ (a/a ∷ ab/a ∷ -/- ∷ []) ∷ [])
+      ≡ violated 1 bothParties ∷ violated 2 bothParties ∷ violated 2 (only party1) ∷ satisfied 2 ∷ []
+  -- what is told of it
+  pub told-joint :
+      map (told (joint a) (-/- ∷ a/a ∷ [])) (0 ∷ 1 ∷ 2 ∷ [])
+      ≡ ("open", 0, 0, 0) ∷ ("broken", 2, 3, 1) ∷ ("broken-after", 4, 3, 1) ∷ []

@@ -1,21 +1,32 @@
 -- Clauses, their decisions and blame, and what a clause means on a list of periods.
--- Document 01, "Meaning of clauses"; of kind 10 document 02, "Duties with a deadline".
+-- Document 01, "Meaning of clauses"; of kind 10 document 02, "Duties with a deadline"; of a duty's owner document 02, "Duties that both parties own".
 use Prim.Native.Nat.{ℕ, zero, suc, _+_, _-_, max}
 use mathlib.Core.Bool.{Bool, true, false, cond}
 use mathlib.Core.List.{List, [], _∷_}
 use lib.Dec.{leb, ltb}
 use lib.ListN.{length, take, drop}
-use Rattle.periods.specs.Periods.{Party, party1, party2, other, Period, tries, succeeds}
+use Rattle.periods.specs.Periods.{Party, party1, party2, partyNumber, other, Period, tries, succeeds}
 use Rattle.contract.specs.Expressions.{Expression, Holds}
 use Rattle.contract.specs.Readings.{Reading, pending, accepted, rejected, reading}
 
--- kinds 1 to 3
+-- one party or both: who owns a duty, and whom a violation blames
+pub data Parties : Type 0 where
+  only : Party → Parties
+  bothParties : Parties
+
+-- "1, 2, or 3 for both parties"
+abbrev pub partiesNumber : Parties → ℕ
+partiesNumber (only p) = partyNumber p
+partiesNumber bothParties = 3
+
+-- kinds 1 to 3; a duty has an owner
 pub data Literal : Type 0 where
-  duty ban power : Literal
+  duty : (owner : Parties) → Literal
+  ban power : Party → Literal
 
 -- kinds 1 to 10; a deadline has a party, an action and a window
 pub data Clause : Type 0 where
-  literal : Literal → Party → ℕ → Clause
+  literal : Literal → (action : ℕ) → Clause
   deadline : Party → (action window : ℕ) → Clause
   both : Clause → Clause → Clause
   then : Clause → Clause → Clause
@@ -24,13 +35,8 @@ pub data Clause : Type 0 where
   when : Expression → Clause → Clause
   until : Clause → Expression → Clause
 
--- the parties that a violation blames
-pub data Blame : Type 0 where
-  only : Party → Blame
-  bothParties : Blame
-
 -- the two blames united
-abbrev pub unite : Blame → Blame → Blame
+abbrev pub unite : Parties → Parties → Parties
 unite (only party1) (only party1) = only party1
 unite (only party1) (only party2) = bothParties
 unite (only party2) (only party1) = bothParties
@@ -42,30 +48,43 @@ unite bothParties b = bothParties
 pub data Decision : Type 0 where
   undecided : Decision
   satisfied : ℕ → Decision
-  violated : ℕ → Blame → Decision
+  violated : ℕ → (blame : Parties) → Decision
 
--- "Duty, ban and power decide at period 1." Whether p tries and whether q tries are the two tests.
+-- "Duty, ban and power decide at period 1." Whether p tries and whether q tries are the two tests; where both parties own a duty, whether party 1
+-- tries and whether party 2 tries.
 -- Duty: satisfied if both try; blame p if p doesn't try, otherwise q.
+-- Duty of both parties: satisfied when both try; otherwise the blame is on each party that didn't try.
 -- Ban: violated if both try, blame p.
 -- Power: violated if p tries and q doesn't, blame q.
-abbrev pub literalDecision : Literal → Party → Bool → Bool → Decision
-literalDecision duty p true true = satisfied 1
-literalDecision duty p true false = violated 1 (only (other p))
-literalDecision duty p false q = violated 1 (only p)
-literalDecision ban p true true = violated 1 (only p)
-literalDecision ban p true false = satisfied 1
-literalDecision ban p false q = satisfied 1
-literalDecision power p true true = satisfied 1
-literalDecision power p true false = violated 1 (only (other p))
-literalDecision power p false q = satisfied 1
+abbrev pub literalDecision : Literal → Bool → Bool → Decision
+literalDecision (duty (only p)) true true = satisfied 1
+literalDecision (duty (only p)) true false = violated 1 (only (other p))
+literalDecision (duty (only p)) false q = violated 1 (only p)
+literalDecision (duty bothParties) true true = satisfied 1
+literalDecision (duty bothParties) true false = violated 1 (only party2)
+literalDecision (duty bothParties) false true = violated 1 (only party1)
+literalDecision (duty bothParties) false false = violated 1 bothParties
+literalDecision (ban p) true true = violated 1 (only p)
+literalDecision (ban p) true false = satisfied 1
+literalDecision (ban p) false q = satisfied 1
+literalDecision (power p) true true = satisfied 1
+literalDecision (power p) true false = violated 1 (only (other p))
+literalDecision (power p) false q = satisfied 1
+
+-- the party that is tested first: p, and party 1 where both own a duty
+abbrev pub firstParty : Literal → Party
+firstParty (duty (only p)) = p
+firstParty (duty bothParties) = party1
+firstParty (ban p) = p
+firstParty (power p) = p
 
 -- a literal looks at the first period
-abbrev pub literalMeaning : Literal → Party → ℕ → List Period → Decision
-literalMeaning l p a [] = undecided
-literalMeaning l p a (x ∷ w) = literalDecision l p (tries x p a) (tries x (other p) a)
+abbrev pub literalMeaning : Literal → (action : ℕ) → List Period → Decision
+literalMeaning l a [] = undecided
+literalMeaning l a (x ∷ w) = literalDecision l (tries x (firstParty l) a) (tries x (other (firstParty l)) a)
 
 -- the earlier of two violations, with that one's blame; the two blames are united if they fall in the same period
-abbrev pub earlier : ℕ → Blame → ℕ → Blame → Decision
+abbrev pub earlier : ℕ → Parties → ℕ → Parties → Decision
 earlier j b k c = cond (ltb j k) (violated j b) (cond (ltb k j) (violated k c) (violated j (unite b c)))
 
 -- Both: violated at the earlier violation; otherwise satisfied when the later half is satisfied.
@@ -141,11 +160,11 @@ orElse (violated k b) d = violated k b
 -- Deadline: satisfied in the first of its d periods in which both try. If none of them succeeds it is violated at the d-th, with a plain duty's blame
 -- for that period: as a plain duty decides that reads from period d.
 abbrev pub deadlineMeaning : Party → (action window : ℕ) → List Period → Decision
-deadlineMeaning p a d w = orElse (firstSuccess a (take d w)) (after (literalMeaning duty p a) w (d - 1))
+deadlineMeaning p a d w = orElse (firstSuccess a (take d w)) (after (literalMeaning (duty (only p)) a) w (d - 1))
 
 -- what a clause means on a list of periods
 unfoldable pub meaning : Clause → List Period → Decision
-meaning (literal l p a) w = literalMeaning l p a w
+meaning (literal l a) w = literalMeaning l a w
 meaning (deadline p a d) w = deadlineMeaning p a d w
 meaning (both l r) w = bothMeaning (meaning l w) (meaning r w)
 meaning (then l r) w = thenMeaning (meaning l w) (after (meaning r) w)
@@ -156,7 +175,7 @@ meaning (until c e) w = untilMeaning (meaning c w) (reading e w)
 
 -- "An expression under `when` or `until` must not hold the empty list." (Document 01, "Expressions")
 unfoldable pub EmptyFree : Clause → Type 0
-EmptyFree (literal l p a) = Unit {0}
+EmptyFree (literal l a) = Unit {0}
 EmptyFree (deadline p a d) = Unit {0}
 EmptyFree (both l r) = EmptyFree l × EmptyFree r
 EmptyFree (then l r) = EmptyFree l × EmptyFree r

@@ -5,8 +5,8 @@ use mathlib.Core.Logic.{_⊎_}
 use mathlib.Core.Path.{_≡_}
 use lib.ListN.{length, take}
 use Rattle.records.specs.Verdicts.{Verdict, «open», met, broken, met-after, broken-after, since}
-use Rattle.periods.specs.Periods.{partyNumber, Period}
-use Rattle.contract.specs.Meaning.{Clause, Blame, only, bothParties, Decision, undecided, satisfied, violated, meaning}
+use Rattle.periods.specs.Periods.{Period}
+use Rattle.contract.specs.Meaning.{partiesNumber, Clause, Decision, undecided, satisfied, violated, meaning}
 
 -- the decision period, 0 while undecided
 abbrev pub decisionPeriod : Decision → ℕ
@@ -14,16 +14,11 @@ decisionPeriod undecided = 0
 decisionPeriod (satisfied k) = k
 decisionPeriod (violated k b) = k
 
--- "blame: 1, 2, or 3 for both parties"
-abbrev pub blameNumber : Blame → ℕ
-blameNumber (only p) = partyNumber p
-blameNumber bothParties = 3
-
 -- blame is 0 unless the clause is violated
 abbrev pub blame : Decision → ℕ
 blame undecided = 0
 blame (satisfied k) = 0
-blame (violated k b) = blameNumber b
+blame (violated k b) = partiesNumber b
 
 -- after n periods: open while undecided; met or broken when n is the decision period; met-after or broken-after later
 abbrev pub verdict : Decision → ℕ → Verdict

@@ -14,9 +14,9 @@ use Rattle.contract.specs.Expressions.{Expression, atom, holdsEmpty}
 use Rattle.contract.specs.Meaning as M
 use Rattle.contract.specs.Meaning.{Clause}
 use Rattle.reader.specs.Table.{Sort, clause, expression, Kind, duty, ban, power, both, then, repair, repeat, when, until, deadline, any, tries, idle, succeeds, fails, seq, or, star, line}
-use Rattle.reader.specs.Trees.{Tree, Trees, Fields, partyNamed, node}
+use Rattle.reader.specs.Trees.{Tree, Trees, Fields, partyNamed, ownerNamed, node}
 use Rattle.reader.specs.Codes.{completed}
-use Rattle.reader.specs.Spelling.{treeRecords}
+use Rattle.reader.specs.Spelling.{literalRecord, treeRecords}
 use Rattle.reader.proofs.Codes.{is-empty}
 use Rattle.reader.proofs.Fields.{recordOf}
 use Rattle.image.specs.Widths.{width, laterPeriods, neverRow, _⊹_, inside, afterExpression, afterClause}
@@ -27,6 +27,7 @@ use Rattle.emitter.specs.declared.Wires.{Wires}
 use Rattle.emitter.specs.Rows.{RowNumbers, numbersOf, rowTable, tableRows}
 use Rattle.emitter.specs.Plans.{planOf}
 use Rattle.emitter.specs.Blocks.{noBlock, windowBlock, windowFrom, otherNumber, basesOf, recordBlock, wiresOf, treeRows, afterTree, blockOf}
+use Rattle.emitter.proofs.Tables.{after-is}
 
 -- ---- rows and what follows them
 
@@ -48,9 +49,10 @@ window-onto (suc n) g e m c xs rest = rw (← window-onto n)
 
 clause-onto : (c : Clause) (b S K : ℕ) (xs rest : List Row) → clauseRows c b S K (xs ++ rest) ≡ clauseRows c b S K xs ++ rest
 unfolding clauseRows
-clause-onto (M.literal M.duty p a) b S K xs rest = refl
-clause-onto (M.literal M.ban p a) b S K xs rest = refl
-clause-onto (M.literal M.power p a) b S K xs rest = refl
+clause-onto (M.literal (M.duty (M.only p)) a) b S K xs rest = refl
+clause-onto (M.literal (M.duty M.bothParties) a) b S K xs rest = refl
+clause-onto (M.literal (M.ban p) a) b S K xs rest = refl
+clause-onto (M.literal (M.power p) a) b S K xs rest = refl
 clause-onto (M.deadline p a d) b S K xs rest = rw (← window-onto (d - 1))
 clause-onto (M.both l r) b S K xs rest = rw (← clause-onto r, ← clause-onto l)
 clause-onto (M.then l r) b S K xs rest = rw (← clause-onto r, ← clause-onto l)
@@ -118,7 +120,20 @@ other-number : (p : Party) → partyNumber (other p) ≡ otherNumber (partyNumbe
 other-number party1 = refl
 other-number party2 = refl
 
+-- what the bases stand for in a duty of this owner
+abbrev dutyBases : M.Parties → (a m b S K : ℕ) → List ℕ
+dutyBases o a m b S K = let w = windowBlock m 0 (inside duty b) in basesOf b S K w w (M.partiesNumber o) a
+
 -- its rows
+rows-duty : (o : M.Parties) (a m b S K : ℕ)
+    → let p = planOf (literalRecord (M.duty o) a) in
+    map numbersOf (clauseRows (M.literal (M.duty o) a) b S K [])
+    ≡ tableRows (dutyBases o a m b S K) rowTable (p .from) (p .before) ++ tableRows (dutyBases o a m b S K) rowTable (p .from + p .before) (p .after)
+unfolding clauseRows tableRows
+rows-duty (M.only party1) a m b S K = refl
+rows-duty (M.only party2) a m b S K = refl
+rows-duty M.bothParties a m b S K = refl
+
 pub rows-node : (k : Kind) (f : Fields) (ts : Trees (line k .operands)) (m b S K : ℕ)
     → let r = recordOf k f in
     let p = planOf r in
@@ -127,7 +142,7 @@ pub rows-node : (k : Kind) (f : Fields) (ts : Trees (line k .operands)) (m b S K
     ++ (map numbersOf (operandRows (laterPeriods r) (line k .operands) ts (inside k b) S (wiresOf p b S K))
     ++ tableRows (nodeBases k f ts m b S K) rowTable (p .from + p .before) (p .after))
 unfolding node windowRows clauseRows expressionRows outputsOf endRow tableRows wiresOf
-rows-node duty f ts m b S K = rw (other-number (partyNamed (f .party)))
+rows-node duty f ts m b S K = rows-duty (ownerNamed (f .party)) (f .action) m b S K
 rows-node ban f ts m b S K = rw (other-number (partyNamed (f .party)))
 rows-node power f ts m b S K = rw (other-number (partyNamed (f .party)))
 rows-node both f ts m b S K = equal-parts both refl (two (clause-onto (ts .1 .0) _ _ _ []) (clause-onto (ts .0) _ _ _ []) _)
@@ -158,7 +173,7 @@ pub after-node : (k : Kind) (f : Fields) (ts : Trees (line k .operands)) (m b S 
     → let r = recordOf k f in
     afterTree (line k .completes) (node k f ts) b ≡ leftBlock (laterPeriods r) (line k .operands) ts m (inside k b) S .next + planOf r .after
 unfolding node afterClause afterExpression
-after-node duty f ts m b S = omega arith
+after-node duty f ts m b S = omega (arith, after-is (recordOf duty f))
 after-node ban f ts m b S = omega arith
 after-node power f ts m b S = omega arith
 after-node both f ts m b S = omega arith
@@ -189,13 +204,22 @@ cond-same true x = refl
 cond-same false x = refl
 
 -- its block
+block-duty : (o : M.Parties) (a m b S K : ℕ)
+    → let w = windowBlock m 0 (inside duty b) in
+    blockOf clause (M.literal (M.duty o) a) m b S
+    ≡ recordBlock (dutyBases o a m b S K) (planOf (literalRecord (M.duty o) a)) (line duty .number) (M.partiesNumber o) w w
+unfolding afterClause outputsOf recordBlock completed
+block-duty (M.only party1) a m b S K = let n : inside duty b + 0 ≡ inside duty b = omega arith in rw n
+block-duty (M.only party2) a m b S K = let n : inside duty b + 0 ≡ inside duty b = omega arith in rw n
+block-duty M.bothParties a m b S K = let n : inside duty b + 0 ≡ inside duty b = omega arith in rw n
+
 pub block-node : (k : Kind) (f : Fields) (ts : Trees (line k .operands)) (m b S K : ℕ)
     → let r = recordOf k f in
     blockOf (line k .completes) (node k f ts) m b S
     ≡ recordBlock (nodeBases k f ts m b S K) (planOf r) (line k .number) (r .fields .party)
     (leftBlock (laterPeriods r) (line k .operands) ts m (inside k b) S) (rightBlock (laterPeriods r) (line k .operands) ts m (inside k b) (wiresOf (planOf r) b S K .start))
 unfolding node afterClause afterExpression outputsOf endRow liveRow recordBlock wiresOf completed holdsEmpty
-block-node duty f ts m b S K = rw (blaming-is (partyNamed (f .party)), ← after-node duty f ts m b S)
+block-node duty f ts m b S K = block-duty (ownerNamed (f .party)) (f .action) m b S K
 block-node ban f ts m b S K = rw (blaming-is (partyNamed (f .party)), ← after-node ban f ts m b S)
 block-node power f ts m b S K = rw (blaming-is (partyNamed (f .party)), ← after-node power f ts m b S)
 block-node both f ts m b S K = rw (← after-node both f ts m b S)

@@ -129,13 +129,19 @@ kindRows seq = previous LSAT ∷ conjunction K B ∷ disjunction (B ⊹ 1) SE �
 kindRows or = disjunction LSAT RSAT ∷ disjunction LONE RONE ∷ []
 kindRows star = previous RSAT ∷ conjunction K B ∷ disjunction (B ⊹ 1) S ∷ disjunction RONE RSAT ∷ []
 
+-- the same of a duty that both parties own
+abbrev pub jointRows : List TableRow
+jointRows =
+    attempt (ZERO ⊹ 1) ∷ attempt (ZERO ⊹ 2) ∷ conjunction S B ∷ conjunction (B ⊹ 2) (B ⊹ 1)
+    ∷ negation B ∷ conjunction S (B ⊹ 4) ∷ negation (B ⊹ 1) ∷ conjunction S (B ⊹ 6) ∷ []
+
 abbrev joined : List Kind → List TableRow
 joined [] = []
 joined (k ∷ ks) = kindRows k ++ joined ks
 
 -- the rows of the kinds without operands, and of those with operands: the program's two tables, which plans count as one
 abbrev pub leafRows : List TableRow
-leafRows = joined (duty ∷ ban ∷ power ∷ deadline ∷ any ∷ tries ∷ idle ∷ succeeds ∷ fails ∷ [])
+leafRows = joined (duty ∷ ban ∷ power ∷ deadline ∷ any ∷ tries ∷ idle ∷ succeeds ∷ fails ∷ []) ++ jointRows
 
 abbrev pub nodeRows : List TableRow
 nodeRows = joined (both ∷ then ∷ repair ∷ repeat ∷ when ∷ until ∷ seq ∷ or ∷ star ∷ [])

@@ -11,7 +11,7 @@ ghost use Rattle.reader.specs.Limits.{recordBytes};
 ghost use Rattle.reader.specs.Table.{Kind, kindOf};
 ghost use Rattle.image.specs.Blocks.{windowRows};
 ghost use Rattle.emitter.specs.Rows.{numbersOf, leafRows, nodeRows, rowTable, unpacked, valueAt, tableRows, writtenRows};
-ghost use Rattle.emitter.specs.Plans.{named, planOf};
+ghost use Rattle.emitter.specs.Plans.{planLine, named, planOf};
 ghost use Rattle.emitter.specs.Blocks.{lastRecord, recordFrom, otherNumber, basesOf, wiresOf, noBlock, windowBlock, windowFrom, recordBlock, recordWritten, Emitted};
 ghost use Rattle.emitter.specs.Premises.{RoomFrom, RoomForRows, RecordRows, PeriodRoom, WindowRoom, Emits};
 use layout::AND;
@@ -70,7 +70,7 @@ const X: u32 = 256;
 const Y: u32 = 1;
 
 // The rows of the kinds without operands.
-const LEAF_ROWS: [u32; 47] = [
+const LEAF_ROWS: [u32; 55] = [
     // duty
     KIND * ATTEMPT as u32 + X * P as u32 + Y * A as u32,
     KIND * ATTEMPT as u32 + X * Q as u32 + Y * A as u32,
@@ -126,6 +126,15 @@ const LEAF_ROWS: [u32; 47] = [
     KIND * AND as u32 + X * B as u32 + Y * (B + 1) as u32,
     KIND * NOT as u32 + X * (B + 2) as u32,
     KIND * AND as u32 + X * S as u32 + Y * (B + 3) as u32,
+    // a duty that both parties own
+    KIND * ATTEMPT as u32 + X * (ZERO + 1) as u32 + Y * A as u32,
+    KIND * ATTEMPT as u32 + X * (ZERO + 2) as u32 + Y * A as u32,
+    KIND * AND as u32 + X * S as u32 + Y * B as u32,
+    KIND * AND as u32 + X * (B + 2) as u32 + Y * (B + 1) as u32,
+    KIND * NOT as u32 + X * B as u32,
+    KIND * AND as u32 + X * S as u32 + Y * (B + 4) as u32,
+    KIND * NOT as u32 + X * (B + 1) as u32,
+    KIND * AND as u32 + X * S as u32 + Y * (B + 6) as u32,
 ];
 
 // The rows of the kinds with operands, those before their operands' rows and then those after them. A plan counts on from the first table.
@@ -207,7 +216,7 @@ const NODE_ROWS: [u32; 62] = [
 const PERIOD_ROWS: u32 = 3;
 
 // The rows of the first table.
-const LEAF_COUNT: u8 = 47;
+const LEAF_COUNT: u8 = 55;
 
 // A row of a record's own: its kind and its fields x and y.
 pub struct TableRow {
@@ -272,21 +281,21 @@ const PLANS: [PlanLine; 18] = [
     PlanLine(0, 8, 0, ZERO, ZERO, ZERO, B + 3, B + 5, B + 7), // 1 duty
     PlanLine(8, 6, 0, ZERO, ZERO, ZERO, B + 5, B + 3, ZERO), // 2 ban
     PlanLine(14, 7, 0, ZERO, ZERO, ZERO, B + 6, ZERO, B + 4), // 3 power
-    PlanLine(47, 3, 11, S, B + 2, B + 2, N + 6, N + 7, N + 8), // 4 both
-    PlanLine(61, 4, 2, B + 1, B + 3, K, RSAT, N, N + 1), // 5 then
-    PlanLine(67, 4, 2, B + 1, B + 3, K, N + 1, RONE, RTWO), // 6 repair
-    PlanLine(73, 5, 0, B + 4, B + 3, ZERO, ZERO, RONE, RTWO), // 7 repeat
-    PlanLine(78, 4, 7, B + 1, B + 3, B + 3, N + 6, RONE, RTWO), // 8 when
-    PlanLine(89, 3, 5, S, B + 2, B + 2, N + 3, LONE, LTWO), // 9 until
+    PlanLine(55, 3, 11, S, B + 2, B + 2, N + 6, N + 7, N + 8), // 4 both
+    PlanLine(69, 4, 2, B + 1, B + 3, K, RSAT, N, N + 1), // 5 then
+    PlanLine(75, 4, 2, B + 1, B + 3, K, N + 1, RONE, RTWO), // 6 repair
+    PlanLine(81, 5, 0, B + 4, B + 3, ZERO, ZERO, RONE, RTWO), // 7 repeat
+    PlanLine(86, 4, 7, B + 1, B + 3, B + 3, N + 6, RONE, RTWO), // 8 when
+    PlanLine(97, 3, 5, S, B + 2, B + 2, N + 3, LONE, LTWO), // 9 until
     PlanLine(21, 6, 6, ZERO, ZERO, ZERO, N + 2, N + 4, N + 5), // 10 deadline
     PlanLine(33, 0, 0, ZERO, ZERO, ZERO, S, ZERO, ZERO), // 16 any
     PlanLine(33, 2, 0, ZERO, ZERO, ZERO, B + 1, ZERO, ZERO), // 17 tries
     PlanLine(35, 3, 0, ZERO, ZERO, ZERO, B + 2, ZERO, ZERO), // 18 idle
     PlanLine(38, 4, 0, ZERO, ZERO, ZERO, B + 3, ZERO, ZERO), // 19 succeeds
     PlanLine(42, 5, 0, ZERO, ZERO, ZERO, B + 4, ZERO, ZERO), // 20 fails
-    PlanLine(97, 3, 3, B + 2, K, K, N, N + 2, ZERO), // 21 seq
-    PlanLine(103, 0, 2, S, K, K, N, N + 1, ZERO), // 22 or
-    PlanLine(105, 3, 1, B + 2, K, ZERO, RSAT, N, ZERO), // 23 star
+    PlanLine(105, 3, 3, B + 2, K, K, N, N + 2, ZERO), // 21 seq
+    PlanLine(111, 0, 2, S, K, K, N, N + 1, ZERO), // 22 or
+    PlanLine(113, 3, 1, B + 2, K, ZERO, RSAT, N, ZERO), // 23 star
 ];
 
 // How a kind's rows are laid out: the first of its own rows in the tables, how many stand before its operands' rows and how many after them; the
@@ -321,18 +330,37 @@ fn named(l: PlanLine) -> Plan
     }
 }
 
-// The plan of a record.
-fn plan_of(r: RecordBody) -> Plan
-    ensures { λ p. ⌜ ((k : Kind) → kindOf (r .kind) ≡ some k → p ≡ planOf (recordFrom k r)) ⌝ }
+// The plan of a kind.
+fn kind_plan(kind: u8) -> Plan
+    ensures { λ p. ⌜ ((k : Kind) → kindOf kind ≡ some k → p ≡ named (planLine k)) ⌝ }
 {
     let plans = PLANS;
-    let kind = r.kind;
     match kind {
         1..=10 => named(plans[kind as usize - 1]),
         16..=23 => named(plans[kind as usize - 6]),
         // No contract that is taken has such a record.
         _ => named(PlanLine(0, 0, 0, ZERO, ZERO, ZERO, ZERO, ZERO, ZERO)),
     }
+}
+
+// The kind of a duty, and the number of both parties.
+const DUTY: u8 = 1;
+
+const BOTH_PARTIES: u8 = 3;
+
+// The plan of a duty that both parties own.
+const JOINT_PLAN: PlanLine = PlanLine(47, 8, 0, ZERO, ZERO, ZERO, B + 3, B + 5, B + 7);
+
+// The plan of a record.
+fn plan_of(r: RecordBody) -> Plan
+    ensures { λ p. ⌜ ((k : Kind) → kindOf (r .kind) ≡ some k → p ≡ planOf (recordFrom k r)) ⌝ }
+{
+    let kind = r.kind;
+    let party = r.party;
+    if kind == DUTY && party == BOTH_PARTIES {
+        return named(JOINT_PLAN);
+    }
+    kind_plan(kind)
 }
 
 // ---- the rows of one record

@@ -10,7 +10,7 @@ use borrow.Author.Tests.{le-ltb, eq-eqb}
 use lib.Dec.{eqb}
 use lib.ListN.{length}
 use Rattle.periods.specs.Periods.{Party, party1, party2, Period}
-use Rattle.contract.specs.Meaning.{Clause, both, Blame, only, bothParties, unite, Decision, undecided, satisfied, violated, bothMeaning, meaning, EmptyFree}
+use Rattle.contract.specs.Meaning.{Parties, only, bothParties, Clause, both, unite, Decision, undecided, satisfied, violated, bothMeaning, meaning, EmptyFree}
 use Rattle.contract.proofs.Meaning.{Within, decision-within, Order, left-first, right-first, together, order}
 use Rattle.image.proofs.Signals.{Signal, at, _≐_, nothing, met, broken, blames, isBroken, reportOf, Says, exactly, UntilDone, Remembers}
 use Rattle.image.proofs.Once.{isSome, Once, happens, length-snoc, none-yet}
@@ -80,10 +80,10 @@ blamed q n undecided p h = refl
 blamed q n (satisfied k) p h = unbroken q (eqb k n)
 blamed q n (violated k b) p h = ap (isBroken q) (timely n (violated k b) p h)
 
-left-alone : (b : Blame) → Says false (blames party1 b || false) (blames party2 b || false) (broken b)
+left-alone : (b : Parties) → Says false (blames party1 b || false) (blames party2 b || false) (broken b)
 left-alone b = rw (or-false (blames party1 b), or-false (blames party2 b)) (exactly (broken b))
 
-united : (b c : Blame) → Says false (blames party1 b || blames party1 c) (blames party2 b || blames party2 c) (broken (unite b c))
+united : (b c : Parties) → Says false (blames party1 b || blames party1 c) (blames party2 b || blames party2 c) (broken (unite b c))
 united (only party1) (only party1) = exactly _
 united (only party1) (only party2) = exactly _
 united (only party2) (only party1) = exactly _

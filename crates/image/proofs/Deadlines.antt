@@ -7,7 +7,7 @@ use mathlib.Core.List.{List, [], _∷_}
 use mathlib.Core.Option.{Option, none, some}
 use mathlib.Core.Path.{_≡_, refl, sym, _∙_}
 use Rattle.periods.specs.Periods.{Party, party1, party2, other, Period, tries, succeeds}
-use Rattle.contract.specs.Meaning.{duty, Clause, literal, deadline, only, meaning, EmptyFree}
+use Rattle.contract.specs.Meaning.{only, duty, Clause, literal, deadline, meaning, EmptyFree}
 use Rattle.contract.proofs.Windows.{by-party, deadline-none, deadline-one, deadline-more}
 use Rattle.image.proofs.Signals.{Signal, at, _≐_, at-or, Report, isMet, isBroken, literalReport, Says, exactly, HandsOver, Window, at-last, more, deadlineReport}
 use Rattle.image.proofs.Threads.{Exclusive, exclusive-hands-over, thread}
@@ -30,14 +30,14 @@ behaves-same {c} {d} {S} {K} e b = record { says = λ h. rw (said-same c d e (th
 
 -- a duty that waits is violated where it is missed
 missed-broken : (q : Party) (w t u : Bool)
-    → (w && not (t && u)) ≡ (isBroken party1 (literalReport duty q w t u) || isBroken party2 (literalReport duty q w t u))
+    → (w && not (t && u)) ≡ (isBroken party1 (literalReport (duty (only q)) w t u) || isBroken party2 (literalReport (duty (only q)) w t u))
 missed-broken q false t u = refl
 missed-broken q true true true = refl
 missed-broken q true true false = sym (someone-blamed (only (other q)))
 missed-broken q true false u = sym (someone-blamed (only q))
 
 -- a deadline is satisfied where it waits and both try, and so is a duty
-met-where : (q : Party) (w z t u : Bool) → isMet (literalReport duty q (cond (t && u) w z) t u) ≡ (w && (t && u))
+met-where : (q : Party) (w z t u : Bool) → isMet (literalReport (duty (only q)) (cond (t && u) w z) t u) ≡ (w && (t && u))
 met-where q true z true true = refl
 met-where q false z true true = refl
 met-where q w true true false = sym (and-false w)
@@ -45,7 +45,7 @@ met-where q w false true false = sym (and-false w)
 met-where q w true false u = sym (and-false w)
 met-where q w false false u = sym (and-false w)
 
-met-first : (q : Party) (w t u : Bool) → isMet (literalReport duty q w t u) ≡ (w && (t && u))
+met-first : (q : Party) (w t u : Bool) → isMet (literalReport (duty (only q)) w t u) ≡ (w && (t && u))
 met-first q true true true = refl
 met-first q true true false = refl
 met-first q true false u = refl
@@ -64,7 +64,7 @@ in-either false false m l s = refl
 
 -- blame goes by the window's last period alone
 broken-last : (r q : Party) (x y z t u : Bool)
-    → isBroken r (literalReport duty q (cond (t && u) x z) t u) ≡ isBroken r (literalReport duty q (cond (t && u) y z) t u)
+    → isBroken r (literalReport (duty (only q)) (cond (t && u) x z) t u) ≡ isBroken r (literalReport (duty (only q)) (cond (t && u) y z) t u)
 broken-last r q x y z true true = unbroken r x ∙ sym (unbroken r y)
 broken-last r q x y z true false = refl
 broken-last r q x y z false u = refl
@@ -156,7 +156,7 @@ module _ (q : Party) (a : ℕ) where
 
   -- one period is left: a plain duty
   behaves-last : (K : Signal) {W G missed earlier last sat one two : Signal} → Misses W missed → (earlier ≐ λ p h. false) → (last ≐ missed)
-      → DeadlineSays (λ p h. W p h || K p h && earlier p h) last sat one two → Behaves (literal duty q a) W G sat one two
+      → DeadlineSays (λ p h. W p h || K p h && earlier p h) last sat one two → Behaves (literal (duty (only q)) a) W G sat one two
   behaves-last K {W} m e l s = behaves-literal λ p h. rw (e p h, l p h, m p h, one-period (W p h) (K p h) (succeeds p a)) at (s p h)
     where
       one-period : (w k t : Bool) → cond t (w || k && false) (w && not t) ≡ w
@@ -173,7 +173,7 @@ module _ (q : Party) (a : ℕ) where
   behaves-window zero {K} x y m (at-last e l) s = behaves-same (deadline-one q a) (behaves-last K m e l s)
   behaves-window (suc n) {K} {W = W} {G} {missed} {earlier} {last} {sat} {one} {two} x y m (more {next = next} {later = later} i w e) s =
       behaves-same (deadline-more q a n)
-      (behaves-repair (tt, tt) y (behaves-literal {S = W} {K = G} λ p h. exactly (literalReport duty q (W p h) (tries p q a) (tries p (other q) a)))
+      (behaves-repair (tt, tt) y (behaves-literal {S = W} {K = G} λ p h. exactly (literalReport (duty (only q)) (W p h) (tries p q a) (tries p (other q) a)))
       (λ p h. m p h ∙ rw (by-party q p a) (missed-broken q (W p h) (tries p q a) (tries p (other q) a)))
       hands
       (behaves-window n (apart-next x waiting hands) (exclusive-hands-over hands) next-missed w rest-says)
@@ -204,7 +204,7 @@ module _ (q : Party) (a : ℕ) where
       rest-says : DeadlineSays (λ p h. start p h || K p h && later p h) last (λ p h. isMet (rest p h)) one two
       rest-says p h = record { sat-is = refl; one-is = s p h .one-is ∙ blamed party1 p h; two-is = s p h .two-is ∙ blamed party2 p h }
 
-      sat-or : sat ≐ λ p h. isMet (literalReport duty q (W p h) (tries p q a) (tries p (other q) a)) || isMet (rest p h)
+      sat-or : sat ≐ λ p h. isMet (literalReport (duty (only q)) (W p h) (tries p q a) (tries p (other q) a)) || isMet (rest p h)
       sat-or p h =
           let t = tries p q a in
           let u = tries p (other q) a in

@@ -23,7 +23,7 @@ use Rattle.reader.specs.Reader.{operandsOf, readRecord, readRecords, read}
 use Rattle.image.specs.Widths.{afterExpression, afterClause}
 use Rattle.image.specs.Blocks.{endRow, liveRow, expressionRows, outputsOf, windowRows, clauseRows}
 use Rattle.image.specs.Images.{rowsFor, image, imageFor}
-use Rattle.image.specs.Examples.{linesFrom, lines, repliesFrom, replies, KindVectors, StudentVectors, DeadlineVectors, WatchVector, RowVectors, RoomVectors}
+use Rattle.image.specs.Examples.{linesFrom, lines, repliesFrom, replies, KindVectors, StudentVectors, DeadlineVectors, JointVectors, WatchVector, RowVectors, RoomVectors}
 
 pub student-vectors : StudentVectors
 unfolding
@@ -62,6 +62,12 @@ deadline-vectors =
       no-living-success = refl;
     }
 
+pub joint-vectors : JointVectors
+unfolding
+    lines linesFrom image rowsFor clauseRows outputsOf afterClause stateOf afterPeriod valuesAfter newValues computed counted tries bit field value
+joint-vectors =
+    record { joint-alone = refl; joint-repeated = refl; joint-united = refl; joint-repaired = refl; joint-begun-later = refl }
+
 pub watch-vector : WatchVector
 unfolding
     replies repliesFrom read Reader.goodContractLength Reader.contractRecords readRecords readRecord firstNumbered kindOf goodFields operandsOf node imageFor image
@@ -74,7 +80,7 @@ pub row-vectors : RowVectors
 unfolding
     read Reader.goodContractLength Reader.contractRecords readRecords readRecord firstNumbered kindOf goodFields operandsOf node imageFor image
     rowsFor clauseRows windowRows outputsOf afterClause imageBytes rowsBytes endBytes encode rowCount marked bytes field value
-row-vectors = record { rows-of-window-1 = refl; rows-of-window-3 = refl; row-counts = refl; most-rows = refl }
+row-vectors = record { rows-of-window-1 = refl; rows-of-window-3 = refl; rows-of-joint = refl; rows-of-duty-2 = refl; row-counts = refl; most-rows = refl }
 
 pub room-vectors : RoomVectors
 unfolding Reader.contractRecords Reader.contractWindows Reader.windowsOf

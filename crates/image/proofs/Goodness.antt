@@ -11,7 +11,7 @@ use Rattle.periods.specs.Limits.{actions}
 use Rattle.layout.specs.Rows.{Row, never, initial, attempt, negation, conjunction, disjunction, previous, Fits, namesRows}
 use Rattle.layout.proofs.ImageBytes.{Writable}
 use Rattle.contract.specs.Expressions.{any, tries, idle, succeeds, fails, Expression, atom, seq, or, star}
-use Rattle.contract.specs.Meaning.{duty, ban, power, Clause, literal, deadline, both, then, repair, repeat, when, until}
+use Rattle.contract.specs.Meaning.{only, bothParties, duty, ban, power, Clause, literal, deadline, both, then, repair, repeat, when, until}
 use Rattle.reader.specs.Limits.{maxRecords}
 use Rattle.reader.specs.Table
 use Rattle.reader.specs.Table.{Kind}
@@ -136,14 +136,17 @@ module _ (n : ℕ) where
   good-clause : (c : Clause) {b S K : ℕ} {rest : List Row} → InRange c → InPlace n b S K (afterClause c b)
       → GoodFrom n (afterClause c b) rest → GoodFrom n b (clauseRows c b S K rest)
   unfolding InRange afterClause outputsOf clauseRows
-  good-clause (literal duty p a) i h g =
-      let j = allowed-action (literalRecord duty p a) i in
+  good-clause (literal (duty (only p)) a) i h g =
+      let j = allowed-action (literalRecord (duty (only p)) a) i in
       before Table.duty (omega arith) g
-  good-clause (literal ban p a) i h g =
-      let j = allowed-action (literalRecord ban p a) i in
+  good-clause (literal (duty bothParties) a) i h g =
+      let j = allowed-action (literalRecord (duty bothParties) a) i in
+      before Table.duty (omega arith) g
+  good-clause (literal (ban p) a) i h g =
+      let j = allowed-action (literalRecord (ban p) a) i in
       before Table.ban (omega arith) g
-  good-clause (literal power p a) i h g =
-      let j = allowed-action (literalRecord power p a) i in
+  good-clause (literal (power p) a) i h g =
+      let j = allowed-action (literalRecord (power p) a) i in
       before Table.power (omega arith) g
   good-clause (deadline p a d) {b} i h g =
       let j = allowed-action (deadlineRecord p a d) i in

@@ -7,7 +7,7 @@ use mathlib.Core.Option.{Option, none, some}
 use mathlib.Core.Path.{_≡_, refl}
 use lib.ListN.{length}
 use Rattle.periods.specs.Periods.{Party, other, Period, tries}
-use Rattle.contract.specs.Meaning.{Literal, literal, Decision, undecided, satisfied, violated, meaning, EmptyFree}
+use Rattle.contract.specs.Meaning.{Literal, literal, Decision, undecided, satisfied, violated, firstParty, meaning, EmptyFree}
 use Rattle.contract.proofs.Meaning.{Within, decision-within, within-period}
 use Rattle.image.proofs.Signals.{Signal, at, nothing, literalReport, Says, exactly}
 use Rattle.image.proofs.Once.{length-snoc}
@@ -21,33 +21,36 @@ not-before-first undecided b = tt
 not-before-first (satisfied k) b = b .0
 not-before-first (violated k x) b = b .0
 
-module _ (l : Literal) (q : Party) (a : ℕ) where
-  within-first : (p : Period) → Within 1 (meaning (literal l q a) (p ∷ []))
+module _ (l : Literal) (a : ℕ) where
+  abbrev q : Party
+  q = firstParty l
+
+  within-first : (p : Period) → Within 1 (meaning (literal l a) (p ∷ []))
   unfolding EmptyFree
-  within-first p = decision-within (literal l q a) tt (p ∷ [])
+  within-first p = decision-within (literal l a) tt (p ∷ [])
 
   said-by-literal : (S K : Signal) (p : Period) (h : List Period)
-      → saidBy (literal l q a) (thread S K (p ∷ h)) ≡ literalReport l q (S p h) (tries p q a) (tries p (other q) a)
+      → saidBy (literal l a) (thread S K (p ∷ h)) ≡ literalReport l (S p h) (tries p q a) (tries p (other q) a)
   unfolding thread meaning
   said-by-literal S K p h = go (S p h) (K p h) (thread S K h) refl
     where
       go : (s k : Bool) (t : Option (List Period)) → thread S K h ≡ t
-          → saidBy (literal l q a) (readNext s k p t) ≡ literalReport l q s (tries p q a) (tries p (other q) a)
-      go true k t b = timely 1 (meaning (literal l q a) (p ∷ [])) (within-first p) (not-before-first (meaning (literal l q a) (p ∷ [])) (within-first p))
+          → saidBy (literal l a) (readNext s k p t) ≡ literalReport l s (tries p q a) (tries p (other q) a)
+      go true k t b = timely 1 (meaning (literal l a) (p ∷ [])) (within-first p) (not-before-first (meaning (literal l a) (p ∷ [])) (within-first p))
       go false false t b = refl
       go false true none b = refl
       go false true (some []) b = absurd (not-empty (thread-is-active S K h [] b) .1 refl)
       go false true (some (x ∷ w)) b =
-          silent-past (suc (length (w ++ (p ∷ [])))) (meaning (literal l q a) (x ∷ []))
-          (omega (arith, length-snoc w p, within-period 1 (meaning (literal l q a) (x ∷ [])) (within-first x)))
+          silent-past (suc (length (w ++ (p ∷ [])))) (meaning (literal l a) (x ∷ []))
+          (omega (arith, length-snoc w p, within-period 1 (meaning (literal l a) (x ∷ [])) (within-first x)))
 
-pub behaves-literal : {l : Literal} {q : Party} {a : ℕ} {S K sat one two : Signal}
+pub behaves-literal : {l : Literal} {a : ℕ} {S K sat one two : Signal}
     → ((p : Period) (h : List Period)
-    → Says (sat p h) (one p h) (two p h) (literalReport l q (S p h) (tries p q a) (tries p (other q) a)))
-    → Behaves (literal l q a) S K sat one two
+    → Says (sat p h) (one p h) (two p h) (literalReport l (S p h) (tries p (firstParty l) a) (tries p (other (firstParty l)) a)))
+    → Behaves (literal l a) S K sat one two
 unfolding thread
-behaves-literal {l} {q} {a} {S} {K} {sat} {one} {two} e = record { says = says }
+behaves-literal {l} {a} {S} {K} {sat} {one} {two} e = record { says = says }
   where
-    says : (h : List Period) → Says (at sat h) (at one h) (at two h) (saidBy (literal l q a) (thread S K h))
+    says : (h : List Period) → Says (at sat h) (at one h) (at two h) (saidBy (literal l a) (thread S K h))
     says [] = exactly nothing
-    says (p ∷ h) = rw (said-by-literal l q a S K p h) (e p h)
+    says (p ∷ h) = rw (said-by-literal l a S K p h) (e p h)

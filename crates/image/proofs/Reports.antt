@@ -9,7 +9,7 @@ use borrow.Author.Tests.{eqb-true, eqb-false, eq-eqb, ne-eqb}
 use lib.Dec.{eqb}
 use lib.ListN.{length}
 use Rattle.periods.specs.Periods.{Party, party1, party2, Period}
-use Rattle.contract.specs.Meaning.{Clause, Blame, only, bothParties, Decision, undecided, satisfied, violated, later, meaning}
+use Rattle.contract.specs.Meaning.{Parties, only, bothParties, Clause, Decision, undecided, satisfied, violated, later, meaning}
 use Rattle.contract.specs.Verdicts.{decisionPeriod}
 use Rattle.contract.proofs.Meaning.{Within}
 use Rattle.image.proofs.Signals.{Report, nothing, met, broken, isMet, blames, isBroken, reportOf}
@@ -34,12 +34,12 @@ pub unbroken : (q : Party) (t : Bool) → isBroken q (cond t met nothing) ≡ fa
 unbroken q true = refl
 unbroken q false = refl
 
-pub unmet : (b : Blame) (t : Bool) → isMet (cond t (broken b) nothing) ≡ false
+pub unmet : (b : Parties) (t : Bool) → isMet (cond t (broken b) nothing) ≡ false
 unmet b true = refl
 unmet b false = refl
 
 -- a violation blames someone
-pub someone-blamed : (b : Blame) → (blames party1 b || blames party2 b) ≡ true
+pub someone-blamed : (b : Parties) → (blames party1 b || blames party2 b) ≡ true
 someone-blamed (only party1) = refl
 someone-blamed (only party2) = refl
 someone-blamed bothParties = refl

@@ -15,8 +15,8 @@ use Rattle.states.specs.States.{State}
 use Rattle.states.proofs.Fresh.{freshState}
 use Rattle.machine.specs.Machine.{byteOf, isTrue, value, newValues, valuesAfter, outcomeOf, blameOf, computed, counted, afterPeriod, afterPeriods}
 use Rattle.machine.proofs.Machine.{isTrue-byteOf, after-undecided, after-decided}
-use Rattle.contract.specs.Meaning.{Clause, Blame, only, bothParties, Decision, undecided, satisfied, violated, meaning, EmptyFree}
-use Rattle.contract.specs.Verdicts.{decisionPeriod, blame, blameNumber}
+use Rattle.contract.specs.Meaning.{Parties, only, bothParties, partiesNumber, Clause, Decision, undecided, satisfied, violated, meaning, EmptyFree}
+use Rattle.contract.specs.Verdicts.{decisionPeriod, blame}
 use Rattle.contract.proofs.Meaning.{decision-within, within-none}
 use Rattle.contract.proofs.Verdicts.{stands}
 use Rattle.reader.specs.Limits.{maxRecords}
@@ -74,7 +74,7 @@ bits-back (v ∷ new) = rw (isTrue-byteOf v, bits-back new)
 
 -- ---- what the machine makes of a report
 
-blame-number : (b : Blame) → blameOf (blames party1 b) (blames party2 b) ≡ blameNumber b
+blame-number : (b : Parties) → blameOf (blames party1 b) (blames party2 b) ≡ partiesNumber b
 blame-number (only party1) = refl
 blame-number (only party2) = refl
 blame-number bothParties = refl

@@ -7,7 +7,7 @@ use mathlib.Core.Path.{_≡_, refl}
 use Rattle.periods.specs.Periods.{Party, party1, party2, other, Period, tries, succeeds}
 use Rattle.layout.specs.Rows.{Row, never, initial, attempt, negation, conjunction, disjunction, previous}
 use Rattle.contract.specs.Expressions.{Atom, holds, Expression, atom, seq, or, star, holdsEmpty}
-use Rattle.contract.specs.Meaning.{Literal, duty, Clause, literal, deadline, both, then, repair, repeat, when, until, Blame, only, bothParties, Decision, undecided, satisfied, violated, literalDecision}
+use Rattle.contract.specs.Meaning.{Parties, only, bothParties, Literal, duty, Clause, literal, deadline, both, then, repair, repeat, when, until, Decision, undecided, satisfied, violated, literalDecision, firstParty}
 
 -- A signal has a value in each period: given the period and those before it, the latest first.
 abbrev pub Signal : Type 0
@@ -54,14 +54,14 @@ Obeys v b (r ∷ rs) = (v b ≐ rowSignal v r) × Obeys v (suc b) rs
 
 pub data Report : Type 0 where
   nothing met : Report
-  broken : Blame → Report
+  broken : Parties → Report
 
 abbrev pub isMet : Report → Bool
 isMet nothing = false
 isMet met = true
 isMet (broken b) = false
 
-abbrev pub blames : Party → Blame → Bool
+abbrev pub blames : Party → Parties → Bool
 blames party1 (only party1) = true
 blames party1 (only party2) = false
 blames party2 (only party1) = false
@@ -80,8 +80,8 @@ reportOf (satisfied k) = met
 reportOf (violated k b) = broken b
 
 -- what a literal says by whether it begins to read now, and by the two parties' attempts
-abbrev pub literalReport : Literal → Party → (starts own others : Bool) → Report
-literalReport l q s t u = cond s (reportOf (literalDecision l q t u)) nothing
+abbrev pub literalReport : Literal → (starts first second : Bool) → Report
+literalReport l s t u = cond s (reportOf (literalDecision l t u)) nothing
 
 -- three values say a report
 pub record Says (sat one two : Bool) (s : Report) : Type 0 where
@@ -126,7 +126,7 @@ pub data Window (a : ℕ) (K : Signal) : ℕ → (missed earlier last : Signal) 
 
 -- what a deadline says by whether it waits now, whether it is missed in the last period of its window, and by the two parties' attempts
 abbrev pub deadlineReport : Party → (action : ℕ) → (waits last : Bool) → Period → Report
-deadlineReport q a w z p = literalReport duty q (cond (succeeds p a) w z) (tries p q a) (tries p (other q) a)
+deadlineReport q a w z p = literalReport (duty (only q)) (cond (succeeds p a) w z) (tries p q a) (tries p (other q) a)
 
 -- S where the expression holds the empty list
 abbrev pub whereEmpty : Expression → Signal → Signal
@@ -159,10 +159,10 @@ pub data WiredExpression : Expression → (S K end live : Signal) → Type 0 whe
 
 -- the signals of a clause's block: begins to read, goes on; satisfied now, violated now with party 1, with party 2 to blame
 pub data WiredClause : Clause → (S K sat one two : Signal) → Type 0 where
-  wired-literal : {l : Literal} {q : Party} {a : ℕ} {S K sat one two : Signal}
+  wired-literal : {l : Literal} {a : ℕ} {S K sat one two : Signal}
       → ((p : Period) (h : List Period)
-      → Says (sat p h) (one p h) (two p h) (literalReport l q (S p h) (tries p q a) (tries p (other q) a)))
-      → WiredClause (literal l q a) S K sat one two
+      → Says (sat p h) (one p h) (two p h) (literalReport l (S p h) (tries p (firstParty l) a) (tries p (other (firstParty l)) a)))
+      → WiredClause (literal l a) S K sat one two
   wired-deadline : {q : Party} {a d : ℕ} {S K missed earlier last sat one two : Signal}
       → (missed ≐ λ p h. S p h && not (succeeds p a))
       → Window a K (d - 1) missed earlier last

@@ -10,7 +10,7 @@ use borrow.Author.Tests.{leb-true}
 use Rattle.periods.specs.Periods.{Party, party1, party2}
 use Rattle.layout.specs.Rows.{Row}
 use Rattle.contract.specs.Expressions.{Atom, any, tries, idle, succeeds, fails, Expression, atom, seq, or, star, holdsEmpty}
-use Rattle.contract.specs.Meaning.{duty, ban, power, Literal, Clause, literal, deadline, both, then, repair, repeat, when, until}
+use Rattle.contract.specs.Meaning.{only, bothParties, Literal, duty, ban, power, Clause, literal, deadline, both, then, repair, repeat, when, until, firstParty}
 use Rattle.reader.specs.Table
 use Rattle.reader.specs.Trees.{Record}
 use Rattle.reader.specs.Spelling.{atomRecord, literalRecord, deadlineRecord, expressionRecords, records, windows}
@@ -49,7 +49,7 @@ after-expression (star e) b = rw (after-expression e) (omega arith)
 
 pub after-clause : (c : Clause) (b : ℕ) → afterClause c b ≡ b + clauseSize c
 unfolding afterClause clauseSize
-after-clause (literal l p a) b = after-record (literalRecord l p a) b
+after-clause (literal l a) b = after-record (literalRecord l a) b
 after-clause (deadline p a d) b = after-record (deadlineRecord p a d) b
 after-clause (both l r) b = rw (after-clause l, after-clause r) (omega arith)
 after-clause (then l r) b = rw (after-clause l, after-clause r) (omega arith)
@@ -77,9 +77,10 @@ length-window (suc n) g e m c rest = rw (length-window n) (omega arith)
 
 pub length-clause : (c : Clause) (b S K : ℕ) (rest : List Row) → length (clauseRows c b S K rest) ≡ clauseSize c + length rest
 unfolding clauseRows clauseSize
-length-clause (literal duty p a) b S K rest = omega arith
-length-clause (literal ban p a) b S K rest = omega arith
-length-clause (literal power p a) b S K rest = omega arith
+length-clause (literal (duty (only p)) a) b S K rest = omega arith
+length-clause (literal (duty bothParties) a) b S K rest = omega arith
+length-clause (literal (ban p) a) b S K rest = omega arith
+length-clause (literal (power p) a) b S K rest = omega arith
 length-clause (deadline p a d) b S K rest = rw (length-window (d - 1)) (omega arith)
 length-clause (both l r) b S K rest = rw (length-clause r, length-clause l) (omega arith)
 length-clause (then l r) b S K rest = rw (length-clause r, length-clause l) (omega arith)
@@ -105,10 +106,10 @@ atom-last (idle p a) = refl
 atom-last (succeeds a) = refl
 atom-last (fails a) = refl
 
-literal-last : (l : Literal) (p : Party) (a : ℕ) → literalRecord l p a .fields .last ≡ 0
-literal-last duty p a = refl
-literal-last ban p a = refl
-literal-last power p a = refl
+literal-last : (l : Literal) (a : ℕ) → literalRecord l a .fields .last ≡ 0
+literal-last (duty o) a = refl
+literal-last (ban p) a = refl
+literal-last (power p) a = refl
 
 expression-max : (e : Expression) → expressionSize e ≤ maxWidth * expressionRecords e
 unfolding expressionSize expressionRecords
@@ -119,7 +120,7 @@ expression-max (star e) = omega (arith, expression-max e)
 
 clause-max : (c : Clause) → clauseSize c ≤ maxWidth * records c + periodRows * windows c
 unfolding clauseSize records windows
-clause-max (literal l p a) = omega (arith, size-max (literalRecord l p a), literal-last l p a)
+clause-max (literal l a) = omega (arith, size-max (literalRecord l a), literal-last l a)
 clause-max (deadline p a d) = size-max (deadlineRecord p a d)
 clause-max (both l r) = omega (arith, clause-max l, clause-max r)
 clause-max (then l r) = omega (arith, clause-max l, clause-max r)
@@ -173,9 +174,9 @@ inside-literal party2 h i = omega arith
 
 pub inside-clause : (c : Clause) (b : ℕ) → 0 < b → ClauseInside c b (outputsOf c b)
 unfolding outputsOf afterClause
-inside-clause (literal duty p a) b h = inside-literal p (omega arith) (omega arith)
-inside-clause (literal ban p a) b h = inside-literal p (omega arith) (omega arith)
-inside-clause (literal power p a) b h = inside-literal p (omega arith) (omega arith)
+inside-clause (literal (duty o) a) b h = inside-literal (firstParty (duty o)) (omega arith) (omega arith)
+inside-clause (literal (ban p) a) b h = inside-literal p (omega arith) (omega arith)
+inside-clause (literal (power p) a) b h = inside-literal p (omega arith) (omega arith)
 inside-clause (deadline p a d) b h = let e = after-window (d - 1) (inside Table.deadline b) in inside-literal p (omega arith) (omega arith)
 inside-clause (both l r) b h = omega (arith, after-clause l (afterClause r (inside Table.both b)), after-clause r (inside Table.both b))
 inside-clause (then l r) b h = omega (arith, inside-clause r (inside Table.then b) (omega arith), after-clause l (afterClause r (inside Table.then b)))

@@ -7,7 +7,7 @@ use Rattle.periods.specs.Periods
 use Rattle.periods.specs.Periods.{Party, party1, party2, other, Period}
 use Rattle.layout.specs.Rows.{Row}
 use Rattle.contract.specs.Expressions.{Atom, any, tries, idle, succeeds, fails, holds, Expression, atom, seq, or, star, holdsEmpty}
-use Rattle.contract.specs.Meaning.{Literal, duty, ban, power, Clause, literal, deadline, both, then, repair, repeat, when, until, only}
+use Rattle.contract.specs.Meaning.{only, bothParties, Literal, duty, ban, power, Clause, literal, deadline, both, then, repair, repeat, when, until, firstParty}
 use Rattle.contract.proofs.Windows.{by-party}
 use Rattle.image.specs.Widths.{neverRow, periodRows, _⊹_, afterWindow, afterExpression, afterClause}
 use Rattle.image.specs.Blocks.{untilDone, handOver, joinOn, remember, endRow, liveRow, ifEmpty, expressionRows, blaming, outputsOf, windowRows, lastRow, clauseRows}
@@ -43,7 +43,7 @@ module _ {v : ℕ → Signal} {b : ℕ} {rest : List Row} {G : Type 0} where
 
 -- ---- literals
 
--- three values say a report of a literal, or of a deadline, of party q: one blames q, one the other party
+-- three values say a report of a literal, or of a deadline, whose party q is tested first: one blames q, one the other party
 record LiteralSays (q : Party) (s : Report) (sat own others : Bool) : Type 0 where
   sat-is : sat ≡ isMet s
   own-is : own ≡ isBroken q s
@@ -64,19 +64,26 @@ blames-other party1 = record { sat-is = refl; own-is = refl; others-is = refl }
 blames-other party2 = record { sat-is = refl; own-is = refl; others-is = refl }
 
 -- what the rows of each kind compute from S and the two attempts
-duty-says : (q : Party) (s t u : Bool) → LiteralSays q (literalReport duty q s t u) (s && t && u) (s && not t) (s && t && not u)
+duty-says : (q : Party) (s t u : Bool) → LiteralSays q (literalReport (duty (only q)) s t u) (s && t && u) (s && not t) (s && t && not u)
 duty-says q false t u = says-nothing
 duty-says q true false u = blames-own q
 duty-says q true true false = blames-other q
 duty-says q true true true = says-met
 
-ban-says : (q : Party) (s t u : Bool) → LiteralSays q (literalReport ban q s t u) (s && not (s && t && u)) (s && t && u) false
+joint-says : (s t u : Bool) → LiteralSays party1 (literalReport (duty bothParties) s t u) (s && t && u) (s && not t) (s && not u)
+joint-says false t u = says-nothing
+joint-says true true true = says-met
+joint-says true true false = blames-other party1
+joint-says true false true = blames-own party1
+joint-says true false false = record { sat-is = refl; own-is = refl; others-is = refl }
+
+ban-says : (q : Party) (s t u : Bool) → LiteralSays q (literalReport (ban q) s t u) (s && not (s && t && u)) (s && t && u) false
 ban-says q false t u = says-nothing
 ban-says q true false u = says-met
 ban-says q true true false = says-met
 ban-says q true true true = blames-own q
 
-power-says : (q : Party) (s t u : Bool) → LiteralSays q (literalReport power q s t u) (s && not (s && t && not u)) false (s && t && not u)
+power-says : (q : Party) (s t u : Bool) → LiteralSays q (literalReport (power q) s t u) (s && not (s && t && not u)) false (s && t && not u)
 power-says q false t u = says-nothing
 power-says q true false u = says-met
 power-says q true true false = blames-other q
@@ -89,17 +96,18 @@ says-blaming : (v : ℕ → Signal) (q : Party) (sat own others : ℕ) {p : Peri
 says-blaming v party1 sat own others t = record { sat-is = t .sat-is; one-is = t .own-is; two-is = t .others-is }
 says-blaming v party2 sat own others t = record { sat-is = t .sat-is; one-is = t .others-is; two-is = t .own-is }
 
-wire-literal : (v : ℕ → Signal) (l : Literal) (q : Party) (a S K sat own others : ℕ)
-    → ((p : Period) (h : List Period)
-    → LiteralSays q (literalReport l q (v S p h) (Periods.tries p q a) (Periods.tries p (other q) a)) (v sat p h) (v own p h) (v others p h))
-    → let out = blaming q sat own others in WiredClause (literal l q a) (v S) (v K) (v (out .sat)) (v (out .one)) (v (out .two))
-wire-literal v l q a S K sat own others t = wired-literal λ p h. says-blaming v q sat own others (t p h)
+wire-literal : (v : ℕ → Signal) (l : Literal) (a S K sat own others : ℕ)
+    → let q = firstParty l in
+    ((p : Period) (h : List Period)
+    → LiteralSays q (literalReport l (v S p h) (Periods.tries p q a) (Periods.tries p (other q) a)) (v sat p h) (v own p h) (v others p h))
+    → let out = blaming q sat own others in WiredClause (literal l a) (v S) (v K) (v (out .sat)) (v (out .one)) (v (out .two))
+wire-literal v l a S K sat own others t = wired-literal λ p h. says-blaming v (firstParty l) sat own others (t p h)
 
 -- ---- deadlines
 
 -- what the rows compute from whether the duty waits, whether it is missed in the last period, and the two attempts
 deadline-says : (q : Party) (w z t u : Bool) → (z ≡ true → (t && u) ≡ false)
-    → LiteralSays q (literalReport duty q (cond (t && u) w z) t u) (w && (t && u)) (z && not t) (z && t)
+    → LiteralSays q (literalReport (duty (only q)) (cond (t && u) w z) t u) (w && (t && u)) (z && not t) (z && t)
 deadline-says q w true true true e = absurd (false≢true (sym (e refl)))
 deadline-says q true false true true e = says-met
 deadline-says q false false true true e = says-nothing
@@ -195,19 +203,24 @@ module _ (v : ℕ → Signal) (never-is : v neverRow ≐ λ p h. false) where
       → (WiredClause c (v S) (v K) (v (outputsOf c b .sat)) (v (outputsOf c b .one)) (v (outputsOf c b .two)) → GivesRows v (afterClause c b) rest → G)
       → G
   unfolding clauseRows afterClause outputsOf
-  wire-clause (literal duty q a) {S = S} o k =
+  wire-clause (literal (duty (only q)) a) {S = S} o k =
       let (tryOwn, (tryOther, (asked, (sat, (notOwn, (own, (notOther, (others, o′)))))))) = o .signals in
-      k (wire-literal v duty q a _ _ _ _ _ λ p h.
+      k (wire-literal v (duty (only q)) a _ _ _ _ _ λ p h.
       rw (sat p h, own p h, others p h, asked p h, notOwn p h, notOther p h, tryOwn p h, tryOther p h) (duty-says q (v S p h) _ _))
       (record { signals = o′ })
-  wire-clause (literal ban q a) {S = S} o k =
+  wire-clause (literal (duty bothParties) a) {S = S} o k =
+      let (try1, (try2, (asked, (sat, (not1, (one, (not2, (two, o′)))))))) = o .signals in
+      k (wire-literal v (duty bothParties) a _ _ _ _ _ λ p h.
+      rw (sat p h, one p h, two p h, asked p h, not1 p h, not2 p h, try1 p h, try2 p h) (joint-says (v S p h) _ _))
+      (record { signals = o′ })
+  wire-clause (literal (ban q) a) {S = S} o k =
       let (tryOwn, (tryOther, (asked, (own, (clear, (sat, o′)))))) = o .signals in
-      k (wire-literal v ban q a _ _ _ _ _ λ p h.
+      k (wire-literal v (ban q) a _ _ _ _ _ λ p h.
       rw (sat p h, clear p h, own p h, asked p h, tryOwn p h, tryOther p h, never-is p h) (ban-says q (v S p h) _ _))
       (record { signals = o′ })
-  wire-clause (literal power q a) {S = S} o k =
+  wire-clause (literal (power q) a) {S = S} o k =
       let (tryOwn, (tryOther, (asked, (notOther, (others, (clear, (sat, o′))))))) = o .signals in
-      k (wire-literal v power q a _ _ _ _ _ λ p h.
+      k (wire-literal v (power q) a _ _ _ _ _ λ p h.
       rw (sat p h, clear p h, others p h, asked p h, notOther p h, tryOwn p h, tryOther p h, never-is p h) (power-says q (v S p h) _ _))
       (record { signals = o′ })
   wire-clause (deadline q a d) {b} {S} {K} o k =

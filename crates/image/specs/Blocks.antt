@@ -10,7 +10,7 @@ use mathlib.Core.List.{List, _∷_}
 use Rattle.periods.specs.Periods.{Party, party1, party2, other}
 use Rattle.layout.specs.Rows.{Row, attempt, negation, conjunction, disjunction, previous}
 use Rattle.contract.specs.Expressions.{Atom, any, tries, idle, succeeds, fails, Expression, atom, seq, or, star, holdsEmpty}
-use Rattle.contract.specs.Meaning.{Literal, duty, ban, power, Clause, literal, deadline, both, then, repair, repeat, when, until}
+use Rattle.contract.specs.Meaning.{only, bothParties, Literal, duty, ban, power, Clause, literal, deadline, both, then, repair, repeat, when, until, firstParty}
 use Rattle.reader.specs.Table
 use Rattle.image.specs.Widths.{neverRow, periodRows, _⊹_, afterWindow, inside, afterExpression, afterClause}
 
@@ -110,15 +110,15 @@ pub record Outputs : Type 0 where
 abbrev outputs : (sat one two : ℕ) → Outputs
 outputs s x y = record { sat = s; one = x; two = y }
 
--- the outputs of a literal and of a deadline: its own party p to blame, or the other
+-- the outputs of a literal and of a deadline: the party p that is tested first to blame, or the other
 abbrev pub blaming : Party → (sat own others : ℕ) → Outputs
 blaming party1 s x y = outputs s x y
 blaming party2 s x y = outputs s y x
 
-abbrev pub literalOutputs : Literal → Party → (b : ℕ) → Outputs
-literalOutputs duty p b = blaming p (b ⊹ 3) (b ⊹ 5) (b ⊹ 7)
-literalOutputs ban p b = blaming p (b ⊹ 5) (b ⊹ 3) neverRow
-literalOutputs power p b = blaming p (b ⊹ 6) neverRow (b ⊹ 4)
+abbrev pub literalOutputs : Literal → (b : ℕ) → Outputs
+literalOutputs (duty o) b = blaming (firstParty (duty o)) (b ⊹ 3) (b ⊹ 5) (b ⊹ 7)
+literalOutputs (ban p) b = blaming p (b ⊹ 5) (b ⊹ 3) neverRow
+literalOutputs (power p) b = blaming p (b ⊹ 6) neverRow (b ⊹ 4)
 
 -- the first row after those of a deadline's window
 abbrev pub windowEnd : (window b : ℕ) → ℕ
@@ -126,7 +126,7 @@ windowEnd d b = afterWindow (d - 1) (inside Table.deadline b)
 
 -- where the block of a clause that starts at row b gives them out
 unfoldable pub outputsOf : Clause → (b : ℕ) → Outputs
-outputsOf (literal l p a) b = literalOutputs l p b
+outputsOf (literal l a) b = literalOutputs l b
 outputsOf (deadline p a d) b =
     let n = windowEnd d b in
     blaming p (n ⊹ 2) (n ⊹ 4) (n ⊹ 5)
@@ -152,13 +152,17 @@ outputsOf (until c e) b =
     let left = afterExpression e (inside Table.until b) in
     outputs (afterClause c left ⊹ 3) (outputsOf c left .one) (outputsOf c left .two)
 
-abbrev pub literalRows : Literal → Party → ℕ → (b S : ℕ) → List Row → List Row
-literalRows duty p a b S rest =
+-- a duty of both parties differs from a duty of party 1 in the last row: party 2 is to blame whether or not party 1 tries
+abbrev pub literalRows : Literal → (action : ℕ) → (b S : ℕ) → List Row → List Row
+literalRows (duty (only p)) a b S rest =
     attempt p a ∷ attempt (other p) a ∷ conjunction S b ∷ conjunction (b ⊹ 2) (b ⊹ 1)
     ∷ negation b ∷ conjunction S (b ⊹ 4) ∷ negation (b ⊹ 1) ∷ conjunction (b ⊹ 2) (b ⊹ 6) ∷ rest
-literalRows ban p a b S rest =
+literalRows (duty bothParties) a b S rest =
+    attempt party1 a ∷ attempt party2 a ∷ conjunction S b ∷ conjunction (b ⊹ 2) (b ⊹ 1)
+    ∷ negation b ∷ conjunction S (b ⊹ 4) ∷ negation (b ⊹ 1) ∷ conjunction S (b ⊹ 6) ∷ rest
+literalRows (ban p) a b S rest =
     attempt p a ∷ attempt (other p) a ∷ conjunction S b ∷ conjunction (b ⊹ 2) (b ⊹ 1) ∷ negation (b ⊹ 3) ∷ conjunction S (b ⊹ 4) ∷ rest
-literalRows power p a b S rest =
+literalRows (power p) a b S rest =
     attempt p a ∷ attempt (other p) a ∷ conjunction S b ∷ negation (b ⊹ 1) ∷ conjunction (b ⊹ 2) (b ⊹ 3)
     ∷ negation (b ⊹ 4) ∷ conjunction S (b ⊹ 5) ∷ rest
 
@@ -199,7 +203,7 @@ deadlineRows p a d b S K rest =
 -- `alive`: what has been read is in the set, or begins a list of it. `rejected`: now.
 -- until: clause and expression read until the whole has decided. `accepted`: now, and the clause is not violated now.
 unfoldable pub clauseRows : Clause → (b S K : ℕ) → List Row → List Row
-clauseRows (literal l p a) b S K rest = literalRows l p a b S rest
+clauseRows (literal l a) b S K rest = literalRows l a b S rest
 clauseRows (deadline p a d) b S K rest = deadlineRows p a d b S K rest
 clauseRows (both l r) b S K rest =
     let right = inside Table.both b in

@@ -1,5 +1,5 @@
 -- Vectors of the image: every kind, every error of document 01's "What students hand in", and the example of "Watch" through the bytes; the rows
--- of deadlines (document 02, "Duties with a deadline"), and the room for rows.
+-- of deadlines and of joint duties (document 02, "Duties with a deadline" and "Duties that both parties own"), and the room for rows.
 use Prim.Native.Nat.{ℕ, _+_}
 use mathlib.Core.List.{List, [], _∷_, _++_, map}
 use mathlib.Core.Path.{_≡_}
@@ -16,7 +16,7 @@ use Rattle.runner.specs.Calls.{begin, step}
 use Rattle.runner.specs.Examples.{reply}
 use Rattle.contract.specs.Expressions.{any, tries, idle, succeeds, fails, atom, seq, or, star}
 use Rattle.contract.specs.Meaning.{Clause, deadline, both, then, repair, repeat, when, until}
-use Rattle.contract.specs.Examples.{a, b, duty, ban, power, a/a, a/-, -/a, -/-, b/a, b/b, b/-}
+use Rattle.contract.specs.Examples.{a, b, duty, joint, ban, power, a/a, a/-, -/a, -/-, b/a, b/b, b/-}
 use Rattle.reader.specs.Examples.{six, sixWith, joined}
 use Rattle.image.specs.Limits.{allowedFor, bufferFor}
 use Rattle.image.specs.Images.{image, imageFor}
@@ -36,7 +36,7 @@ linesFrom m s (x ∷ w) =
 unfoldable pub lines : Clause → List Period → List Line
 lines c w = linesFrom (image c) (stateOf (replicate (10 + length (image c .rows)) 0)) w
 
--- ---- kinds; those that are not here are among the students' and the deadlines' below
+-- ---- kinds; those that are not here are among the students', the deadlines' and the joint duties' below
 
 pub record KindVectors : Type 0 where
   -- both violated in one period: the blames are united
@@ -111,6 +111,23 @@ pub record DeadlineVectors : Type 0 where
       lines (then (until (deadline party1 a 2) (atom (tries party1 b))) (deadline party1 b 2)) (b/- ∷ a/a ∷ -/- ∷ [])
       ≡ («open», 0, 0) ∷ («open», 0, 0) ∷ (broken, 1, 3) ∷ []
 
+-- ---- duties that both parties own; what a wrong block would give stands in brackets
+
+pub record JointVectors : Type 0 where
+  -- "the blame is on each party that didn't try" (blame 1 for -/-)
+  pub joint-alone :
+      map (λ x. lines (joint a) (x ∷ [])) (a/a ∷ a/- ∷ -/a ∷ -/- ∷ [])
+      ≡ ((met, 0, 1) ∷ []) ∷ ((broken, 2, 1) ∷ []) ∷ ((broken, 1, 1) ∷ []) ∷ ((broken, 3, 1) ∷ []) ∷ []
+  -- begun anew in each period, and told once (blame 3 from period 3 on)
+  pub joint-repeated :
+      lines (repeat (joint a)) (a/a ∷ a/- ∷ -/a ∷ [])
+      ≡ («open», 0, 0) ∷ (broken, 2, 2) ∷ (broken-after, 2, 2) ∷ []
+  -- united with the other half's blame, and repaired by a clause whose blame alone counts (blame 3 in 2)
+  pub joint-united : lines (both (power party1 b) (joint a)) (b/a ∷ []) ≡ (broken, 3, 1) ∷ []
+  pub joint-repaired : lines (repair (joint a) (duty party2 b)) (-/- ∷ -/- ∷ []) ≡ («open», 0, 0) ∷ (broken, 2, 2) ∷ []
+  -- it says nothing before it begins to read in period 2 (broken in 1)
+  pub joint-begun-later : lines (then (ban party1 a) (joint a)) (-/- ∷ -/- ∷ []) ≡ («open», 0, 0) ∷ (broken, 3, 2) ∷ []
+
 -- ---- the contract and the periods of "Watch", byte for byte: its image, begin, and a step call for each period
 
 abbrev pub watchedBytes : List ℕ
@@ -145,7 +162,7 @@ pub record WatchVector : Type 0 where
       replies watchedBytes watchedRecords
       ≡ reply 0 0 0 0 0 ∷ reply 0 0 0 0 0 ∷ reply 0 2 0 2 3 ∷ reply 0 4 0 2 3 ∷ []
 
--- ---- the rows of deadlines, and the room for rows
+-- ---- the rows of deadlines and of joint duties, and the room for rows
 
 pub record RowVectors : Type 0 where
   -- kind and fields of each row: the fixed rows, the deadline's six before its window's rows and six after them
@@ -166,6 +183,19 @@ pub record RowVectors : Type 0 where
       ∷ row 6 11 0 ∷ row 5 10 12 ∷ row 4 7 12
       ∷ row 4 2 13 ∷ row 5 1 15 ∷ row 4 16 5 ∷ row 3 3 0 ∷ row 4 14 18 ∷ row 4 14 3
       ∷ end 17 20 19 ∷ [])
+  -- as many as party 1's duty has, of which the last differs: `row 4 1 9` for `row 4 5 9`
+  pub rows-of-joint :
+      imageFor (six 1 3 2)
+      ≡ joined
+      (row 0 0 0 ∷ row 1 0 0 ∷ row 3 1 0
+      ∷ row 2 1 2 ∷ row 2 2 2 ∷ row 4 1 3 ∷ row 4 5 4 ∷ row 3 3 0 ∷ row 4 1 7 ∷ row 3 4 0 ∷ row 4 1 9
+      ∷ end 6 8 10 ∷ [])
+  pub rows-of-duty-2 :
+      imageFor (six 1 2 2)
+      ≡ joined
+      (row 0 0 0 ∷ row 1 0 0 ∷ row 3 1 0
+      ∷ row 2 2 2 ∷ row 2 1 2 ∷ row 4 1 3 ∷ row 4 5 4 ∷ row 3 3 0 ∷ row 4 1 7 ∷ row 3 4 0 ∷ row 4 5 9
+      ∷ end 6 10 8 ∷ [])
   pub row-counts : map (λ (d : ℕ). rowCount (imageFor (sixWith 10 1 0 d))) (1 ∷ 2 ∷ 3 ∷ 15 ∷ []) ≡ 15 ∷ 18 ∷ 21 ∷ 57 ∷ []
   -- the most that 64 records have: 32 deadlines of 15 periods each, 31 times `both`, and `repeat`
   pub most-rows :

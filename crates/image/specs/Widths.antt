@@ -62,7 +62,7 @@ expressionSize (E.or l r) = expressionSize l + expressionSize r + size (plainRec
 expressionSize (E.star e) = expressionSize e + size (plainRecord star)
 
 unfoldable pub clauseSize : Clause → ℕ
-clauseSize (literal l p a) = size (literalRecord l p a)
+clauseSize (literal l a) = size (literalRecord l a)
 clauseSize (M.deadline p a d) = size (deadlineRecord p a d)
 clauseSize (M.both l r) = clauseSize l + clauseSize r + size (plainRecord both)
 clauseSize (M.then l r) = clauseSize l + clauseSize r + size (plainRecord then)
@@ -117,7 +117,7 @@ afterExpression (E.or l r) b = afterRecord (plainRecord or) (λ n. afterExpressi
 afterExpression (E.star e) b = afterRecord (plainRecord star) (afterExpression e) b
 
 unfoldable pub afterClause : Clause → ℕ → ℕ
-afterClause (literal l p a) b = afterRecord (literalRecord l p a) (λ n. n) b
+afterClause (literal l a) b = afterRecord (literalRecord l a) (λ n. n) b
 afterClause (M.deadline p a d) b = afterRecord (deadlineRecord p a d) (λ n. n) b
 afterClause (M.both l r) b = afterRecord (plainRecord both) (λ n. afterClause l (afterClause r n)) b
 afterClause (M.then l r) b = afterRecord (plainRecord then) (λ n. afterClause l (afterClause r n)) b

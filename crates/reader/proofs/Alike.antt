@@ -13,7 +13,7 @@ use Rattle.periods.proofs.Recorded.{Recorded, masked, masked-tries, masked-reco
 use Rattle.contract.specs.Expressions.{Atom, any, idle, succeeds, fails, holds, Expression, Holds, one, join, left, right, none, more, member, begins}
 use Rattle.contract.specs.Expressions as Expressions
 use Rattle.contract.specs.Readings.{Dead, Reading, pending, accepted, rejected, judged, readingTo, reading}
-use Rattle.contract.specs.Meaning.{Literal, duty, ban, power, Clause, literal, deadline, both, then, repair, repeat, when, until, Decision, undecided, satisfied, violated, literalMeaning, later, after, firstSuccess, thenMeaning, repairMeaning, repeatMeaning, whenMeaning, meaning}
+use Rattle.contract.specs.Meaning.{only, Literal, duty, ban, power, Clause, literal, deadline, both, then, repair, repeat, when, until, Decision, undecided, satisfied, violated, firstParty, literalMeaning, later, after, firstSuccess, thenMeaning, repairMeaning, repeatMeaning, whenMeaning, meaning}
 use Rattle.contract.proofs.Expressions.{member-iff, begins-iff}
 use Rattle.reader.specs.Spelling.{atomRecord, literalRecord, deadlineRecord, Allowed, ExpressionInRange, InRange}
 use Rattle.reader.proofs.Fields.{allowed-action}
@@ -151,15 +151,15 @@ repeat-alike m h zero w v a = refl
 repeat-alike m h (suc n) w v a = rw (h w v a) (then-alike _ _ (after-alike (repeatMeaning m n) (repeat-alike m h n) w v a) (m v))
 
 -- the action of a literal in range is one of those that there are
-literal-action : (l : Literal) (p : Party) (n : ℕ) → Allowed (literalRecord l p n) → n < actions
-literal-action duty p n r = allowed-action (literalRecord duty p n) r
-literal-action ban p n r = allowed-action (literalRecord ban p n) r
-literal-action power p n r = allowed-action (literalRecord power p n) r
+literal-action : (l : Literal) (n : ℕ) → Allowed (literalRecord l n) → n < actions
+literal-action (duty o) n r = allowed-action (literalRecord (duty o) n) r
+literal-action (ban p) n r = allowed-action (literalRecord (ban p) n) r
+literal-action (power p) n r = allowed-action (literalRecord (power p) n) r
 
 module _ (n : ℕ) (h : n < actions) where
-  literal-alike : (l : Literal) (p : Party) → MeansAlike (literalMeaning l p n)
-  literal-alike l p [] [] end = refl
-  literal-alike l p (x ∷ w) (y ∷ v) (next s a) = rw (s .same p n h, s .same (other p) n h)
+  literal-alike : (l : Literal) → MeansAlike (literalMeaning l n)
+  literal-alike l [] [] end = refl
+  literal-alike l (x ∷ w) (y ∷ v) (next s a) = rw (s .same (firstParty l) n h, s .same (other (firstParty l)) n h)
 
   success-alike : MeansAlike (firstSuccess n)
   unfolding firstSuccess Periods.succeeds
@@ -168,12 +168,12 @@ module _ (n : ℕ) (h : n < actions) where
 
 pub meaning-alike : (c : Clause) → InRange c → MeansAlike (meaning c)
 unfolding meaning InRange
-meaning-alike (literal l p n) r w v a = literal-alike n (literal-action l p n r) l p w v a
+meaning-alike (literal l n) r w v a = literal-alike n (literal-action l n r) l w v a
 meaning-alike (deadline p n d) r w v a =
     let h = allowed-action (deadlineRecord p n d) r in
     rw (
       success-alike n h (take d w) (take d v) (alike-take d a),
-      after-alike (literalMeaning duty p n) (literal-alike n h duty p) w v a (d - 1),
+      after-alike (literalMeaning (duty (only p)) n) (literal-alike n h (duty (only p))) w v a (d - 1),
     )
 meaning-alike (both l r) g w v a = rw (meaning-alike l (g .0) w v a, meaning-alike r (g .1) w v a)
 meaning-alike (then l r) g w v a =

@@ -13,6 +13,7 @@ unfolding readTest read goodContractLength contractWindows windowsOf windows con
 reader-vectors =
     record {
       kinds-1-to-3 = refl;
+      party-3-of-duty = refl;
       kinds-4-to-6 = refl;
       kind-7 = refl;
       kind-8 = refl;
@@ -20,6 +21,8 @@ reader-vectors =
       kind-10 = refl;
       under-4-to-6 = refl;
       under-7-to-9 = refl;
+      joint-under-4-to-6 = refl;
+      joint-under-7-to-9 = refl;
       kinds-16-to-20 = refl;
       kinds-21-to-22 = refl;
       kind-23 = refl;
@@ -33,6 +36,9 @@ reader-vectors =
       kind-11 = refl;
       party-0 = refl;
       party-3 = refl;
+      party-4 = refl;
+      duty-parties = refl;
+      fields-of-joint = refl;
       action-16 = refl;
       unused-party = refl;
       unused-action = refl;

@@ -1,7 +1,7 @@
 -- The fields of a record and of the node that it makes: the node keeps those that the kind uses, and of fields in range all.
 use Prim.Native.Nat.{ℕ, _≤_, _<_}
 use native.Mathlib.Omega.{arith}
-use mathlib.Core.Bool.{Bool, true, _&&_, _||_, not, cond, and-eq-true-iff}
+use mathlib.Core.Bool.{Bool, true, false, _&&_, _||_, not, cond, and-eq-true-iff}
 use mathlib.Core.Logic.{⊎-elim}
 use mathlib.Core.Path.{_≡_, refl}
 use lib.Dec.{eqb, ltb, leb}
@@ -9,20 +9,25 @@ use borrow.Author.Tests.{eqb-true, eqb-false, leb-true, le-leb, ltb-true, ltb-fa
 use Rattle.records.proofs.Cases.{true-or-false}
 use Rattle.periods.specs.Limits.{actions}
 use Rattle.periods.specs.Periods.{partyNumber}
+use Rattle.contract.specs.Meaning.{partiesNumber}
 use Rattle.reader.specs.Limits.{maxWindow}
-use Rattle.reader.specs.Table.{Kind, Range, within, partyNumbers, Line, line}
-use Rattle.reader.specs.Trees.{Fields, Record, goodFields, partyNamed}
+use Rattle.reader.specs.Table.{Kind, Range, within, partyNumbers, ownerNumbers, Line, line}
+use Rattle.reader.specs.Trees.{Fields, Record, goodFields, partyNamed, ownerNamed}
 use Rattle.reader.specs.Spelling.{Allowed}
 use Rattle.reader.proofs.Table.{of-all}
 
 abbrev pub uses : Range → Bool
 uses r = ltb 0 (r .greatest)
 
--- what a node keeps
+-- whether a range of parties has the number of both
+abbrev owners : Range → Bool
+owners r = leb (ownerNumbers .greatest) (r .greatest)
+
+-- what a node keeps: of the field with a party the owner or the party
 abbrev pub used : Kind → Fields → Fields
 used k f =
     record {
-      party = cond (uses (line k .party)) (partyNumber (partyNamed (f .party))) 0;
+      party = cond (owners (line k .party)) (partiesNumber (ownerNamed (f .party))) (cond (uses (line k .party)) (partyNumber (partyNamed (f .party))) 0);
       action = cond (uses (line k .action)) (f .action) 0;
       last = cond (uses (line k .last)) (f .last) 0;
     }
@@ -54,25 +59,43 @@ used-number : (r : Range) (n : ℕ) → within r n ≡ true → cond (uses r) n 
 used-number r n h =
     ⊎-elim (λ e. rw e) (λ e. rw e (omega (arith, ltb-false 0 (r .greatest) e, inside r n h))) (true-or-false (uses r))
 
-number-named : (n : ℕ) → within partyNumbers n ≡ true → partyNumber (partyNamed n) ≡ n
-number-named n h =
+-- all numbers of one range are in another
+abbrev contains : Range → Range → Bool
+contains s r = leb (s .least) (r .least) && leb (r .greatest) (s .greatest)
+
+contained : (s r : Range) → contains s r ≡ true → (n : ℕ) → within r n ≡ true → within s n ≡ true
+contained s r g n h =
+    let b = and-eq-true-iff (leb (s .least) (r .least)) (leb (r .greatest) (s .greatest)) .0 g in
+    let l : s .least ≤ r .least = leb-true (s .least) (r .least) (b .0) in
+    let m : r .greatest ≤ s .greatest = leb-true (r .greatest) (s .greatest) (b .1) in
+    let i = inside r n h in
+    rw (le-leb (s .least) n (omega arith), le-leb n (s .greatest) (omega arith))
+
+party-number : (n : ℕ) → within partyNumbers n ≡ true → partyNumber (partyNamed n) ≡ n
+party-number n h =
     let i = inside partyNumbers n h in
     ⊎-elim (λ e. rw (eqb-true n 1 e)) (λ e. let d : n ≡ 1 → ⊥ = eqb-false n 1 e in rw e (omega arith)) (true-or-false (eqb n 1))
 
--- a range of parties, or of 0 alone
-abbrev ofParties : Range → Bool
-ofParties r = not (uses r) || (leb (partyNumbers .least) (r .least) && leb (r .greatest) (partyNumbers .greatest))
+owner-number : (n : ℕ) → within ownerNumbers n ≡ true → partiesNumber (ownerNamed n) ≡ n
+owner-number n h =
+    let i = inside ownerNumbers n h in
+    ⊎-elim (λ e. rw (eqb-true n 3 e))
+    (λ e. let d : n ≡ 3 → ⊥ = eqb-false n 3 e in rw e (party-number n (rw (le-leb 1 n (omega arith), le-leb n 2 (omega arith)))))
+    (true-or-false (eqb n 3))
 
-used-party : (r : Range) → ofParties r ≡ true → (n : ℕ) → within r n ≡ true → cond (uses r) (partyNumber (partyNamed n)) 0 ≡ n
-used-party r g n h = ⊎-elim of-party (λ e. rw e (rw e at (used-number r n h))) (true-or-false (uses r))
+-- a range of owners, of parties, or of 0 alone
+abbrev ofParties : Range → Bool
+ofParties r = cond (owners r) (contains ownerNumbers r) (not (uses r) || contains partyNumbers r)
+
+used-party : (r : Range) → ofParties r ≡ true → (n : ℕ) → within r n ≡ true
+    → cond (owners r) (partiesNumber (ownerNamed n)) (cond (uses r) (partyNumber (partyNamed n)) 0) ≡ n
+used-party r g n h = go (owners r) (uses r) g (used-number r n h)
   where
-    of-party : uses r ≡ true → cond (uses r) (partyNumber (partyNamed n)) 0 ≡ n
-    of-party e =
-        let b = and-eq-true-iff (leb (partyNumbers .least) (r .least)) (leb (r .greatest) (partyNumbers .greatest)) .0 (rw e at g) in
-        let l : partyNumbers .least ≤ r .least = leb-true (partyNumbers .least) (r .least) (b .0) in
-        let m : r .greatest ≤ partyNumbers .greatest = leb-true (r .greatest) (partyNumbers .greatest) (b .1) in
-        let i = inside r n h in
-        rw e (number-named n (rw (le-leb (partyNumbers .least) n (omega arith), le-leb n (partyNumbers .greatest) (omega arith))))
+    go : (o u : Bool) → cond o (contains ownerNumbers r) (not u || contains partyNumbers r) ≡ true → cond u n 0 ≡ n
+        → cond o (partiesNumber (ownerNamed n)) (cond u (partyNumber (partyNamed n)) 0) ≡ n
+    go true u e i = owner-number n (contained ownerNumbers r e n h)
+    go false true e i = party-number n (contained partyNumbers r e n h)
+    go false false e i = i
 
 pub used-same : (k : Kind) (f : Fields) → goodFields (line k) f ≡ true → used k f ≡ f
 used-same k f h =

@@ -65,14 +65,15 @@ module _ (P : (s : Sort) → Tree s → Type 0)
   on-expression (E.or l r) = step or (of 0 0) refl (l, (r, tt)) (on-expression l, (on-expression r, tt))
   on-expression (E.star e) = step star (of 0 0) refl (e, tt) (on-expression e, tt)
 
-  on-literal : (l : M.Literal) (p : Party) (a : ℕ) → P clause (M.literal l p a)
+  on-literal : (l : M.Literal) (a : ℕ) → P clause (M.literal l a)
   unfolding node
-  on-literal M.duty party1 a = step duty (of 1 a) refl tt tt
-  on-literal M.duty party2 a = step duty (of 2 a) refl tt tt
-  on-literal M.ban party1 a = step ban (of 1 a) refl tt tt
-  on-literal M.ban party2 a = step ban (of 2 a) refl tt tt
-  on-literal M.power party1 a = step power (of 1 a) refl tt tt
-  on-literal M.power party2 a = step power (of 2 a) refl tt tt
+  on-literal (M.duty (M.only party1)) a = step duty (of 1 a) refl tt tt
+  on-literal (M.duty (M.only party2)) a = step duty (of 2 a) refl tt tt
+  on-literal (M.duty M.bothParties) a = step duty (of 3 a) refl tt tt
+  on-literal (M.ban party1) a = step ban (of 1 a) refl tt tt
+  on-literal (M.ban party2) a = step ban (of 2 a) refl tt tt
+  on-literal (M.power party1) a = step power (of 1 a) refl tt tt
+  on-literal (M.power party2) a = step power (of 2 a) refl tt tt
 
   on-deadline : (p : Party) (a d : ℕ) → P clause (M.deadline p a d)
   unfolding node
@@ -81,7 +82,7 @@ module _ (P : (s : Sort) → Tree s → Type 0)
 
   on-clause : (c : Clause) → P clause c
   unfolding node
-  on-clause (M.literal l p a) = on-literal l p a
+  on-clause (M.literal l a) = on-literal l a
   on-clause (M.deadline p a d) = on-deadline p a d
   on-clause (M.both l r) = step both (of 0 0) refl (l, (r, tt)) (on-clause l, (on-clause r, tt))
   on-clause (M.then l r) = step then (of 0 0) refl (l, (r, tt)) (on-clause l, (on-clause r, tt))

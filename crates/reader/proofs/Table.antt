@@ -63,10 +63,6 @@ pub of-all : (f : Kind → Bool) → every f kinds ≡ true → (k : Kind) → f
 unfolding kindOf
 of-all f h k = subst (Passes f (line k .number)) (kind-number k) (first-passes f (line k .number) kinds h) .1
 
--- and one that they pass whatever the fields are, by every record
-pub of-records : (f : Record → Bool) → ((fs : Fields) → every (λ k. f record { kind = k; fields = fs }) kinds ≡ true) → (r : Record) → f r ≡ true
-of-records f h r = of-all (λ k. f record { kind = k; fields = r .fields }) (h (r .fields)) (r .kind)
-
 pub number-kind : (n : ℕ) (k : Kind) → kindOf n ≡ some k → line k .number ≡ n
 unfolding kindOf
 number-kind n k h = subst (Passes (λ j. true) n) h (first-passes (λ j. true) n kinds refl) .0

@@ -112,7 +112,7 @@ spelled-windows l c s =
 
 pub windows-max : (c : Clause) → InRange c → windows c ≤ maxWindow * records c
 unfolding windows records InRange
-windows-max (M.literal l p a) r = omega arith
+windows-max (M.literal l a) r = omega arith
 windows-max (M.deadline p a d) r = omega (arith, allowed-last (deadlineRecord p a d) r)
 windows-max (M.both l r) g = omega (arith, windows-max l (g .0), windows-max r (g .1))
 windows-max (M.then l r) g = omega (arith, windows-max l (g .0), windows-max r (g .1))

@@ -1,5 +1,6 @@
 -- Vectors of the reader: a contract for each kind, its bytes and the clause that they spell; refusals 1 to 7, number and place, and their order.
--- Document 01, "Records" and "Replies that refuse"; of kind 10 document 02, "Duties with a deadline".
+-- Document 01, "Records" and "Replies that refuse"; of kind 10 document 02, "Duties with a deadline"; of party 3 document 02, "Duties
+-- that both parties own".
 use Prim.Native.Nat.{ℕ}
 use mathlib.Core.List.{List, [], _∷_, _++_, map}
 use mathlib.Core.Path.{_≡_}
@@ -8,7 +9,7 @@ use Rattle.records.specs.Examples.{numberAndPlace}
 use Rattle.periods.specs.Periods.{party1, party2}
 use Rattle.contract.specs.Expressions.{any, tries, idle, succeeds, fails, atom, seq, or, star}
 use Rattle.contract.specs.Meaning.{Clause, deadline, both, then, repair, repeat, when, until}
-use Rattle.contract.specs.Examples.{duty, ban, power}
+use Rattle.contract.specs.Examples.{duty, joint, ban, power}
 use Rattle.reader.specs.Spelling.{windows}
 use Rattle.reader.specs.Reader.{Result, taken, contractWindows, read, readTest}
 
@@ -68,6 +69,8 @@ pub record ReaderVectors : Type 0 where
   pub kinds-1-to-3 :
       map (λ r. reads (r ∷ [])) (six 1 1 0 ∷ six 1 2 15 ∷ six 2 1 15 ∷ six 2 2 0 ∷ six 3 1 15 ∷ six 3 2 1 ∷ [])
       ≡ map taken (duty party1 0 ∷ duty party2 15 ∷ ban party1 15 ∷ ban party2 0 ∷ power party1 15 ∷ power party2 1 ∷ [])
+  pub party-3-of-duty :
+      map (λ r. reads (r ∷ [])) (six 1 3 0 ∷ six 1 3 1 ∷ six 1 3 15 ∷ []) ≡ map taken (joint 0 ∷ joint 1 ∷ joint 15 ∷ [])
   pub kinds-4-to-6 :
       map (λ k. reads (six 1 1 0 ∷ six 2 2 1 ∷ six k 0 0 ∷ [])) (4 ∷ 5 ∷ 6 ∷ [])
       ≡ map taken (both (duty party1 0) (ban party2 1) ∷ then (duty party1 0) (ban party2 1) ∷ repair (duty party1 0) (ban party2 1) ∷ [])
@@ -87,6 +90,12 @@ pub record ReaderVectors : Type 0 where
       map reads
       ((deadlineBytes ∷ repeatBytes ∷ []) ∷ (anyBytes ∷ deadlineBytes ∷ whenBytes ∷ []) ∷ (deadlineBytes ∷ anyBytes ∷ untilBytes ∷ []) ∷ [])
       ≡ map taken (repeat (deadline party1 0 3) ∷ when (atom any) (deadline party1 0 3) ∷ until (deadline party1 0 3) (atom any) ∷ [])
+  pub joint-under-4-to-6 :
+      map (λ k. reads (six 1 3 0 ∷ six 1 3 1 ∷ six k 0 0 ∷ [])) (4 ∷ 5 ∷ 6 ∷ [])
+      ≡ map taken (both (joint 0) (joint 1) ∷ then (joint 0) (joint 1) ∷ repair (joint 0) (joint 1) ∷ [])
+  pub joint-under-7-to-9 :
+      map reads ((six 1 3 0 ∷ repeatBytes ∷ []) ∷ (anyBytes ∷ six 1 3 0 ∷ whenBytes ∷ []) ∷ (six 1 3 0 ∷ anyBytes ∷ untilBytes ∷ []) ∷ [])
+      ≡ map taken (repeat (joint 0) ∷ when (atom any) (joint 0) ∷ until (joint 0) (atom any) ∷ [])
   pub kinds-16-to-20 :
       map (λ r. reads (r ∷ dutyBytes ∷ whenBytes ∷ []))
       (six 16 0 0 ∷ six 17 1 15 ∷ six 17 2 0 ∷ six 18 1 15 ∷ six 18 2 0 ∷ six 19 0 15 ∷ six 20 0 15 ∷ [])
@@ -131,7 +140,10 @@ pub record ReaderVectors : Type 0 where
   pub kind-11 : found (sixWith 11 1 0 3 ∷ []) ≡ (3, 0)
   -- ---- 4: "a field out of range, or an unused one not 0"
   pub party-0 : map (λ k. found (six k 0 0 ∷ [])) (1 ∷ 2 ∷ 3 ∷ 17 ∷ 18 ∷ []) ≡ replicate 5 (4, 0)
-  pub party-3 : map (λ k. found (six k 3 0 ∷ [])) (1 ∷ 2 ∷ 3 ∷ 17 ∷ 18 ∷ []) ≡ replicate 5 (4, 0)
+  pub party-3 : map (λ k. found (six k 3 0 ∷ [])) (1 ∷ 2 ∷ 3 ∷ 17 ∷ 18 ∷ []) ≡ (0, 0) ∷ replicate 4 (4, 0)
+  pub party-4 : map (λ k. found (six k 4 0 ∷ [])) (1 ∷ 2 ∷ 3 ∷ 17 ∷ 18 ∷ []) ≡ replicate 5 (4, 0)
+  pub duty-parties : map (λ p. found (six 1 p 0 ∷ [])) (1 ∷ 2 ∷ 3 ∷ 5 ∷ 7 ∷ 255 ∷ []) ≡ replicate 3 (0, 0) ++ replicate 3 (4, 0)
+  pub fields-of-joint : map (λ r. found (r ∷ [])) (six 1 3 16 ∷ sixWith 1 3 0 1 ∷ sixWith 1 3 0 3 ∷ []) ≡ replicate 3 (4, 0)
   pub action-16 :
       map (λ r. found (r ∷ [])) (six 1 1 16 ∷ six 2 1 16 ∷ six 3 1 16 ∷ six 17 1 16 ∷ six 18 1 16 ∷ six 19 0 16 ∷ six 20 0 16 ∷ [])
       ≡ replicate 7 (4, 0)
@@ -144,8 +156,8 @@ pub record ReaderVectors : Type 0 where
   pub last-byte-0 : map found (lastBytes 0) ≡ replicate 9 (0, 0) ++ replicate 5 (6, 1) ++ ((6, 3) ∷ (6, 3) ∷ (6, 2) ∷ [])
   pub window :
       map (λ d. found (sixWith 10 1 0 d ∷ [])) (0 ∷ 1 ∷ 15 ∷ 16 ∷ 17 ∷ 255 ∷ []) ≡ (4, 0) ∷ (0, 0) ∷ (0, 0) ∷ replicate 3 (4, 0)
-  pub fields-of-deadline : map (λ r. found (r ∷ [])) (sixWith 10 0 0 1 ∷ sixWith 10 3 0 1 ∷ sixWith 10 1 16 1 ∷ []) ≡ replicate 3 (4, 0)
-  pub field-of-second : found (dutyBytes ∷ six 1 3 0 ∷ []) ≡ (4, 1)
+  pub fields-of-deadline : map (λ r. found (r ∷ [])) (sixWith 10 0 0 1 ∷ sixWith 10 3 0 1 ∷ sixWith 10 4 0 1 ∷ sixWith 10 1 16 1 ∷ []) ≡ replicate 4 (4, 0)
+  pub field-of-second : found (dutyBytes ∷ six 1 4 0 ∷ []) ≡ (4, 1)
   -- ---- 5: "operands missing or of the wrong sort"
   pub missing-operands :
       map (λ k. found (six k 0 0 ∷ [])) (4 ∷ 5 ∷ 6 ∷ 7 ∷ 8 ∷ 9 ∷ 21 ∷ 22 ∷ 23 ∷ []) ≡ replicate 9 (5, 0)
@@ -170,13 +182,13 @@ pub record ReaderVectors : Type 0 where
   -- ---- "for each record 2, 3, 4, 5, 7, then 6"
   pub one-before-two : found ((0x54 ∷ 0x44 ∷ 0x01 ∷ 0x01 ∷ 0x00 ∷ 0x00 ∷ []) ∷ (0x54 ∷ []) ∷ []) ≡ (1, 0)
   pub two-before-three : found ((0x54 ∷ 0x44 ∷ 0x0b ∷ 0x00 ∷ 0x00 ∷ 0x00 ∷ []) ∷ []) ≡ (2, 0)
-  pub three-before-four : found (six 11 3 16 ∷ []) ≡ (3, 0)
+  pub three-before-four : found (six 11 4 16 ∷ []) ≡ (3, 0)
   pub four-before-five : found (six 7 1 0 ∷ []) ≡ (4, 0)
   pub four-before-seven : found (anyBytes ∷ starBytes ∷ dutyBytes ∷ six 8 1 0 ∷ []) ≡ (4, 3)
   pub five-before-seven : found (anyBytes ∷ starBytes ∷ anyBytes ∷ whenBytes ∷ []) ≡ (5, 3)
   pub seven-before-six : found (dutyBytes ∷ anyBytes ∷ starBytes ∷ dutyBytes ∷ whenBytes ∷ []) ≡ (7, 4)
   pub first-record-first :
       map found
-      ((six 7 0 0 ∷ (0x54 ∷ 0x44 ∷ 0x01 ∷ 0x01 ∷ 0x00 ∷ 0x00 ∷ []) ∷ []) ∷ (six 1 3 0 ∷ six 11 0 0 ∷ [])
+      ((six 7 0 0 ∷ (0x54 ∷ 0x44 ∷ 0x01 ∷ 0x01 ∷ 0x00 ∷ 0x00 ∷ []) ∷ []) ∷ (six 1 4 0 ∷ six 11 0 0 ∷ [])
       ∷ (anyBytes ∷ starBytes ∷ dutyBytes ∷ whenBytes ∷ six 7 0 0 ∷ six 11 0 0 ∷ []) ∷ (dutyBytes ∷ dutyBytes ∷ six 11 0 0 ∷ []) ∷ [])
       ≡ (5, 0) ∷ (4, 0) ∷ (7, 3) ∷ (3, 2) ∷ []

@@ -79,7 +79,7 @@ operandsOf (s ∷ ss) st = below s (operandsOf ss st)
 -- expression's set.
 
 abbrev pub clauseHoldsEmpty : Clause → Bool
-clauseHoldsEmpty (literal l p a) = false
+clauseHoldsEmpty (literal l a) = false
 clauseHoldsEmpty (M.deadline p a d) = false
 clauseHoldsEmpty (both l r) = false
 clauseHoldsEmpty (then l r) = false

@@ -1,5 +1,5 @@
 -- The bytes that spell a clause, "operands before their operator", how many records it has and the sum of its windows. Document 01, "Records";
--- of windows document 02, "Duties with a deadline".
+-- of windows document 02, "Duties with a deadline"; of a duty's owner document 02, "Duties that both parties own".
 use Prim.Native.Nat.{ℕ, _+_, _≤_}
 use mathlib.Core.Bool.{true}
 use mathlib.Core.List.{List, [], _∷_, _++_}
@@ -7,7 +7,7 @@ use mathlib.Core.Path.{_≡_}
 use Rattle.records.specs.Marks.{contractMark}
 use Rattle.periods.specs.Periods.{Party, partyNumber}
 use Rattle.contract.specs.Expressions.{Atom, any, tries, idle, succeeds, fails, Expression, atom, seq, or, star}
-use Rattle.contract.specs.Meaning.{Literal, duty, ban, power, Clause, literal, deadline, both, then, repair, repeat, when, until, EmptyFree}
+use Rattle.contract.specs.Meaning.{partiesNumber, Literal, duty, ban, power, Clause, literal, deadline, both, then, repair, repeat, when, until, EmptyFree}
 use Rattle.reader.specs.Limits.{maxRecords}
 use Rattle.reader.specs.Table as K
 use Rattle.reader.specs.Table.{Sort, Kind, line}
@@ -32,10 +32,10 @@ atomRecord (idle p a) = recordWith K.idle (partyNumber p) a 0
 atomRecord (succeeds a) = recordWith K.succeeds 0 a 0
 atomRecord (fails a) = recordWith K.fails 0 a 0
 
-abbrev pub literalRecord : Literal → Party → ℕ → Record
-literalRecord duty p a = recordWith K.duty (partyNumber p) a 0
-literalRecord ban p a = recordWith K.ban (partyNumber p) a 0
-literalRecord power p a = recordWith K.power (partyNumber p) a 0
+abbrev pub literalRecord : Literal → (action : ℕ) → Record
+literalRecord (duty o) a = recordWith K.duty (partiesNumber o) a 0
+literalRecord (ban p) a = recordWith K.ban (partyNumber p) a 0
+literalRecord (power p) a = recordWith K.power (partyNumber p) a 0
 
 abbrev pub deadlineRecord : Party → (action window : ℕ) → Record
 deadlineRecord p a d = recordWith K.deadline (partyNumber p) a d
@@ -47,7 +47,7 @@ spellExpression (or l r) = spellExpression l ++ spellExpression r ++ spellRecord
 spellExpression (star e) = spellExpression e ++ spellRecord (plainRecord K.star)
 
 unfoldable pub spell : Clause → List ℕ
-spell (literal l p a) = spellRecord (literalRecord l p a)
+spell (literal l a) = spellRecord (literalRecord l a)
 spell (deadline p a d) = spellRecord (deadlineRecord p a d)
 spell (both l r) = spell l ++ spell r ++ spellRecord (plainRecord K.both)
 spell (then l r) = spell l ++ spell r ++ spellRecord (plainRecord K.then)
@@ -64,7 +64,7 @@ expressionRecords (or l r) = expressionRecords l + expressionRecords r + 1
 expressionRecords (star e) = expressionRecords e + 1
 
 unfoldable pub records : Clause → ℕ
-records (literal l p a) = 1
+records (literal l a) = 1
 records (deadline p a d) = 1
 records (both l r) = records l + records r + 1
 records (then l r) = records l + records r + 1
@@ -75,7 +75,7 @@ records (until c e) = records c + expressionRecords e + 1
 
 -- the sum of all windows of a clause
 unfoldable pub windows : Clause → ℕ
-windows (literal l p a) = 0
+windows (literal l a) = 0
 windows (deadline p a d) = d
 windows (both l r) = windows l + windows r
 windows (then l r) = windows l + windows r
@@ -105,7 +105,7 @@ ExpressionInRange (or l r) = ExpressionInRange l × ExpressionInRange r
 ExpressionInRange (star e) = ExpressionInRange e
 
 unfoldable pub InRange : Clause → Type 0
-InRange (literal l p a) = Allowed (literalRecord l p a)
+InRange (literal l a) = Allowed (literalRecord l a)
 InRange (deadline p a d) = Allowed (deadlineRecord p a d)
 InRange (both l r) = InRange l × InRange r
 InRange (then l r) = InRange l × InRange r

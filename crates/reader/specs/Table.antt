@@ -1,5 +1,5 @@
 -- The one fixed table: what a record of each kind completes, its operands, and what its fields may be. Document 01, "Records"; of kind 10
--- document 02, "Duties with a deadline".
+-- document 02, "Duties with a deadline"; of a duty's owner document 02, "Duties that both parties own".
 use Prim.Native.Nat.{ℕ, _-_}
 use mathlib.Core.Bool.{Bool, _&&_, cond}
 use mathlib.Core.List.{List, [], _∷_}
@@ -35,6 +35,10 @@ unused = range 0 0
 abbrev pub partyNumbers : Range
 partyNumbers = range 1 2
 
+-- a duty's owner: a party, or 3 for both
+abbrev pub ownerNumbers : Range
+ownerNumbers = range 1 3
+
 -- "action (0 to 15)"
 abbrev pub actionNumbers : Range
 actionNumbers = range 0 (actions - 1)
@@ -57,7 +61,7 @@ abbrev entry : ℕ → Sort → List Sort → (party action last : Range) → Li
 entry n c os p a z = record { number = n; completes = c; operands = os; party = p; action = a; last = z }
 
 abbrev pub line : Kind → Line
-line duty = entry 1 clause [] partyNumbers actionNumbers unused
+line duty = entry 1 clause [] ownerNumbers actionNumbers unused
 line ban = entry 2 clause [] partyNumbers actionNumbers unused
 line power = entry 3 clause [] partyNumbers actionNumbers unused
 line both = entry 4 clause (clause ∷ clause ∷ []) unused unused unused

@@ -1,4 +1,4 @@
--- A record with its operands makes a tree: a clause or an expression. Document 01, "Records".
+-- A record with its operands makes a tree: a clause or an expression. Document 01, "Records"; document 02, "Duties that both parties own".
 use Prim.Native.Nat.{ℕ}
 use mathlib.Core.Bool.{Bool, _&&_, cond}
 use mathlib.Core.List.{List, [], _∷_}
@@ -7,7 +7,7 @@ use Rattle.periods.specs.Periods.{Party, party1, party2}
 use Rattle.contract.specs.Expressions as E
 use Rattle.contract.specs.Expressions.{Expression}
 use Rattle.contract.specs.Meaning as M
-use Rattle.contract.specs.Meaning.{Literal, Clause, literal}
+use Rattle.contract.specs.Meaning.{Parties, only, bothParties, Literal, Clause, literal}
 use Rattle.reader.specs.Table.{Sort, clause, expression, Kind, duty, ban, power, both, then, repair, repeat, when, until, deadline, any, tries, idle, succeeds, fails, seq, or, star, within, Line, line}
 
 -- the trees of a sort
@@ -38,11 +38,15 @@ goodFields l f = within (l .party) (f .party) && within (l .action) (f .action) 
 abbrev pub partyNamed : ℕ → Party
 partyNamed n = cond (eqb n 1) party1 party2
 
+-- the owner of a field in range, 1 to 3
+abbrev pub ownerNamed : ℕ → Parties
+ownerNamed n = cond (eqb n 3) bothParties (only (partyNamed n))
+
 -- the tree that a record makes of its operands
 unfoldable pub node : (k : Kind) → Fields → Trees (line k .operands) → Tree (line k .completes)
-node duty f ts = literal Literal.duty (partyNamed (f .party)) (f .action)
-node ban f ts = literal Literal.ban (partyNamed (f .party)) (f .action)
-node power f ts = literal Literal.power (partyNamed (f .party)) (f .action)
+node duty f ts = literal (Literal.duty (ownerNamed (f .party))) (f .action)
+node ban f ts = literal (Literal.ban (partyNamed (f .party))) (f .action)
+node power f ts = literal (Literal.power (partyNamed (f .party))) (f .action)
 node both f ts = M.both (ts .0) (ts .1 .0)
 node then f ts = M.then (ts .0) (ts .1 .0)
 node repair f ts = M.repair (ts .0) (ts .1 .0)

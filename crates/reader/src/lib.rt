@@ -1,5 +1,5 @@
 // The reader, which takes the bytes of a contract or refuses them. Document 01, "Records" and "Replies that refuse"; of
-// windows document 02, "Duties with a deadline".
+// windows document 02, "Duties with a deadline"; of a duty's owner document 02, "Duties that both parties own".
 ghost use mathlib.Core.Path.{_≡_};
 ghost use mathlib.Core.List.{[]};
 ghost use Prim.Native.Nat.{_+_, _≤_};
@@ -52,8 +52,11 @@ const LAST_LEAST: u32 = 1048576;
 
 const LAST_GREATEST: u32 = 16777216;
 
-// A party is 1 or 2, an action one of those that there are, a window 1 to 15. A field that a kind does not use is 0 to 0.
+// A party is 1 or 2, the owner of a duty a party or 3 for both, an action one of those that there are, a window 1 to 15. A field that a kind does
+// not use is 0 to 0.
 const PARTY_RANGE: u32 = PARTY_LEAST * 1 + PARTY_GREATEST * 2;
+
+const OWNER_RANGE: u32 = PARTY_LEAST * 1 + PARTY_GREATEST * 3;
 
 const ACTION_RANGE: u32 = ACTION_GREATEST * (periods::ACTIONS - 1);
 
@@ -61,7 +64,7 @@ const WINDOW_RANGE: u32 = LAST_LEAST * 1 + LAST_GREATEST * MAX_WINDOW;
 
 // A line for each of the kinds 1 to 10, then 16 to 23.
 const TABLE: [u32; 18] = [
-    PARTY_RANGE + ACTION_RANGE, // 1 duty
+    OWNER_RANGE + ACTION_RANGE, // 1 duty
     PARTY_RANGE + ACTION_RANGE, // 2 ban
     PARTY_RANGE + ACTION_RANGE, // 3 power
     OPERANDS * 2 + FIRST * CLAUSE as u32 + SECOND * CLAUSE as u32, // 4 both

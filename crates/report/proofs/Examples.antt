@@ -30,6 +30,7 @@ report-vectors =
       text-bytes = refl;
       decided-first = refl;
       never-decided = refl;
+      both-blamed = refl;
       small-inputs = refl;
       trace-only = refl;
       cut-record = refl;

@@ -1,4 +1,4 @@
--- Vectors of the report: document 01's example of "Watch", and its edges.
+-- Vectors of the report: document 01's example of "Watch", and its edges; of blame 3 document 02, "Duties that both parties own".
 use Prim.Native.Nat.{ℕ, _<_}
 use mathlib.Core.List.{List, [], _∷_, _++_, map}
 use mathlib.Core.Path.{_≡_}
@@ -18,13 +18,15 @@ pub record ReportVectors : Type 0 where
   pub text-bytes : ascii "decided 0\n" ≡ 0x64 ∷ 0x65 ∷ 0x63 ∷ 0x69 ∷ 0x64 ∷ 0x65 ∷ 0x64 ∷ 0x20 ∷ 0x30 ∷ 0x0a ∷ []
   pub decided-first : report (dutyBytes ++ periodRecord 1 1 ++ periodRecord 0 0) ≡ ascii "1 met 0\n2 met-after 0\ndecided 1\n"
   pub never-decided : report (dutyBytes ++ repeatBytes ++ periodRecord 1 1 ++ periodRecord 1 1) ≡ ascii "1 open 0\n2 open 0\ndecided 0\n"
+  -- blame 3
+  pub both-blamed : report (six 1 3 0 ++ periodRecord 0 0 ++ periodRecord 1 1) ≡ ascii "1 broken 3\n2 broken-after 3\ndecided 1\n"
   -- "`refused`, number, place": 1 to 7 of compile's
   pub small-inputs :
       map report
       ([]
       ∷ (0x54 ∷ 0x44 ∷ 0x01 ∷ 0x01 ∷ 0x00 ∷ 0x00 ∷ [])
       ∷ six 11 0 0
-      ∷ six 1 3 0
+      ∷ six 1 4 0
       ∷ repeatBytes
       ∷ anyBytes
       ∷ joined (anyBytes ∷ starBytes ∷ dutyBytes ∷ whenBytes ∷ []) ∷ [])

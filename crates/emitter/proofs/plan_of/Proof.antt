@@ -1,94 +1,45 @@
--- `emitter::plan_of` meets its contract: the program's plans are the definition's at every kind's number.
-use Prim.Native.Nat.{ℕ}
-use native.Mathlib.Omega.{arith}
-use mathlib.Core.Path.{_≡_, sym, ap, _∙_}
+-- `emitter::plan_of` meets its contract: a duty of both parties has its own plan, every other record its kind's.
+use mathlib.Core.Bool.{true, false, and-comm}
+use mathlib.Core.Option.{some}
+use mathlib.Core.Path.{_≡_, _∙_}
 use mathlib.Core.Logic.{⊎-elim}
-use mathlib.Core.Option.{some, Option·some-injective, Option·none-ne-some}
+use lib.Dec.{eqb}
 use borrow.Author.Needs.{needs}
-use Rattle.reader.specs.Table.{Kind, kindOf}
-use Rattle.reader.proofs.Table.{OfClause, OfExpression, clausePlace, expressionPlace, clause-kind, expression-kind, no-kind, table-at}
-use Rattle.emitter.specs.Plans.{planLine, named}
+use borrow.Author.Tests.{ne-eqb}
+use Rattle.contract.specs.Meaning.{bothParties, partiesNumber}
+use Rattle.reader.specs.Table.{Kind, duty, line, kindOf}
+use Rattle.reader.proofs.Table.{number-kind}
+use Rattle.emitter.specs.declared.RecordBody.{RecordBody}
+use Rattle.emitter.specs.Plans.{planLine, jointLine, named, planOf}
+use Rattle.emitter.specs.Blocks.{recordFrom}
 use Rattle.emitter.proofs.plan_of.Statement.{statement}
 use Rattle.emitter.proofs.plan_of.Tie as tie
 
--- a number of no kind
-of-none : (n : ℕ) (k : Kind) → kindOf n ≡ some k → ¬ OfClause n → ¬ OfExpression n → ⊥
-of-none n k e no-clause no-expression = Option·none-ne-some k (sym (no-kind n no-clause no-expression) ∙ e)
+module _ (r : RecordBody) (k : Kind) (e : kindOf (r .kind) ≡ some k) where
+  joint : r .kind ≡ line duty .number → eqb (r .party) (partiesNumber bothParties) ≡ true → named jointLine ≡ planOf (recordFrom k r)
+  joint i j = rw (number-kind (r .kind) k e, i, j)
 
-cast-named : tie.Need-cast-named
-cast-named c = search needs
+  no-duty : ¬ (r .kind ≡ line duty .number) → named (planLine k) ≡ planOf (recordFrom k r)
+  no-duty i = rw (number-kind (r .kind) k e, ne-eqb (r .kind) (line duty .number) i)
 
-sub-named : tie.Need-sub-named
-sub-named c = search needs
-
-mul-named : tie.Need-mul-named
-mul-named c = search needs
-
-array-copy-out-named : tie.Need-array-copy-out-named
-array-copy-out-named c = search needs
+  one-party : eqb (r .party) (partiesNumber bothParties) ≡ false → named (planLine k) ≡ planOf (recordFrom k r)
+  one-party i = rw (i, and-comm (eqb (line k .number) (line duty .number)) false)
 
 named-requires : tie.Need-named-requires
 named-requires c κs = search needs
 
-cast-named-2 : tie.Need-cast-named-2
-cast-named-2 c = search needs
-
-sub-named-2 : tie.Need-sub-named-2
-sub-named-2 c = search needs
-
-mul-named-2 : tie.Need-mul-named-2
-mul-named-2 c = search needs
-
-array-copy-out-named-2 : tie.Need-array-copy-out-named-2
-array-copy-out-named-2 c = search needs
-
-named-requires-2 : tie.Need-named-requires-2
-named-requires-2 c κs = search needs
-
-named-requires-3 : tie.Need-named-requires-3
-named-requires-3 c κs = search needs
-
 returns : tie.Need-returns
 returns c k e =
     let t = c .before .before in
-    let n = t .before .before .args .r .kind in
-    let h = t .before .if1 .left in
-    let i = t .if2 .taken in
-    c .named .ensures ∙ ap named (table-at planLine _ (clausePlace n) (omega arith))
-    ∙ ap (λ (j : Kind). named (planLine j)) (Option·some-injective _ k (sym (clause-kind n (h, omega arith)) ∙ e))
+    c .named .ensures ∙ joint (t .before .args .r) k e (t .if1 .taken) (c .before .if2 .taken)
+
+kind-plan-requires : tie.Need-kind-plan-requires
+kind-plan-requires c κs = search needs
 
 returns-2 : tie.Need-returns-2
 returns-2 c k e =
-    let t = c .before .before in
-    let n = t .before .before .before .before .args .r .kind in
-    let h = t .before .if3 .left in
-    let i = t .if4 .taken in
-    c .named2 .ensures ∙ ap named (table-at planLine _ (expressionPlace n) (omega arith))
-    ∙ ap (λ (j : Kind). named (planLine j)) (Option·some-injective _ k (sym (expression-kind n (h, omega arith)) ∙ e))
-
-returns-3 : tie.Need-returns-3
-returns-3 c k e =
-    let n = c .before .before .args .r .kind in
-    ⊎-elim (λ w. absurd (of-none n k e (λ i. omega (arith, w .taken)) (λ i. omega (arith, w .taken))))
-    (λ v. ⊎-elim (λ w. absurd (of-none n k e (λ i. omega (arith, w .1 .left)) (λ i. omega (arith, w .2 .taken))))
-    (λ w. absurd (of-none n k e (λ i. omega (arith, w .3 .left)) (λ i. omega (arith, w .3 .left)))) v)
-    (c .before .if1 .came)
+    let r = c .before .before .args .r in
+    c .kind-plan .ensures k e ∙ ⊎-elim (λ w. one-party r k e (w .1 .left)) (λ w. no-duty r k e (w .left)) (c .before .if1 .came)
 
 pub plan-of-spec : {M : Type 1} → statement M
-plan-of-spec =
-    tie.close
-    (tie.spec
-    cast-named
-    sub-named
-    mul-named
-    array-copy-out-named
-    named-requires
-    cast-named-2
-    sub-named-2
-    mul-named-2
-    array-copy-out-named-2
-    named-requires-2
-    named-requires-3
-    returns
-    returns-2
-    returns-3)
+plan-of-spec = tie.close (tie.spec named-requires returns kind-plan-requires returns-2)
