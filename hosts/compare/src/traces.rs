@@ -112,11 +112,12 @@ pub fn damage(random: &mut Random, trace: &mut Vec<u8>) {
 #[cfg(test)]
 mod tests {
     use super::*;
+    use reference::Party;
 
     #[test]
     fn every_window_is_met_and_missed_in_its_last_period() {
         for window in 1..=15 {
-            let clause = Clause::Deadline(1, 0, window);
+            let clause = Clause::Deadline(Party::One, 0, window);
             let (mut met, mut blames) = (0, [0; 2]);
             for seed in 0..500 {
                 let mut monitor = Monitor::new(&clause);

@@ -1,13 +1,14 @@
 //! Clauses and expressions as trees, decisions and verdicts.
 
+use crate::records::Party;
 use std::rc::Rc;
 
 /// What an expression is made of: kinds 16 to 23.
 #[derive(Clone, Debug, PartialEq, Eq)]
 pub enum Shape {
     Any,
-    Tries(u8, u8),
-    Idle(u8, u8),
+    Tries(Party, u8),
+    Idle(Party, u8),
     Succeeds(u8),
     Fails(u8),
     Seq(Rc<Expression>, Rc<Expression>),
@@ -41,21 +42,16 @@ impl Expression {
 /// window of 1 to 15 periods.
 #[derive(Clone, Debug, PartialEq, Eq)]
 pub enum Clause {
-    Duty(u8, u8),
-    Ban(u8, u8),
-    Power(u8, u8),
+    Duty(Party, u8),
+    Ban(Party, u8),
+    Power(Party, u8),
     Both(Rc<Clause>, Rc<Clause>),
     Then(Rc<Clause>, Rc<Clause>),
     Repair(Rc<Clause>, Rc<Clause>),
     Repeat(Rc<Clause>),
     When(Rc<Expression>, Rc<Clause>),
     Until(Rc<Clause>, Rc<Expression>),
-    Deadline(u8, u8, u8),
-}
-
-/// The other party: "p is the record's party, q the other".
-pub fn other(party: u8) -> u8 {
-    3 - party
+    Deadline(Party, u8, u8),
 }
 
 /// "On a list of periods a clause is undecided, or satisfied or violated at one period k, counted

@@ -1,7 +1,7 @@
 //! Reading a contract's bytes, with refusals 1 to 8.
 
 use crate::clause::{Clause, Expression, Shape};
-use crate::records::{refused, Refusal, CONTRACT_MARK, RECORD_BYTES};
+use crate::records::{refused, Party, Refusal, CONTRACT_MARK, RECORD_BYTES};
 use std::rc::Rc;
 
 /// "A contract is 1 to 64 records."
@@ -143,7 +143,7 @@ fn read_record(record: &[u8], number: usize, stack: &mut Vec<Operand>) -> Result
 /// that a kind doesn't use is 0."
 fn fields_are_good(kind: &Kind, record: &[u8]) -> bool {
     let party = if kind.party {
-        record[3] == 1 || record[3] == 2
+        Party::of_number(record[3].into()).is_some()
     } else {
         record[3] == 0
     };
@@ -173,30 +173,31 @@ fn take_operands(kind: &Kind, stack: &mut Vec<Operand>) -> Option<Vec<Operand>> 
 /// The clause or expression that a good record completes.
 fn complete(record: &[u8], operands: &[Operand]) -> Operand {
     use Operand::{Clause as C, Expression as E};
-    let (kind, party, action, window) = (record[2], record[3], record[4], record[5]);
+    let (kind, action, window) = (record[2], record[4], record[5]);
     let clause = match (kind, operands) {
-        (1, []) => Clause::Duty(party, action),
-        (2, []) => Clause::Ban(party, action),
-        (3, []) => Clause::Power(party, action),
+        (1, []) => Clause::Duty(party(record), action),
+        (2, []) => Clause::Ban(party(record), action),
+        (3, []) => Clause::Power(party(record), action),
         (4, [C(left), C(right)]) => Clause::Both(left.clone(), right.clone()),
         (5, [C(left), C(right)]) => Clause::Then(left.clone(), right.clone()),
         (6, [C(left), C(right)]) => Clause::Repair(left.clone(), right.clone()),
         (7, [C(clause)]) => Clause::Repeat(clause.clone()),
         (8, [E(expression), C(clause)]) => Clause::When(expression.clone(), clause.clone()),
         (9, [C(clause), E(expression)]) => Clause::Until(clause.clone(), expression.clone()),
-        (10, []) => Clause::Deadline(party, action, window),
-        _ => return E(Expression::new(shape(kind, party, action, operands))),
+        (10, []) => Clause::Deadline(party(record), action, window),
+        _ => return E(Expression::new(shape(record, operands))),
     };
     C(Rc::new(clause))
 }
 
 /// The shape of the expression that a good record of kind 16 to 23 completes.
-fn shape(kind: u8, party: u8, action: u8, operands: &[Operand]) -> Shape {
+fn shape(record: &[u8], operands: &[Operand]) -> Shape {
     use Operand::Expression as E;
+    let (kind, action) = (record[2], record[4]);
     match (kind, operands) {
         (16, []) => Shape::Any,
-        (17, []) => Shape::Tries(party, action),
-        (18, []) => Shape::Idle(party, action),
+        (17, []) => Shape::Tries(party(record), action),
+        (18, []) => Shape::Idle(party(record), action),
         (19, []) => Shape::Succeeds(action),
         (20, []) => Shape::Fails(action),
         (21, [E(left), E(right)]) => Shape::Seq(left.clone(), right.clone()),
@@ -204,6 +205,11 @@ fn shape(kind: u8, party: u8, action: u8, operands: &[Operand]) -> Shape {
         (23, [E(expression)]) => Shape::Star(expression.clone()),
         _ => unreachable!("the operands are the table's"),
     }
+}
+
+/// The party of a good record whose kind uses one.
+fn party(record: &[u8]) -> Party {
+    Party::of_number(record[3].into()).expect("the fields are the table's")
 }
 
 /// The expression that a clause has under `when` or `until` at its top.

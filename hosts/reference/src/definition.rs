@@ -1,8 +1,8 @@
 //! "Expressions" and "Meaning of clauses", on whole lists of periods and as the text has it: slow,
 //! and with no state between periods.
 
-use crate::clause::{other, Clause, Decision, Expression, Shape};
-use crate::records::Period;
+use crate::clause::{Clause, Decision, Expression, Shape};
+use crate::records::{Party, Period};
 
 /// Whether the list is in the expression's set.
 pub fn holds(expression: &Expression, list: &[Period]) -> bool {
@@ -125,11 +125,11 @@ fn from_after(clause: &Clause, list: &[Period], k: usize) -> Decision {
 pub fn literal(clause: &Clause, first: Period) -> Decision {
     let blame = match *clause {
         Clause::Duty(_, action) if first.succeeds(action) => 0,
-        Clause::Duty(p, action) if !first.tries(p, action) => p,
-        Clause::Duty(p, _) => other(p),
-        Clause::Ban(p, action) if first.succeeds(action) => p,
-        Clause::Power(p, action) if first.tries(p, action) && !first.tries(other(p), action) => {
-            other(p)
+        Clause::Duty(p, action) if !first.tries(p, action) => p.number(),
+        Clause::Duty(p, _) => p.other().number(),
+        Clause::Ban(p, action) if first.succeeds(action) => p.number(),
+        Clause::Power(p, action) if first.tries(p, action) && !first.tries(p.other(), action) => {
+            p.other().number()
         }
         _ => 0,
     };
@@ -141,7 +141,7 @@ pub fn literal(clause: &Clause, first: Period) -> Decision {
 
 /// "Satisfied in the first of its d periods in which both try. If none of them succeeds it is
 /// violated at the d-th, with a plain duty's blame for that period."
-fn deadline(party: u8, action: u8, window: u8, list: &[Period]) -> Decision {
+fn deadline(party: Party, action: u8, window: u8, list: &[Period]) -> Decision {
     let window = usize::from(window);
     let mut its_periods = list.iter().take(window);
     if let Some(before) = its_periods.position(|period| period.succeeds(action)) {

@@ -21,4 +21,4 @@ pub mod watch;
 
 pub use clause::{Clause, Decision, Expression, Shape, Verdict};
 pub use monitor::Monitor;
-pub use records::{Period, Refusal};
+pub use records::{Party, Period, Refusal};

@@ -3,7 +3,7 @@
 use crate::clause::{Clause, Decision, Expression, Verdict};
 use crate::definition::literal;
 use crate::reading::{Read, Waiting};
-use crate::records::Period;
+use crate::records::{Party, Period};
 use std::rc::Rc;
 
 /// What is left of an undecided clause after the periods read so far.
@@ -73,7 +73,7 @@ fn decided(decision: Decision) -> Progress {
 
 /// A period without success leaves a deadline with one period fewer, and the last of its periods
 /// is a plain duty's.
-fn deadline(party: u8, action: u8, window: u8, period: Period) -> Progress {
+fn deadline(party: Party, action: u8, window: u8, period: Period) -> Progress {
     if window > 1 && !period.succeeds(action) {
         let later = Clause::Deadline(party, action, window - 1);
         return Progress::Open(Rest::Unread(Rc::new(later)));

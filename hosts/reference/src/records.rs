@@ -37,6 +37,40 @@ pub fn four_bytes(bytes: &[u8], at: usize) -> u32 {
     u32::from_le_bytes([bytes[at], bytes[at + 1], bytes[at + 2], bytes[at + 3]])
 }
 
+/// "Party (1 or 2)."
+#[derive(Clone, Copy, Debug, PartialEq, Eq)]
+pub enum Party {
+    One,
+    Two,
+}
+
+impl Party {
+    /// The party of that number, if there is one.
+    pub fn of_number(number: usize) -> Option<Party> {
+        match number {
+            1 => Some(Party::One),
+            2 => Some(Party::Two),
+            _ => None,
+        }
+    }
+
+    /// Its number, which is that of the blame on it alone too.
+    pub fn number(self) -> u8 {
+        match self {
+            Party::One => 1,
+            Party::Two => 2,
+        }
+    }
+
+    /// The other party: "p is the record's party, q the other".
+    pub fn other(self) -> Party {
+        match self {
+            Party::One => Party::Two,
+            Party::Two => Party::One,
+        }
+    }
+}
+
 /// The attempts of both parties in one period.
 #[derive(Clone, Copy, Debug, PartialEq, Eq)]
 pub struct Period {
@@ -67,14 +101,17 @@ impl Period {
     }
 
     /// "Bit a is set when the party tries action a."
-    pub fn tries(self, party: u8, action: u8) -> bool {
-        let attempts = if party == 1 { self.one } else { self.two };
+    pub fn tries(self, party: Party, action: u8) -> bool {
+        let attempts = match party {
+            Party::One => self.one,
+            Party::Two => self.two,
+        };
         attempts >> action & 1 == 1
     }
 
     /// "An action succeeds when both try it."
     pub fn succeeds(self, action: u8) -> bool {
-        self.tries(1, action) && self.tries(2, action)
+        self.tries(Party::One, action) && self.tries(Party::Two, action)
     }
 }
 

@@ -7,7 +7,7 @@ use common::*;
 use reference::definition::{can_begin, decision, holds, reading, Reading};
 use reference::reading::{Read, Waiting};
 use reference::records::Period;
-use reference::{Clause, Decision, Expression, Monitor, Shape};
+use reference::{Clause, Decision, Expression, Monitor};
 use std::rc::Rc;
 
 /// A random expression of so many atoms at most, on `actions` actions.
@@ -25,14 +25,14 @@ fn expression(random: &mut Random, atoms: u64, actions: u64) -> Rc<Expression> {
     if atoms > 0 && random.below(4) == 0 {
         return star(expression(random, atoms, actions));
     }
-    let (party, action) = (1 + random.below(2) as u8, random.below(actions) as u8);
-    Expression::new(match random.below(5) {
-        0 => Shape::Any,
-        1 => Shape::Tries(party, action),
-        2 => Shape::Idle(party, action),
-        3 => Shape::Succeeds(action),
-        _ => Shape::Fails(action),
-    })
+    let (party, action) = (1 + random.below(2) as usize, random.below(actions) as u8);
+    match random.below(5) {
+        0 => any(),
+        1 => tries(party, action),
+        2 => idle(party, action),
+        3 => succeeds(action),
+        _ => fails(action),
+    }
 }
 
 /// One that may stand under `when` or `until`.
@@ -46,7 +46,7 @@ fn without_empty(random: &mut Random, atoms: u64, actions: u64) -> Rc<Expression
 }
 
 fn clause(random: &mut Random, depth: u64, actions: u64) -> Rc<Clause> {
-    let (party, action) = (1 + random.below(2) as u8, random.below(actions) as u8);
+    let (party, action) = (1 + random.below(2) as usize, random.below(actions) as u8);
     if depth == 0 {
         return match random.below(5) {
             0 => duty(party, action),

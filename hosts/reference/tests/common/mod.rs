@@ -2,8 +2,7 @@
 #![allow(dead_code)]
 
 use reference::definition::decision;
-use reference::records::Period;
-use reference::{Clause, Decision, Expression, Monitor, Shape};
+use reference::{Clause, Decision, Expression, Monitor, Party, Period, Shape};
 use std::rc::Rc;
 
 /// A contract record.
@@ -73,16 +72,21 @@ pub fn decides(clause: &Clause, trace: &str, expected: Decision) {
 pub const A: u8 = 0;
 pub const B: u8 = 1;
 
-pub fn duty(party: u8, action: u8) -> Rc<Clause> {
-    Rc::new(Clause::Duty(party, action))
+/// The party of that number.
+pub fn party(number: usize) -> Party {
+    Party::of_number(number).expect("1 or 2")
 }
 
-pub fn ban(party: u8, action: u8) -> Rc<Clause> {
-    Rc::new(Clause::Ban(party, action))
+pub fn duty(p: usize, action: u8) -> Rc<Clause> {
+    Rc::new(Clause::Duty(party(p), action))
 }
 
-pub fn power(party: u8, action: u8) -> Rc<Clause> {
-    Rc::new(Clause::Power(party, action))
+pub fn ban(p: usize, action: u8) -> Rc<Clause> {
+    Rc::new(Clause::Ban(party(p), action))
+}
+
+pub fn power(p: usize, action: u8) -> Rc<Clause> {
+    Rc::new(Clause::Power(party(p), action))
 }
 
 pub fn both(left: Rc<Clause>, right: Rc<Clause>) -> Rc<Clause> {
@@ -109,16 +113,28 @@ pub fn until(clause: Rc<Clause>, expression: Rc<Expression>) -> Rc<Clause> {
     Rc::new(Clause::Until(clause, expression))
 }
 
-pub fn deadline(party: u8, action: u8, window: u8) -> Rc<Clause> {
-    Rc::new(Clause::Deadline(party, action, window))
+pub fn deadline(p: usize, action: u8, window: u8) -> Rc<Clause> {
+    Rc::new(Clause::Deadline(party(p), action, window))
 }
 
 pub fn any() -> Rc<Expression> {
     Expression::new(Shape::Any)
 }
 
-pub fn tries(party: u8, action: u8) -> Rc<Expression> {
-    Expression::new(Shape::Tries(party, action))
+pub fn tries(p: usize, action: u8) -> Rc<Expression> {
+    Expression::new(Shape::Tries(party(p), action))
+}
+
+pub fn idle(p: usize, action: u8) -> Rc<Expression> {
+    Expression::new(Shape::Idle(party(p), action))
+}
+
+pub fn succeeds(action: u8) -> Rc<Expression> {
+    Expression::new(Shape::Succeeds(action))
+}
+
+pub fn fails(action: u8) -> Rc<Expression> {
+    Expression::new(Shape::Fails(action))
 }
 
 pub fn seq(left: Rc<Expression>, right: Rc<Expression>) -> Rc<Expression> {
