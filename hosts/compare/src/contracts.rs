@@ -1,7 +1,7 @@
 //! Random contracts, good ones and damaged ones.
 
 use crate::random::Random;
-use reference::contract::{kind_of, KINDS};
+use reference::contract::{kind_of, Parties, KINDS};
 
 /// Bytes of a record.
 pub const RECORD: usize = 6;
@@ -168,7 +168,7 @@ fn push_kind(random: &mut Random, actions: usize, windows: &[u8], kind: u8, out:
     let field = |used: bool, value: u8| if used { value } else { 0 };
     out.extend([0x54, 0x43, kind]);
     out.extend([
-        field(uses.party, party),
+        field(uses.parties != Parties::None, party),
         field(uses.action, action),
         field(uses.window, window),
     ]);

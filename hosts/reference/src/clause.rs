@@ -38,11 +38,28 @@ impl Expression {
     }
 }
 
-/// A clause: kinds 1 to 10. Duty, ban and power have a party and an action, a deadline also a
-/// window of 1 to 15 periods.
+/// The owner of a duty: one party, or both. "A duty (kind 1 only) may name party 3."
+#[derive(Clone, Copy, Debug, PartialEq, Eq)]
+pub enum Owner {
+    One(Party),
+    Both,
+}
+
+impl Owner {
+    /// The owner that a duty names with that number, if there is one.
+    pub fn of_number(number: usize) -> Option<Owner> {
+        match number {
+            3 => Some(Owner::Both),
+            _ => Party::of_number(number).map(Owner::One),
+        }
+    }
+}
+
+/// A clause: kinds 1 to 10. A duty has an owner and an action, ban and power have a party and an
+/// action, a deadline also a window of 1 to 15 periods.
 #[derive(Clone, Debug, PartialEq, Eq)]
 pub enum Clause {
-    Duty(Party, u8),
+    Duty(Owner, u8),
     Ban(Party, u8),
     Power(Party, u8),
     Both(Rc<Clause>, Rc<Clause>),

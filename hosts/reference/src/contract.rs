@@ -1,6 +1,6 @@
 //! Reading a contract's bytes, with refusals 1 to 8.
 
-use crate::clause::{Clause, Expression, Shape};
+use crate::clause::{Clause, Expression, Owner, Shape};
 use crate::records::{refused, Party, Refusal, CONTRACT_MARK, RECORD_BYTES};
 use std::rc::Rc;
 
@@ -14,13 +14,24 @@ pub enum Sort {
     Expression,
 }
 
+/// What the party field of a kind may name.
+#[derive(Clone, Copy, Debug, PartialEq, Eq)]
+pub enum Parties {
+    /// Nothing: the kind doesn't use the field.
+    None,
+    /// A party.
+    One,
+    /// The owner of a duty.
+    OneOrBoth,
+}
+
 /// What a kind uses, and what a record of that kind completes.
 #[derive(Debug)]
 pub struct Kind {
     pub number: u8,
     pub completes: Sort,
     pub operands: &'static [Sort],
-    pub party: bool,
+    pub parties: Parties,
     pub action: bool,
     pub window: bool,
 }
@@ -33,18 +44,18 @@ const fn kind(number: u8, completes: Sort, operands: &'static [Sort]) -> Kind {
         number,
         completes,
         operands,
-        party: false,
+        parties: Parties::None,
         action: false,
         window: false,
     }
 }
 
-const fn with_fields(number: u8, completes: Sort, party: bool) -> Kind {
+const fn with_fields(number: u8, completes: Sort, parties: Parties) -> Kind {
     Kind {
         number,
         completes,
         operands: &[],
-        party,
+        parties,
         action: true,
         window: false,
     }
@@ -53,14 +64,14 @@ const fn with_fields(number: u8, completes: Sort, party: bool) -> Kind {
 /// "Kind 10 is a duty with a window."
 const DEADLINE: Kind = Kind {
     window: true,
-    ..with_fields(10, C, true)
+    ..with_fields(10, C, Parties::One)
 };
 
 /// "One fixed table gives for each kind its operands and the fields it uses."
 pub const KINDS: [Kind; 18] = [
-    with_fields(1, C, true),
-    with_fields(2, C, true),
-    with_fields(3, C, true),
+    with_fields(1, C, Parties::OneOrBoth),
+    with_fields(2, C, Parties::One),
+    with_fields(3, C, Parties::One),
     kind(4, C, &[C, C]),
     kind(5, C, &[C, C]),
     kind(6, C, &[C, C]),
@@ -69,10 +80,10 @@ pub const KINDS: [Kind; 18] = [
     kind(9, C, &[C, E]),
     DEADLINE,
     kind(16, E, &[]),
-    with_fields(17, E, true),
-    with_fields(18, E, true),
-    with_fields(19, E, false),
-    with_fields(20, E, false),
+    with_fields(17, E, Parties::One),
+    with_fields(18, E, Parties::One),
+    with_fields(19, E, Parties::None),
+    with_fields(20, E, Parties::None),
     kind(21, E, &[E, E]),
     kind(22, E, &[E, E]),
     kind(23, E, &[E]),
@@ -139,13 +150,13 @@ fn read_record(record: &[u8], number: usize, stack: &mut Vec<Operand>) -> Result
     Ok(())
 }
 
-/// "Party (1 or 2), action (0 to 15)", "a window d of 1 to 15 in the record's last byte". "A field
-/// that a kind doesn't use is 0."
+/// "Party (1 or 2), action (0 to 15)", "a duty (kind 1 only) may name party 3", "a window d of 1 to
+/// 15 in the record's last byte". "A field that a kind doesn't use is 0."
 fn fields_are_good(kind: &Kind, record: &[u8]) -> bool {
-    let party = if kind.party {
-        Party::of_number(record[3].into()).is_some()
-    } else {
-        record[3] == 0
+    let party = match kind.parties {
+        Parties::None => record[3] == 0,
+        Parties::One => Party::of_number(record[3].into()).is_some(),
+        Parties::OneOrBoth => Owner::of_number(record[3].into()).is_some(),
     };
     let action = if kind.action {
         record[4] <= 15
@@ -175,7 +186,7 @@ fn complete(record: &[u8], operands: &[Operand]) -> Operand {
     use Operand::{Clause as C, Expression as E};
     let (kind, action, window) = (record[2], record[4], record[5]);
     let clause = match (kind, operands) {
-        (1, []) => Clause::Duty(party(record), action),
+        (1, []) => Clause::Duty(owner(record), action),
         (2, []) => Clause::Ban(party(record), action),
         (3, []) => Clause::Power(party(record), action),
         (4, [C(left), C(right)]) => Clause::Both(left.clone(), right.clone()),
@@ -207,7 +218,12 @@ fn shape(record: &[u8], operands: &[Operand]) -> Shape {
     }
 }
 
-/// The party of a good record whose kind uses one.
+/// The owner of a good duty.
+fn owner(record: &[u8]) -> Owner {
+    Owner::of_number(record[3].into()).expect("the fields are the table's")
+}
+
+/// The party of a good record of another kind that uses one.
 fn party(record: &[u8]) -> Party {
     Party::of_number(record[3].into()).expect("the fields are the table's")
 }

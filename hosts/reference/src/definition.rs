@@ -1,7 +1,7 @@
 //! "Expressions" and "Meaning of clauses", on whole lists of periods and as the text has it: slow,
 //! and with no state between periods.
 
-use crate::clause::{Clause, Decision, Expression, Shape};
+use crate::clause::{Clause, Decision, Expression, Owner, Shape};
 use crate::records::{Party, Period};
 
 /// Whether the list is in the expression's set.
@@ -121,12 +121,14 @@ fn from_after(clause: &Clause, list: &[Period], k: usize) -> Decision {
 
 /// "Duty, ban and power decide at period 1. Duty: satisfied if both try; blame p if p doesn't try,
 /// otherwise q. Ban: violated if both try, blame p. Power: violated if p tries and q doesn't,
-/// blame q."
+/// blame q." A duty that both parties own: "satisfied when both try; otherwise the blame is on each
+/// party that didn't try, so -/- blames both".
 pub fn literal(clause: &Clause, first: Period) -> Decision {
     let blame = match *clause {
         Clause::Duty(_, action) if first.succeeds(action) => 0,
-        Clause::Duty(p, action) if !first.tries(p, action) => p.number(),
-        Clause::Duty(p, _) => p.other().number(),
+        Clause::Duty(Owner::Both, action) => blame_on_the_idle(action, first),
+        Clause::Duty(Owner::One(p), action) if !first.tries(p, action) => p.number(),
+        Clause::Duty(Owner::One(p), _) => p.other().number(),
         Clause::Ban(p, action) if first.succeeds(action) => p.number(),
         Clause::Power(p, action) if first.tries(p, action) && !first.tries(p.other(), action) => {
             p.other().number()
@@ -139,6 +141,15 @@ pub fn literal(clause: &Clause, first: Period) -> Decision {
     }
 }
 
+/// The blame on each party that doesn't try the action.
+fn blame_on_the_idle(action: u8, period: Period) -> u8 {
+    let parties = [Party::One, Party::Two].into_iter();
+    parties
+        .filter(|party| !period.tries(*party, action))
+        .map(Party::number)
+        .sum()
+}
+
 /// "Satisfied in the first of its d periods in which both try. If none of them succeeds it is
 /// violated at the d-th, with a plain duty's blame for that period."
 fn deadline(party: Party, action: u8, window: u8, list: &[Period]) -> Decision {
@@ -149,7 +160,7 @@ fn deadline(party: Party, action: u8, window: u8, list: &[Period]) -> Decision {
     }
     match list.get(window - 1) {
         None => Decision::Undecided,
-        Some(last) => literal(&Clause::Duty(party, action), *last).later_by(window - 1),
+        Some(last) => literal(&Clause::Duty(Owner::One(party), action), *last).later_by(window - 1),
     }
 }
 

@@ -1,5 +1,5 @@
-//! The plugin contract monitor a second time, from document 01 and document 02's text on deadlines
-//! and not from its code, to compare the monitor with.
+//! The plugin contract monitor a second time, from document 01 and document 02's texts on deadlines
+//! and on duties that both parties own, and not from its code, to compare the monitor with.
 //!
 //! Quotations in the comments are these documents' words. The meaning of a contract is here twice:
 //! [`definition`] decides whole lists of periods as the text says it, slowly; [`monitor`] goes from
@@ -19,6 +19,6 @@ pub mod records;
 pub mod state;
 pub mod watch;
 
-pub use clause::{Clause, Decision, Expression, Shape, Verdict};
+pub use clause::{Clause, Decision, Expression, Owner, Shape, Verdict};
 pub use monitor::Monitor;
 pub use records::{Party, Period, Refusal};

@@ -1,6 +1,6 @@
 //! The meaning of a contract period by period, on the tree of its clauses.
 
-use crate::clause::{Clause, Decision, Expression, Verdict};
+use crate::clause::{Clause, Decision, Expression, Owner, Verdict};
 use crate::definition::literal;
 use crate::reading::{Read, Waiting};
 use crate::records::{Party, Period};
@@ -78,7 +78,7 @@ fn deadline(party: Party, action: u8, window: u8, period: Period) -> Progress {
         let later = Clause::Deadline(party, action, window - 1);
         return Progress::Open(Rest::Unread(Rc::new(later)));
     }
-    decided(literal(&Clause::Duty(party, action), period))
+    decided(literal(&Clause::Duty(Owner::One(party), action), period))
 }
 
 /// "Violated at the earlier violation; the two blames are united if they fall in the same period."

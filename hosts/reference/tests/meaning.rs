@@ -48,11 +48,12 @@ fn without_empty(random: &mut Random, atoms: u64, actions: u64) -> Rc<Expression
 fn clause(random: &mut Random, depth: u64, actions: u64) -> Rc<Clause> {
     let (party, action) = (1 + random.below(2) as usize, random.below(actions) as u8);
     if depth == 0 {
-        return match random.below(5) {
+        return match random.below(6) {
             0 => duty(party, action),
-            1 => ban(party, action),
-            2 => power(party, action),
-            3 => deadline(party, action, 1 + random.below(4) as u8),
+            1 => joint_duty(action),
+            2 => ban(party, action),
+            3 => power(party, action),
+            4 => deadline(party, action, 1 + random.below(4) as u8),
             _ => deadline(party, action, 1 + random.below(15) as u8),
         };
     }

@@ -37,14 +37,66 @@ fn one_to_three() {
 
 #[test]
 fn fields() {
-    refuses(&contract(&[(1, 3, 0)]), 4, 0);
+    refuses(&contract(&[(1, 4, 0)]), 4, 0);
     refuses(&contract(&[(1, 0, 0)]), 4, 0);
     refuses(&contract(&[(1, 1, 16)]), 4, 0);
+    refuses(&contract(&[(1, 3, 16)]), 4, 0);
     refuses(&contract(&[(19, 1, 0)]), 4, 0);
     refuses(&contract(&[(16, 0, 1)]), 4, 0);
     refuses(&contract(&[(1, 1, 0), (7, 0, 1)]), 4, 1);
     refuses(&[0x54, 0x43, 1, 1, 0, 1], 4, 0);
+    refuses(&[0x54, 0x43, 1, 3, 0, 1], 4, 0);
     assert!(read(&contract(&[(1, 2, 15)])).is_ok());
+    assert!(read(&contract(&[(1, 3, 15)])).is_ok());
+}
+
+#[test]
+fn parties() {
+    // A duty names one party or both.
+    for number in 0..=255 {
+        let bytes = record(1, number, 0);
+        match number {
+            1 | 2 => assert_eq!(read(&bytes), Ok(duty(number.into(), 0))),
+            3 => assert_eq!(read(&bytes), Ok(joint_duty(0))),
+            _ => refuses(&bytes, 4, 0),
+        }
+    }
+    // The other kinds that use a party name one; a lone expression then meets 6.
+    let records = [2, 3, 17, 18].map(|kind| record(kind, 0, 0));
+    for mut bytes in records.into_iter().chain([deadline_record(0, 0, 2)]) {
+        for number in 0..=255 {
+            bytes[3] = number;
+            match number {
+                1 | 2 if bytes[2] >= 16 => refuses(&bytes, 6, 1),
+                1 | 2 => assert!(read(&bytes).is_ok(), "{bytes:02x?}"),
+                _ => refuses(&bytes, 4, 0),
+            }
+        }
+    }
+    for kind in [4, 5, 6, 7, 8, 9, 16, 19, 20, 21, 22, 23] {
+        for number in 1..=255 {
+            refuses(&record(kind, number, 0), 4, 0);
+        }
+    }
+}
+
+#[test]
+fn parties_in_later_records() {
+    for (kind, number) in [(1, 0), (1, 4), (2, 3), (3, 3), (17, 3), (18, 3)] {
+        let records = [(1, 3, 0), (kind, number, 0), (7, 0, 0), (99, 0, 0)];
+        refuses(&contract(&records), 4, 1);
+    }
+    let deadlines = [deadline_record(1, 0, 15), deadline_record(3, 0, 15)];
+    refuses(&deadlines.concat(), 4, 1);
+    // A joint duty is a clause: no expression, and no operator takes it for one.
+    refuses(&contract(&[(1, 3, 0), (1, 3, 1)]), 6, 2);
+    refuses(&contract(&[(1, 3, 0), (23, 0, 0)]), 5, 1);
+    refuses(&contract(&[(1, 3, 0), (1, 3, 1), (8, 0, 0)]), 5, 2);
+    refuses(
+        &contract(&[(16, 0, 0), (23, 0, 0), (1, 3, 0), (8, 0, 0)]),
+        7,
+        3,
+    );
 }
 
 #[test]
@@ -65,8 +117,9 @@ fn windows() {
 #[test]
 fn a_last_byte_that_the_kind_does_not_use() {
     let with_party = [1, 2, 3, 17, 18].map(|kind| (kind, 1, 0));
+    let with_party = with_party.into_iter().chain([(1, 3, 0)]);
     let without = [4, 5, 6, 7, 8, 9, 16, 19, 20, 21, 22, 23].map(|kind| (kind, 0, 0));
-    for (kind, party, action) in with_party.into_iter().chain(without) {
+    for (kind, party, action) in with_party.chain(without) {
         let mut bytes = record(kind, party, action);
         assert_ne!(read(&bytes).err().map(|refusal| refusal.number), Some(4));
         for last in [1, 15, 16, 255] {
@@ -143,6 +196,7 @@ fn order_within_a_contract() {
 fn buffers() {
     let one = contract(&[(1, 1, 0)]);
     takes_from(&one, 776);
+    takes_from(&contract(&[(1, 3, 0)]), 776);
     assert_eq!(
         compile(&contract(&[(7, 0, 0)]), 0).unwrap_err(),
         refusal(5, 0)

@@ -2,7 +2,7 @@
 #![allow(dead_code)]
 
 use reference::definition::decision;
-use reference::{Clause, Decision, Expression, Monitor, Party, Period, Shape};
+use reference::{Clause, Decision, Expression, Monitor, Owner, Party, Period, Shape};
 use std::rc::Rc;
 
 /// A contract record.
@@ -78,7 +78,11 @@ pub fn party(number: usize) -> Party {
 }
 
 pub fn duty(p: usize, action: u8) -> Rc<Clause> {
-    Rc::new(Clause::Duty(party(p), action))
+    Rc::new(Clause::Duty(Owner::One(party(p)), action))
+}
+
+pub fn joint_duty(action: u8) -> Rc<Clause> {
+    Rc::new(Clause::Duty(Owner::Both, action))
 }
 
 pub fn ban(p: usize, action: u8) -> Rc<Clause> {
