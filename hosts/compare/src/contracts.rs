@@ -21,14 +21,21 @@ const MIDDLING: &[u8] = &[2, 3, 4, 5];
 const ALL: &[u8] = &[1, 2, 3, 4, 5, 6, 7, 8, 9, 10, 11, 12, 13, 14, 15];
 const LONGEST: &[u8] = &[15];
 
+/// What the fields of records are drawn from.
+struct Fields {
+    actions: usize,
+    /// The owners of duties, as often as they are drawn; 3 is both parties.
+    owners: &'static [u8],
+    /// The windows of deadlines, as often as they are drawn.
+    windows: &'static [u8],
+}
+
 /// What a random contract is drawn from.
 struct Style {
     shape: Shape,
-    actions: usize,
+    fields: Fields,
     /// The kinds of duty, ban, power and deadline, as often as they are drawn.
     literals: &'static [u8],
-    /// The windows of deadlines, as often as they are drawn.
-    windows: &'static [u8],
     /// The kinds of `both`, `then` and `repair`, as often as they are drawn.
     joins: &'static [u8],
     /// Chance of an operator with one operand, where there is a choice.
@@ -49,7 +56,11 @@ impl Style {
         ];
         Style {
             shape: random.pick(&shapes),
-            actions: random.pick(&[1, 1, 2, 2, 3, 4, 16]),
+            fields: Fields {
+                actions: random.pick(&[1, 1, 2, 2, 3, 4, 16]),
+                owners: random.pick(&[&[1, 2], &[1, 2], &[1, 2, 3], &[1, 2, 3, 3, 3], &[3]]),
+                windows: random.pick(&[SHORT, SHORT, MIDDLING, ALL, LONGEST]),
+            },
             literals: random.pick(&[
                 &[1, 1, 2, 3],
                 &[1],
@@ -59,7 +70,6 @@ impl Style {
                 &[2, 3, 10, 10],
                 &[10],
             ]),
-            windows: random.pick(&[SHORT, SHORT, MIDDLING, ALL, LONGEST]),
             joins: random.pick(&[&[4, 5, 6], &[4], &[4, 5], &[5, 6], &[4, 4, 6]]),
             chain: random.pick(&[0, 5, 10, 20, 80]),
             expressions: random.pick(&[0, 30, 30, 60, 90]),
@@ -100,11 +110,9 @@ pub fn good(random: &mut Random) -> Vec<u8> {
 
 /// Deadlines joined with each other, mostly as many as 64 records can have.
 fn many_deadlines(random: &mut Random) -> Vec<u8> {
-    let style = Style {
-        literals: &[10],
-        windows: random.pick(&[SHORT, ALL, LONGEST, LONGEST]),
-        ..Style::random(random, 0)
-    };
+    let mut style = Style::random(random, 0);
+    style.literals = &[10];
+    style.fields.windows = random.pick(&[SHORT, ALL, LONGEST, LONGEST]);
     let deadlines = random.pick(&[32, 32, 31, 24, 16]);
     let mut out = Vec::new();
     joined(random, &style, deadlines, &mut out);
@@ -160,25 +168,25 @@ fn push(out: &mut Vec<u8>, kind: u8, party: u8, action: u8) {
 }
 
 /// A record of that kind with good fields.
-fn push_kind(random: &mut Random, actions: usize, windows: &[u8], kind: u8, out: &mut Vec<u8>) {
+fn push_kind(random: &mut Random, fields: &Fields, kind: u8, out: &mut Vec<u8>) {
     let uses = kind_of(kind).expect("a known kind");
-    let party = random.between(1, 2) as u8;
-    let action = random.below(actions) as u8;
-    let window = random.pick(windows);
+    let party = match uses.parties {
+        Parties::None => 0,
+        Parties::One => random.pick(&[1, 2]),
+        Parties::OneOrBoth => random.pick(fields.owners),
+    };
+    let action = random.below(fields.actions) as u8;
+    let window = random.pick(fields.windows);
     let field = |used: bool, value: u8| if used { value } else { 0 };
-    out.extend([0x54, 0x43, kind]);
-    out.extend([
-        field(uses.parties != Parties::None, party),
-        field(uses.action, action),
-        field(uses.window, window),
-    ]);
+    out.extend([0x54, 0x43, kind, party]);
+    out.extend([field(uses.action, action), field(uses.window, window)]);
 }
 
 fn clause(random: &mut Random, style: &Style, records: usize, out: &mut Vec<u8>) {
     match records {
         1 => {
             let kind = random.pick(style.literals);
-            push_kind(random, style.actions, style.windows, kind, out);
+            push_kind(random, &style.fields, kind, out);
         }
         2 => {
             clause(random, style, 1, out);
@@ -239,7 +247,7 @@ fn expression(
     match records {
         1 => {
             let kind = random.between(16, 20) as u8;
-            push_kind(random, style.actions, style.windows, kind, out);
+            push_kind(random, &style.fields, kind, out);
         }
         _ if may_hold_empty && (records == 2 || random.percent(style.chain.max(25))) => {
             expression(random, style, records - 1, true, out);
@@ -266,6 +274,11 @@ pub fn soup(random: &mut Random) -> Vec<u8> {
     let records = random.pick(&[0, 1, 2, 3, 4, 5, 6, 8, 12, 20, 63, 64, 65, 66]);
     let fitting = random.percent(70);
     let faults = random.pick(&[0, 0, 3, 10]);
+    let fields = Fields {
+        actions: 4,
+        owners: &[1, 2, 3],
+        windows: ALL,
+    };
     let mut out = Vec::new();
     let mut completed = 0;
     for _ in 0..records {
@@ -276,7 +289,7 @@ pub fn soup(random: &mut Random) -> Vec<u8> {
             }
         };
         completed = completed.saturating_sub(kind.operands.len()) + 1;
-        push_kind(random, 4, ALL, kind.number, &mut out);
+        push_kind(random, &fields, kind.number, &mut out);
         if random.percent(faults) {
             damage_field(random, &mut out);
         }
@@ -290,7 +303,7 @@ fn damage_field(random: &mut Random, out: &mut [u8]) {
     match random.below(5) {
         0 => out[last + 2] = random.byte(),
         1 => out[last + 2] = random.pick(&[10, 11]),
-        2 => out[last + 3] = random.below(4) as u8,
+        2 => out[last + 3] = random.below(5) as u8,
         3 => {
             out[last + 4] = if random.percent(50) {
                 16
@@ -311,13 +324,17 @@ fn last_byte(random: &mut Random) -> u8 {
     }
 }
 
-/// Where the record of some deadline begins, if there is one.
-fn some_deadline(random: &mut Random, bytes: &[u8]) -> Option<usize> {
+/// Where some record of such a kind begins, if there is one.
+fn some_of(random: &mut Random, bytes: &[u8], such: fn(u8) -> bool) -> Option<usize> {
     let all: Vec<usize> = (0..bytes.len() / RECORD)
         .map(|number| number * RECORD)
-        .filter(|at| bytes[at + 2] == 10)
+        .filter(|at| such(bytes[at + 2]))
         .collect();
     (!all.is_empty()).then(|| random.pick(&all))
+}
+
+fn uses_party(kind: u8) -> bool {
+    kind_of(kind).is_some_and(|kind| kind.parties != Parties::None)
 }
 
 /// A contract with one to three faults, which may turn out to be none.
@@ -343,8 +360,11 @@ pub fn damage(random: &mut Random, bytes: &mut Vec<u8>) {
     let at = random.below(records) * RECORD;
     let other = random.below(records) * RECORD;
     let record = bytes[at..at + RECORD].to_vec();
-    let deadline = some_deadline(random, bytes);
-    match random.below(17) {
+    let mut some = |such| some_of(random, bytes, such).unwrap_or(at);
+    let deadline = some(|kind| kind == 10);
+    let duty = some(|kind| kind == 1);
+    let with_party = some(uses_party);
+    match random.below(19) {
         0 => {
             let byte = random.below(bytes.len());
             bytes[byte] ^= 1 << random.below(8);
@@ -361,16 +381,19 @@ pub fn damage(random: &mut Random, bytes: &mut Vec<u8>) {
         6 => bytes[at + random.below(2)] = random.byte(),
         7 => bytes[at + 2] = random.byte(),
         8 => bytes[at + 2] = random.between(0, 24) as u8,
-        9 => bytes[at + 3] = random.below(4) as u8,
+        9 => bytes[at + 3] = random.below(5) as u8,
         10 => bytes[at + 4] = random.byte(),
         11 => bytes[at + 4] = random.between(0, 17) as u8,
         12 => bytes[at + 5] = last_byte(random),
-        13 => bytes[deadline.unwrap_or(at) + 5] = last_byte(random),
-        14 => bytes[deadline.unwrap_or(at) + 2] = 11,
+        13 => bytes[deadline + 5] = last_byte(random),
+        14 => bytes[deadline + 2] = 11,
         15 => {
             bytes[at + 2] = 10;
             bytes[at + 5] = last_byte(random);
         }
+        16 => bytes[duty + 3] = 4,
+        // Both parties, which a duty alone may name.
+        17 => bytes[with_party + 3] = 3,
         _ => {
             // 64 or 65 records, by repeats on top.
             let most = random.between(64, 65);
@@ -385,7 +408,7 @@ pub fn damage(random: &mut Random, bytes: &mut Vec<u8>) {
 mod tests {
     use super::*;
     use reference::contract::{read, sum_of_windows};
-    use reference::Clause;
+    use reference::{Clause, Owner};
     use std::collections::BTreeSet;
 
     #[test]
@@ -416,8 +439,19 @@ mod tests {
         }
     }
 
-    /// Adds the kinds, and numbers of operands, where a deadline stands.
-    fn add_places(clause: &Clause, places: &mut BTreeSet<(u8, usize)>) {
+    /// An operator's kind and the number of its operand; 0 and 0 for the whole contract.
+    type Place = (u8, usize);
+
+    /// Adds the places of such clauses in a clause at a place.
+    fn add_places(
+        clause: &Clause,
+        place: Place,
+        such: fn(&Clause) -> bool,
+        places: &mut BTreeSet<Place>,
+    ) {
+        if such(clause) {
+            places.insert(place);
+        }
         let (kind, operands) = match clause {
             Clause::Both(left, right) => (4, vec![left, right]),
             Clause::Then(left, right) => (5, vec![left, right]),
@@ -428,25 +462,68 @@ mod tests {
             _ => return,
         };
         for (number, operand) in operands.into_iter().enumerate() {
-            if let Clause::Deadline(..) = **operand {
-                places.insert((kind, number));
-            }
-            add_places(operand, places);
+            add_places(operand, (kind, number), such, places);
         }
     }
 
-    #[test]
-    fn deadlines_stand_wherever_a_clause_may() {
+    /// That such clauses stand wherever a clause may.
+    fn stand_everywhere(such: fn(&Clause) -> bool) {
         let mut places = BTreeSet::new();
         for seed in 0..1000 {
             let contract = good(&mut Random::new(seed));
-            add_places(&read(&contract).expect("a good contract"), &mut places);
+            let clause = read(&contract).expect("a good contract");
+            add_places(&clause, (0, 0), such, &mut places);
         }
         let binary = [4, 5, 6]
             .into_iter()
             .flat_map(|kind| [(kind, 0), (kind, 1)]);
-        let all = binary.chain([(7, 0), (8, 0), (9, 0)]);
+        let all = binary.chain([(0, 0), (7, 0), (8, 0), (9, 0)]);
         assert_eq!(places, all.collect());
+    }
+
+    #[test]
+    fn deadlines_stand_wherever_a_clause_may() {
+        stand_everywhere(|clause| matches!(clause, Clause::Deadline(..)));
+    }
+
+    #[test]
+    fn joint_duties_stand_wherever_a_clause_may() {
+        stand_everywhere(|clause| matches!(clause, Clause::Duty(Owner::Both, _)));
+    }
+
+    #[test]
+    fn duties_of_every_owner_come_up() {
+        let mut owners = [0; 3];
+        for seed in 0..2000 {
+            let contract = good(&mut Random::new(seed));
+            for duty in contract.chunks(RECORD).filter(|record| record[2] == 1) {
+                owners[usize::from(duty[3]) - 1] += 1;
+            }
+        }
+        let all: usize = owners.iter().sum();
+        assert!(owners.iter().all(|count| 5 * count > all), "{owners:?}");
+    }
+
+    #[test]
+    fn damage_reaches_parties() {
+        // Kind and party of the records at which refusal 4 is given.
+        let mut refused = BTreeSet::new();
+        for seed in 0..20000 {
+            let contract = damaged(&mut Random::new(seed));
+            if let Err(refusal) = read(&contract) {
+                if refusal.number == 4 {
+                    let at = refusal.place as usize * RECORD;
+                    refused.insert((contract[at + 2], contract[at + 3]));
+                }
+            }
+        }
+        let of_both = KINDS
+            .iter()
+            .filter(|kind| kind.parties == Parties::One)
+            .map(|kind| (kind.number, 3));
+        for fault in of_both.chain([(1, 0), (1, 4)]) {
+            assert!(refused.contains(&fault), "kind and party {fault:?}");
+        }
     }
 
     #[test]
