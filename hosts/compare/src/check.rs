@@ -313,10 +313,11 @@ mod tests {
     use super::*;
     use reference::contract::read;
 
-    /// A duty and a ban, both of party 1 on action 0.
+    /// A duty and a ban, both of party 1 on action 0, and a joint duty.
     const DUTY: [u8; 6] = [0x54, 0x43, 1, 1, 0, 0];
     const BAN: [u8; 6] = [0x54, 0x43, 2, 1, 0, 0];
-    /// A period without attempts: it breaks the duty and meets the ban.
+    const JOINT_DUTY: [u8; 6] = [0x54, 0x43, 1, 3, 0, 0];
+    /// A period without attempts: it breaks the duties, with another blame each, and meets the ban.
     const QUIET: [u8; 6] = [0x54, 0x50, 0, 0, 0, 0];
 
     fn image_of(contract: &[u8]) -> Vec<u8> {
@@ -351,8 +352,10 @@ mod tests {
         for call in [step, run] {
             let list = [Call::Begin { reply: 16 }, call];
             calls(&DUTY).check(&list, tally).unwrap();
-            let difference = calls(&BAN).check(&list, tally).unwrap_err();
-            assert!(difference.to_string().contains("the contract's verdict"));
+            for other in [BAN, JOINT_DUTY] {
+                let difference = calls(&other).check(&list, tally).unwrap_err();
+                assert!(difference.to_string().contains("the contract's verdict"));
+            }
         }
     }
 

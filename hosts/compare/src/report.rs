@@ -133,6 +133,8 @@ pub struct Tally {
     /// Compiled contracts by records: 1, 2 to 8, 9 to 32, 33 to 63, 64.
     records: [usize; 5],
     kinds: BTreeMap<u8, usize>,
+    /// Duties by party: 0, 1, 2, 3 (both), above.
+    owners: [usize; 5],
     /// Deadlines by window: 0, 1 to 3, 4 to 14, 15, above.
     windows: [usize; 5],
     max_rows: usize,
@@ -181,12 +183,14 @@ impl Tally {
         self.max_windows = self.max_windows.max(sum_of_windows(contract));
     }
 
-    /// Counts the kinds of a contract's records, and the windows.
+    /// Counts the kinds of a contract's records, the owners and the windows.
     pub fn contract_kinds(&mut self, contract: &[u8]) {
         for record in contract.chunks_exact(6) {
             *self.kinds.entry(record[2]).or_default() += 1;
-            if record[2] == 10 {
-                self.windows[bucket(record[5].into(), [0, 3, 14, 15])] += 1;
+            match record[2] {
+                1 => self.owners[bucket(record[3].into(), [0, 1, 2, 3])] += 1,
+                10 => self.windows[bucket(record[5].into(), [0, 3, 14, 15])] += 1,
+                _ => {}
             }
         }
     }
@@ -236,6 +240,8 @@ impl Tally {
             println!("  most rows of an image: {}", self.max_rows);
             println!("  greatest sum of windows: {}", self.max_windows);
         }
+        let owners = ["0:", "1:", "2:", "3 (both):", "above:"];
+        print_counts("duties, by party", &owners, &self.owners);
         let windows = ["0:", "1 to 3:", "4 to 14:", "15:", "above:"];
         print_counts("deadlines, by window", &windows, &self.windows);
         if !self.kinds.is_empty() {

@@ -69,7 +69,7 @@ pub fn input(input: Vec<u8>, differs: &mut dyn FnMut(&Vec<u8>) -> bool) -> Vec<u
         s.changed = false;
         quiet_periods(&mut s);
         while replace_in_input(&mut s) {}
-        shorten_windows(&mut s, |input| input);
+        lower_fields(&mut s, |input| input);
         drop_parts(&mut s, 6, |input| input);
         drop_parts(&mut s, 1, |input| input);
         for at in 0..s.now.len() {
@@ -140,16 +140,19 @@ fn drop_parts<T: Clone, E>(s: &mut Shrinker<T>, unit: usize, list: impl Fn(&mut 
     }
 }
 
-/// Shorter windows of deadlines, the shortest that will do.
-fn shorten_windows<T: Clone>(s: &mut Shrinker<T>, contract: impl Fn(&mut T) -> &mut Vec<u8>) {
+/// Plain duties in the place of joint ones, of party 1 where that will do, and the shortest windows
+/// of deadlines that will do.
+fn lower_fields<T: Clone>(s: &mut Shrinker<T>, contract: impl Fn(&mut T) -> &mut Vec<u8>) {
     for number in 0..contract(&mut s.now).len() / 6 {
-        let at = number * 6;
-        if contract(&mut s.now)[at + 2] != 10 {
-            continue;
-        }
-        for window in 1..contract(&mut s.now)[at + 5] {
+        let record = number * 6;
+        let at = match contract(&mut s.now)[record + 2] {
+            1 => record + 3,
+            10 => record + 5,
+            _ => continue,
+        };
+        for value in 1..contract(&mut s.now)[at] {
             let mut candidate = s.now.clone();
-            contract(&mut candidate)[at + 5] = window;
+            contract(&mut candidate)[at] = value;
             if s.offer(candidate) {
                 break;
             }
@@ -187,7 +190,7 @@ fn spans(contract: &[u8]) -> Option<Vec<Vec<usize>>> {
 fn shrink_contract(s: &mut Shrinker<Case>) {
     while replace_by_operand(s) {}
     drop_parts(s, 6, start_bytes);
-    shorten_windows(s, start_bytes);
+    lower_fields(s, start_bytes);
     if let Start::Contract { bytes, buffer, .. } = &s.now.start {
         let (least, buffer) = (least_buffer(bytes), *buffer);
         for lengths in [(least, 16), (0, 16), (buffer, 16)] {
@@ -343,25 +346,31 @@ mod tests {
     use crate::cases::Family;
     use crate::watch::input_of_seed;
 
-    /// A large random case that differs, made smaller.
-    fn smaller(differs: fn(&Case) -> bool) -> Case {
-        let found = (1..)
+    /// A large random case that differs.
+    fn large(differs: impl Fn(&Case) -> bool) -> Case {
+        (1..)
             .map(Case::of_seed)
             .find(|case| case.calls.len() > 10 && differs(case))
-            .expect("such a case is drawn");
-        let smaller = case(found, &mut |case| differs(case));
+            .expect("such a case is drawn")
+    }
+
+    /// Such a case made smaller.
+    fn smaller(differs: fn(&Case) -> bool) -> Case {
+        let smaller = case(large(differs), &mut |case| differs(case));
         assert!(differs(&smaller));
         smaller
+    }
+
+    /// Whether a case starts with a contract that has such a record.
+    fn has(case: &Case, such: impl Fn(&[u8]) -> bool) -> bool {
+        matches!(&case.start, Start::Contract { bytes, .. } if bytes.chunks_exact(6).any(such))
     }
 
     #[test]
     fn a_contract_and_a_trace_get_small() {
         let mut smaller = smaller(|case| {
-            let repair = |record: &[u8]| record[2] == 6;
             let long = |call: &Call| matches!(call, Call::Run { trace, .. } if trace.len() >= 12);
-            matches!(&case.start, Start::Contract { bytes, .. }
-                if bytes.chunks_exact(6).any(repair))
-                && case.calls.iter().any(long)
+            has(case, |record| record[2] == 6) && case.calls.iter().any(long)
         });
         assert_eq!(smaller.calls.len(), 1);
         let lists = byte_lists(&mut smaller);
@@ -370,12 +379,27 @@ mod tests {
 
     #[test]
     fn a_window_gets_short() {
-        let mut smaller = smaller(|case| {
-            let deadline = |record: &[u8]| record[2] == 10 && record[5] >= 3;
-            matches!(&case.start, Start::Contract { bytes, .. }
-                if bytes.chunks_exact(6).any(deadline))
-        });
+        let mut smaller = smaller(|case| has(case, |record| record[2] == 10 && record[5] >= 3));
         assert_eq!(byte_lists(&mut smaller), [&[0, 0, 10, 0, 0, 3]]);
+    }
+
+    #[test]
+    fn a_joint_duty_gets_plain() {
+        let is_duty = |record: &[u8]| record[2] == 1;
+        let is_joint = |record: &[u8]| is_duty(record) && record[3] == 3;
+        let found = large(|case| {
+            has(case, is_joint) && !has(case, |record| is_duty(record) && record[3] < 3)
+        });
+        // Where the duty of one party differs too, but not that of the other.
+        for party in [1, 2] {
+            let differs =
+                |case: &Case| has(case, |record| is_duty(record) && record[3] & party > 0);
+            let mut smaller = case(found.clone(), &mut |case| differs(case));
+            assert_eq!(byte_lists(&mut smaller), [&[0, 0, 1, party, 0, 0]]);
+        }
+        // Where only a joint duty differs.
+        let mut smaller = case(found, &mut |case| has(case, is_joint));
+        assert_eq!(byte_lists(&mut smaller), [&[0, 0, 1, 3, 0, 0]]);
     }
 
     #[test]

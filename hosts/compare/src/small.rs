@@ -35,6 +35,8 @@ struct Spelled {
 
 fn one_record() -> Spelled {
     let mut clauses = of_parties(&[1, 2, 3]);
+    // A joint duty.
+    clauses.push(record(1, 3));
     for window in WINDOWS {
         clauses.extend([deadline(1, window), deadline(2, window)]);
     }
@@ -167,4 +169,36 @@ pub fn compare(records: usize) -> bool {
          {contracts}, {steps} steps"
     );
     true
+}
+
+#[cfg(test)]
+mod tests {
+    use super::*;
+    use std::collections::BTreeSet;
+
+    #[test]
+    fn every_good_record_without_operands_is_spelled() {
+        let spelled = one_record();
+        let all: BTreeSet<Vec<u8>> = [spelled.clauses, spelled.expressions]
+            .concat()
+            .into_iter()
+            .collect();
+        // A lone expression is refused, with 6.
+        let is_good = |bytes: &[u8]| match contract::read(bytes) {
+            Ok(_) => true,
+            Err(refusal) => refusal.number == 6,
+        };
+        let mut good = BTreeSet::new();
+        for kind in 0..=255 {
+            for party in 0..=255 {
+                for window in [0].into_iter().chain(WINDOWS) {
+                    let bytes = vec![0x54, 0x43, kind, party, 0, window];
+                    if is_good(&bytes) {
+                        good.insert(bytes);
+                    }
+                }
+            }
+        }
+        assert_eq!(all, good);
+    }
 }

@@ -112,7 +112,20 @@ pub fn damage(random: &mut Random, trace: &mut Vec<u8>) {
 #[cfg(test)]
 mod tests {
     use super::*;
-    use reference::Party;
+    use reference::{Owner, Party};
+
+    #[test]
+    fn a_joint_duty_is_met_and_broken_with_every_blame() {
+        let clause = Clause::Duty(Owner::Both, 0);
+        let mut blames = [0; 4];
+        for seed in 0..500 {
+            let first = for_clause(&mut Random::new(seed), &clause, 1)[0];
+            let mut monitor = Monitor::new(&clause);
+            monitor.step(first.one, first.two);
+            blames[usize::from(monitor.blame())] += 1;
+        }
+        assert!(blames.iter().all(|count| *count > 10), "{blames:?}");
+    }
 
     #[test]
     fn every_window_is_met_and_missed_in_its_last_period() {
