@@ -1,5 +1,5 @@
-//! The plugin contract monitor a second time, from document 01 and document 02's texts on deadlines
-//! and on duties that both parties own, and not from its code, to compare the monitor with.
+//! The plugin contract monitor a second time, from document 01 and document 02's "Duties with a
+//! deadline" and "Duties that both parties own", and not from its code, to compare the monitor with.
 //!
 //! Quotations in the comments are these documents' words. The meaning of a contract is here twice:
 //! [`definition`] decides whole lists of periods as the text says it, slowly; [`monitor`] goes from
