@@ -1,6 +1,6 @@
 /* Compile at its edges: refusals, buffers and reply areas; and the contract of "Watch" through all four calls. */
-/* Document 01, "Calls", "Replies that refuse" and "Watch"; document 02, "Duties with a deadline". */
-/* What it prints is held to the file compile.expected. */
+/* Document 01, "Calls", "Replies that refuse" and "Watch"; document 02, "Duties with a deadline" and "Duties that both parties */
+/* own". What it prints is held to the file compile.expected. */
 #include "testing.h"
 
 _Static_assert(MONITOR_BUFFER_BYTES(1, 0) == 776, "776 bytes take one record that is no deadline");
@@ -14,6 +14,7 @@ _Static_assert(MONITOR_BUFFER_BYTES(MONITOR_MAX_RECORDS, MONITOR_MAX_RECORDS * M
 #define DEADLINE(window) MONITOR_DEADLINE(MONITOR_PARTY_1, 0, window)
 
 static const struct bytes duty = BYTES(DUTY);
+static const struct bytes joint_duty = BYTES(MONITOR_RECORD(MONITOR_KIND_DUTY, MONITOR_PARTY_BOTH, 0));
 static const struct bytes duty_repeat = BYTES(DUTY, REPEAT);
 static const struct bytes any = BYTES(ANY);
 static const struct bytes shortest = BYTES(DEADLINE(1));
@@ -32,8 +33,10 @@ static const struct bytes periods =
 static void records(void)
 {
     static const uint8_t made[] = {MONITOR_RECORD(MONITOR_KIND_STAR, MONITOR_PARTY_2, 15),
+                                   MONITOR_RECORD(MONITOR_KIND_DUTY, MONITOR_PARTY_BOTH, 9),
                                    MONITOR_DEADLINE(MONITOR_PARTY_2, 14, 13), MONITOR_PERIOD(0x8001, 0x1234)};
-    static const uint8_t meant[] = {0x54, 0x43, 23, 2, 15, 0, 0x54, 0x43, 10, 2, 14, 13, 0x54, 0x50, 0x01, 0x80, 0x34, 0x12};
+    static const uint8_t meant[] = {0x54, 0x43, 23, 2, 15, 0, 0x54, 0x43, 1, 3, 9, 0, 0x54, 0x43, 10, 2, 14, 13,
+                                    0x54, 0x50, 0x01, 0x80, 0x34, 0x12};
 
     check("the macros' bytes", sizeof made == sizeof meant && memcmp(made, meant, sizeof meant) == 0);
 }
@@ -94,7 +97,7 @@ static const struct { const char *label; struct bytes contract; } table[] = {
     {"5 bytes", BYTES('T', 'C', MONITOR_KIND_DUTY, 1, 0)},
     {"mark 54 44", BYTES('T', 'D', MONITOR_KIND_DUTY, 1, 0, 0)},
     {"kind 11", BYTES(MONITOR_RECORD(11, 0, 0))},
-    {"duty, party 3", BYTES(MONITOR_RECORD(MONITOR_KIND_DUTY, 3, 0))},
+    {"duty, party 4", BYTES(MONITOR_RECORD(MONITOR_KIND_DUTY, 4, 0))},
     {"window 0", BYTES(DEADLINE(0))},
     {"window 16", BYTES(DEADLINE(16))},
     {"repeat", BYTES(REPEAT)},
@@ -112,8 +115,8 @@ static void refusals(void)
     }
 }
 
-/* 31 `both` of 32 duties, or deadlines of the longest window, under repeats, one for 64 records: no contract of so many has */
-/* more rows, without deadlines and with them. */
+/* 31 `both` of 32 duties, joint or not, or deadlines of the longest window, under repeats, one for 64 records: no contract of */
+/* so many has more rows, without deadlines and with them. */
 static struct bytes max_rows(int leaf, int repeats)
 {
     static uint8_t records[MONITOR_RECORD_BYTES * (MONITOR_MAX_RECORDS + 1)];
@@ -140,9 +143,11 @@ static void buffers(void)
     least("duty", duty, 776);
     buffer("duty", duty, 777);
     buffer("duty", duty, BUFFER_BYTES);
+    least("joint duty", joint_duty, 776);
     least("duty, repeat", duty_repeat, 1032);
     least("watch", watched, MONITOR_BUFFER_BYTES(4, 0));
     least("64 records", max_rows(MONITOR_KIND_DUTY, 1), MONITOR_BUFFER_BYTES(64, 0));
+    least("joint duties, 64 records", max_rows(JOINT_DUTY, 1), MONITOR_BUFFER_BYTES(64, 0));
     buffer("65 records", max_rows(MONITOR_KIND_DUTY, 2), BUFFER_BYTES);
     buffer("deadline of 1", shortest, 776);
     least("deadline of 1", shortest, 808);
@@ -197,6 +202,7 @@ int main(void)
     areas("duty", duty);
     areas("any", any);
     contents("duty", duty);
+    contents("joint duty", joint_duty);
     contents("duty, duty, repair, repeat", watched);
     contents("64 records", max_rows(MONITOR_KIND_DUTY, 1));
     contents("deadlines, 64 records", max_rows(MONITOR_KIND_DEADLINE, 1));

@@ -1,6 +1,6 @@
 /* Nests of each operator, up to 64 records, compiled and stepped: the verdict and the blame in each period. */
-/* Document 01, "Records", "Expressions" and "Meaning of clauses"; document 02, "Duties with a deadline". */
-/* What it prints is held to the file nests.expected. */
+/* Document 01, "Records", "Expressions" and "Meaning of clauses"; document 02, "Duties with a deadline" and "Duties that both */
+/* parties own". What it prints is held to the file nests.expected. */
 #include "testing.h"
 
 /* ---- traces */
@@ -110,12 +110,12 @@ static void duties(const char *name, int operator, int repeats, struct periods t
     both_nests(name, MONITOR_KIND_DUTY, operator, repeats, t);
 }
 
-static void repeats(struct periods t)
+static void repeats(const char *name, int leaf, struct periods t)
 {
     cut(&contract, 0);
-    add_leaf(MONITOR_KIND_DUTY, 0);
+    add_leaf(leaf, 0);
     add_run(0, MONITOR_KIND_REPEAT, 0, 63);
-    line("repeat", "", t);
+    line(name, "", t);
 }
 
 static void clauses(void)
@@ -130,7 +130,27 @@ static void clauses(void)
     duties("repair", MONITOR_KIND_REPAIR, ONCE, (struct periods){AHEAD, 22, 20, 0xffff, 0xffff});
     duties("repair", MONITOR_KIND_REPAIR, AGAIN, (struct periods){AHEAD, 54, 20, 0xffff, 0xffff});
     /* Party 2 doesn't try action 0 in period 5. */
-    repeats((struct periods){ALL, 6, 5, 0xffff, 0xfffe});
+    repeats("repeat", MONITOR_KIND_DUTY, (struct periods){ALL, 6, 5, 0xffff, 0xfffe});
+}
+
+/* Duties that both parties own. */
+static void joint_duties(const char *name, int operator, int repeats, struct periods t)
+{
+    both_nests(name, JOINT_DUTY, operator, repeats, t);
+}
+
+static void joint(void)
+{
+    /* In period 3 party 1 doesn't try action 5, and party 2 not action 9; then party 2 alone not action 15; then nobody 0. */
+    joint_duties("both of joint duties", MONITOR_KIND_BOTH, AGAIN, (struct periods){ALL, 5, 3, 0xffdf, 0xfdff});
+    joint_duties("both of joint duties", MONITOR_KIND_BOTH, AGAIN, (struct periods){ALL, 5, 3, 0xffff, 0x7fff});
+    joint_duties("both of joint duties", MONITOR_KIND_BOTH, AGAIN, (struct periods){ALL, 5, 3, 0xfffe, 0xfffe});
+    /* Each in its turn; begun again in period 33, and nobody tries what is owed in period 52. */
+    joint_duties("then of joint duties", MONITOR_KIND_THEN, AGAIN, (struct periods){TURN, 54, 52, 0, 0});
+    /* Each is violated by both parties, and the last by party 2 alone: party 1 tries action 15 in period 32. */
+    joint_duties("repair of joint duties", MONITOR_KIND_REPAIR, ONCE, (struct periods){AHEAD, 34, 32, 0x8000, 0});
+    /* Nobody tries action 0 in period 5. */
+    repeats("repeat of a joint duty", JOINT_DUTY, (struct periods){ALL, 6, 5, 0xfffe, 0xfffe});
 }
 
 /* Deadlines of the longest window. */
@@ -236,6 +256,7 @@ static void expressions(void)
 int main(void)
 {
     clauses();
+    joint();
     windows();
     conditions();
     expressions();

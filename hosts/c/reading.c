@@ -1,5 +1,5 @@
 /* Which contracts compile takes and which it refuses by 1 to 7: small inputs, the order of tests, every kind and field, nests. */
-/* Document 01, "Records" and "Replies that refuse"; document 02, "Duties with a deadline". */
+/* Document 01, "Records" and "Replies that refuse"; document 02, "Duties with a deadline" and "Duties that both parties own". */
 /* What it prints is held to the file reading.expected. */
 #include <ctype.h>
 
@@ -26,6 +26,7 @@ static void put_reply(struct monitor_compile_reply r)
 
 #define RECORD(kind) MONITOR_RECORD(kind, 0, 0)
 #define DUTY MONITOR_RECORD(MONITOR_KIND_DUTY, MONITOR_PARTY_1, 0)
+#define OF_BOTH(kind) MONITOR_RECORD(kind, MONITOR_PARTY_BOTH, 0)
 #define REPEAT RECORD(MONITOR_KIND_REPEAT)
 #define ANY RECORD(MONITOR_KIND_ANY)
 #define STAR RECORD(MONITOR_KIND_STAR)
@@ -38,7 +39,7 @@ static const struct { const char *label; struct bytes contract; } samples[] = {
     {"5 bytes", BYTES('T', 'C', MONITOR_KIND_DUTY, 1, 0)},
     {"mark 54 44", BYTES(WRONG_MARK)},
     {"kind 11", BYTES(RECORD(11))},
-    {"duty, party 3", BYTES(MONITOR_RECORD(MONITOR_KIND_DUTY, 3, 0))},
+    {"duty, party 4", BYTES(MONITOR_RECORD(MONITOR_KIND_DUTY, 4, 0))},
     {"repeat", BYTES(REPEAT)},
     {"any", BYTES(ANY)},
     {"any, star, duty, when", BYTES(ANY, STAR, DUTY, WHEN)},
@@ -49,6 +50,8 @@ static const struct { const char *label; struct bytes contract; } samples[] = {
     {"9 bytes", BYTES(DUTY, 'T', 'C', MONITOR_KIND_REPEAT)},
     {"duty, duty, repair, repeat",
      BYTES(DUTY, MONITOR_RECORD(MONITOR_KIND_DUTY, MONITOR_PARTY_1, 1), RECORD(MONITOR_KIND_REPAIR), REPEAT)},
+    /* Both parties may own a duty, but not a ban. */
+    {"duty, ban, each of both parties", BYTES(OF_BOTH(MONITOR_KIND_DUTY), OF_BOTH(MONITOR_KIND_BAN))},
     /* The last byte: a deadline's window, and 0 in every other kind. */
     {"window 0", BYTES(MONITOR_DEADLINE(MONITOR_PARTY_1, 0, 0))},
     {"window 1", BYTES(MONITOR_DEADLINE(MONITOR_PARTY_1, 0, 1))},
@@ -60,7 +63,7 @@ static const struct { const char *label; struct bytes contract; } samples[] = {
     /* Two faults: the one that is tested first is answered, and of two records' the earlier one's. */
     {"length, mark", BYTES(WRONG_MARK, 'T')},
     {"mark, kind", BYTES('T', 'D', 11, 1, 0, 0)},
-    {"kind, field", BYTES('T', 'C', 11, 3, 16, 1)},
+    {"kind, field", BYTES('T', 'C', 11, 4, 16, 1)},
     {"field, operands", BYTES(MONITOR_RECORD(MONITOR_KIND_REPEAT, 1, 0))},
     {"last byte, operands", BYTES('T', 'C', MONITOR_KIND_REPEAT, 0, 0, 1)},
     {"operands, empty list", BYTES(ANY, STAR, ANY, WHEN)},
@@ -85,13 +88,16 @@ static void by_bytes(void)
 
 /* ---- contracts by letters */
 
-/* A letter for each record, with party 1, action 0 and window 1 where they are used; those of expressions are small, */
-/* and _ is kind 0. */
+/* A letter for each record, with party 1, action 0 and window 1 where they are used; J is a duty of both parties, _ is kind 0, */
+/* and those of expressions are small. */
 static void spell(const char *text, size_t length)
 {
     cut(&contract, 0);
     for (size_t k = 0; k < length; k++) {
-        add_record(kind_of((char)toupper((unsigned char)text[k])), strchr("DBPLti", text[k]) != NULL, 0);
+        if (text[k] == 'J')
+            add_leaf(JOINT_DUTY, 0);
+        else
+            add_record(kind_of((char)toupper((unsigned char)text[k])), strchr("DBPLti", text[k]) != NULL, 0);
         *field(5) = text[k] == 'L';
     }
 }
@@ -156,9 +162,9 @@ static void sweeps(void)
 {
     lines("D DR", 0, 255);
     lines("D DR", 1, 255);
-    lines("D L _ D_ a_ DD_ Da_ aD_ aa_", 2, 255);
+    lines("D J L _ D_ a_ DD_ Da_ aD_ aa_", 2, 255);
     fields("D L DD& s", 255);
-    fields("B P DD; DD/ DR aDW DaU a t i f aa. aa| a*", 31);
+    fields("J B P DD; DD/ DR aDW DaU a t i f aa. aa| a*", 31);
 }
 
 /* Expressions with and without the empty list, under `when` and `until`. */

@@ -313,15 +313,22 @@ static inline uint8_t *field(size_t byte)
     return start(&contract) + contract.length - MONITOR_RECORD_BYTES + byte;
 }
 
-/* Leaf i: 0 to 15 have party 1 and action i, 16 to 31 have party 2 and action i - 16. A deadline has the longest window. */
-static inline void add_leaf(int kind, int i)
+/* A leaf is a kind, or this: a duty that both parties own. */
+enum { JOINT_DUTY = 256 + MONITOR_KIND_DUTY };
+
+/* Leaf i: 0 to 15 have party 1 and action i, 16 to 31 have party 2 and action i - 16; a joint duty has both parties. */
+/* A deadline has the longest window. */
+static inline void add_leaf(int leaf, int i)
 {
-    add_record(kind, MONITOR_PARTY_1 + i / 16, i % 16);
-    if (kind == MONITOR_KIND_DEADLINE)
+    if (leaf == JOINT_DUTY)
+        add_record(MONITOR_KIND_DUTY, MONITOR_PARTY_BOTH, i % 16);
+    else
+        add_record(leaf, MONITOR_PARTY_1 + i / 16, i % 16);
+    if (leaf == MONITOR_KIND_DEADLINE)
         *field(5) = MONITOR_MAX_WINDOW;
 }
 
-/* Leaves `from` to `to` - 1 of a kind, and after each an operator; a kind 0 leaves out the one or the other. */
+/* Leaves `from` to `to` - 1 of one sort, and after each an operator; 0 leaves out the one or the other. */
 static inline void add_run(int leaf, int operator, int from, int to)
 {
     for (int i = from; i < to; i++) {

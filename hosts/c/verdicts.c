@@ -1,17 +1,58 @@
 /* Contracts of every kind, compiled and stepped: the verdict, the blame and the decision period after a trace. */
-/* Document 01, "Expressions" and "Meaning of clauses"; document 02, "Duties with a deadline". */
-/* What it prints is held to the file verdicts.expected. */
+/* Document 01, "Expressions" and "Meaning of clauses"; document 02, "Duties with a deadline" and "Duties that both parties */
+/* own". What it prints is held to the file verdicts.expected. */
 #include "testing.h"
 
-/* A record is its letter, and after it its party, 1 or 2, its action, a to p, and its window, 1 to 9, where it has them. */
-/* A period is what party 1 tries, a slash, and what party 2 tries; "-" is no attempt. */
-/* A contract that is decided is so in the last period. */
+/* A record is its letter, and after it its party, 1 or 2, or for a duty of both 3, its action, a to p, and its window, 1 to 9, */
+/* where it has them. A period is what party 1 tries, a slash, and what party 2 tries; "-" is no attempt. */
+/* A contract that is decided is so in the last period, but where a later breach follows. */
 static const struct { const char *contract, *trace; } samples[] = {
     /* Literals. */
     {"B2a R", "a/- -/a a/a"},
     {"P2p R", "-/- p/- p/p -/p"},
     {"D1a B1a / P1a / D2a /", "a/- a/a a/- -/-"},
     {"P1a D1b D1a ; ;", "-/- ab/b a/a"},
+    /* Joint duties: satisfied, and violated with the blame on each party that doesn't try. */
+    {"D3a", "a/a"},
+    {"D3a", "-/a"},
+    {"D3a", "a/-"},
+    {"D3a", "-/-"},
+    {"D3p", "p/ao"},
+    /* Both: the blames of one period are united. */
+    {"D3a D3b &", "ab/ab"},
+    {"D3a D3b &", "ab/a"},
+    {"D3a D3b &", "b/a"},
+    {"D3a D2b &", "-/a"},
+    {"D1b D3a &", "-/a"},
+    {"D1b D3a &", "b/b"},
+    /* A later breach adds no party to the earlier blame, of a joint duty or of the other half. */
+    {"D3a B1c D2b ; &", "-/a -/-"},
+    {"B1c D3b ; D1a &", "-/- -/-"},
+    {"D3a R D3b R &", "ab/ab a/ab -/-"},
+    /* Then and repair: the right reads from the period after, and of a repair its blame alone counts. */
+    {"D3a D1b ;", "b/b"},
+    {"D3a D1b ;", "ab/ab -/b"},
+    {"D1b D3a ;", "ab/ab -/-"},
+    {"D3a D1b /", "a/a"},
+    {"D3a D1b /", "b/b b/b"},
+    {"D3a D1b /", "-/- b/-"},
+    {"D2a D3b /", "-/- -/b"},
+    {"D3a D3b /", "b/b b/-"},
+    {"D3a D3b /", "a/- -/-"},
+    /* Begun again; a half of a violated both ends with it. */
+    {"D3a R", "a/a a/a"},
+    {"D3a R", "a/a a/a -/-"},
+    {"D3a D3b / R", "-/- b/b a/a a/- -/b"},
+    {"D3a R D1b & D1c / R", "a/a c/c ab/ab a/a"},
+    /* When; until, where acceptance comes after a violation, with it, before it and never. */
+    {"T1b D3a W", "-/-"},
+    {"T1b D3a W R", "b/- a/a -/- b/- -/-"},
+    {"D3a R A T1b . U", "b/a"},
+    {"D3a R A * T1b . U", "a/a b/a"},
+    {"D3a R A * T1b . U", "a/a b/-"},
+    {"D3a R A * T1b . U", "a/a ab/a"},
+    {"D3a R T1b U B1c ;", "ab/a -/-"},
+    {"D3a R T1b U", "a/a a/-"},
     /* Deadlines: met, missed with the blame of the last period alone, and open. */
     {"L1a3", "a/a"},
     {"L1a3", "a/- a/a"},
