@@ -5,10 +5,11 @@ watch=$1
 work=$(mktemp -d)
 trap 'rm -rf "$work"' EXIT
 
-# Records: duties of party 1 on actions a and b, its deadlines on a with windows of 3 and 15 periods, the operators, and periods
-# with both parties' attempts.
+# Records: duties of party 1 on actions a and b, a duty of both parties on a, party 1's deadlines on a with windows of 3 and 15
+# periods, the operators, and periods with both parties' attempts.
 duty_a='TC\x01\x01\x00\x00'
 duty_b='TC\x01\x01\x01\x00'
+joint_a='TC\x01\x03\x00\x00'
 deadline_3='TC\x0a\x01\x00\x03'
 deadline_15='TC\x0a\x01\x00\x0f'
 both='TC\x04\x00\x00\x00'
@@ -55,6 +56,11 @@ edge 'a bad contract before a bad trace' "$duty_a$duty_a$both_a$duty_a" 'refused
 edge 'a period mark that no six bytes start with' 'TC\x01TP\x00'"$both_a" 'refused 4 0\n'
 edge 'a record of the contract after the trace' "$duty_a$both_a$repeat" 'refused 11 1\n'
 edge 'blame on both parties' 'TC\x03\x01\x00\x00'"$duty_b$both$only_a" '1 broken 3\ndecided 1\n'
+edge 'a joint duty, blame on both parties' "$joint_a$repeat$both_a$nobody$only_a" \
+    '1 open 0\n2 broken 3\n3 broken-after 3\ndecided 2\n'
+edge 'a joint duty, blame on the party that does not try' "$joint_a$only_a$nobody" '1 broken 2\n2 broken-after 2\ndecided 1\n'
+edge 'a duty of party 4' 'TC\x01\x04\x00\x00'"$both_a" 'refused 4 0\n'
+edge 'a ban of both parties' 'TC\x02\x03\x00\x00'"$both_a" 'refused 4 0\n'
 edge 'a deadline met in its last period' "$deadline_3$nobody$only_a$both_a" '1 open 0\n2 open 0\n3 met 0\ndecided 3\n'
 edge 'a deadline missed, with the blame of its last period' "$deadline_3$nobody$nobody$only_a$both_a" \
     '1 open 0\n2 open 0\n3 broken 2\n4 broken-after 2\ndecided 3\n'
