@@ -71,7 +71,7 @@ fn contracts() -> Vec<(String, Vec<u8>)> {
 
 /// Shapes as deep as 64 records allow that are none of the benchmark's.
 fn deep_shapes() -> [(&'static str, Vec<Record>); 5] {
-    let duty = Duty(Party::One, Action::new(0).expect("below 16"));
+    let duty = Duty(Party::One.into(), Action::new(0).expect("below 16"));
     [
         (
             "right-deep chain of 31 then",

@@ -59,25 +59,30 @@ const ALL_BUT_LAST: Period = Period::from_masks(0x7fff, 0x7fff);
 
 /// A lone duty, which decides in period 1.
 pub fn duty() -> Vec<u8> {
-    bytes(&[Duty(ONE, action(0))])
+    bytes(&[Duty(ONE.into(), action(0))])
 }
 
 /// Repeat (duty).
 pub fn repeated_duty() -> Open {
-    Open::new("repeated duty", &[Duty(ONE, action(0)), Repeat], ALL)
+    Open::new("repeated duty", &[Duty(ONE.into(), action(0)), Repeat], ALL)
 }
 
 /// Document 01's example of "Watch".
 pub fn repaired_duty() -> Open {
-    let records = [Duty(ONE, action(0)), Duty(ONE, action(1)), Repair, Repeat];
+    let records = [
+        Duty(ONE.into(), action(0)),
+        Duty(ONE.into(), action(1)),
+        Repair,
+        Repeat,
+    ];
     Open::new("repaired duty", &records, ALL)
 }
 
 /// A repaired duty and a ban, 8 records.
 pub fn duty_and_ban() -> Open {
     let records = [
-        Duty(ONE, action(0)),
-        Duty(TWO, action(1)),
+        Duty(ONE.into(), action(0)),
+        Duty(TWO.into(), action(1)),
         Repair,
         Repeat,
         Ban(TWO, action(15)),
@@ -92,8 +97,8 @@ pub fn duty_and_ban() -> Open {
 pub fn repairs() -> Open {
     let leaf = |k| {
         vec![
-            Duty(ONE, action(k)),
-            Duty(TWO, action(13 + k % 3)),
+            Duty(ONE.into(), action(k)),
+            Duty(TWO.into(), action(13 + k % 3)),
             Repair,
             Repeat,
         ]
@@ -106,7 +111,7 @@ pub fn whens() -> Open {
     let leaf = |k| {
         vec![
             Tries(ONE, action(k)),
-            Duty(TWO, action(k + 1)),
+            Duty(TWO.into(), action(k + 1)),
             When,
             Repeat,
         ]
@@ -128,7 +133,7 @@ pub fn nested() -> Open {
 
 /// A repeated duty until a long expression, of which many parts wait for the next period.
 pub fn long_expression() -> Open {
-    let mut records = vec![Duty(ONE, action(0)), Repeat, Repeat, Any, Star];
+    let mut records = vec![Duty(ONE.into(), action(0)), Repeat, Repeat, Any, Star];
     for k in 0..14 {
         let either = [Tries(ONE, action(k)), Tries(TWO, action(k + 1)), Or, Seq];
         records.extend(either);
@@ -212,13 +217,13 @@ pub const FAMILIES: [Family; 6] = [
 ];
 
 fn repeat_chain(records: usize) -> Vec<Record> {
-    let mut chain = vec![Duty(ONE, action(0))];
+    let mut chain = vec![Duty(ONE.into(), action(0))];
     chain.resize(records, Repeat);
     chain
 }
 
 fn duty_tree(records: usize) -> Vec<Record> {
-    both_tree(records, &|k| Duty(ONE, action(k)))
+    both_tree(records, &|k| Duty(ONE.into(), action(k)))
 }
 
 fn deadline_tree(records: usize, window: Window) -> Vec<Record> {
@@ -237,7 +242,7 @@ fn join_chain(records: usize) -> Vec<Record> {
     while chain.len() < records {
         let k = chain.len();
         let join = if k.is_multiple_of(4) { Then } else { Repair };
-        chain.extend([Duty(TWO, action(k)), join]);
+        chain.extend([Duty(TWO.into(), action(k)), join]);
     }
     chain
 }

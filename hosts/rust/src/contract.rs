@@ -22,6 +22,46 @@ impl Party {
     }
 }
 
+/// The owner of a duty: one party, or both. A duty that both own is a joint duty.
+///
+/// [`Clause::duty`] also takes a [`Party`] as the owner; a [`Record`] has the owner itself:
+///
+/// ```
+/// use monitor::{Action, Clause, Owner, Party, Record};
+///
+/// const PLUGIN: Party = Party::One;
+/// const SAVE: Action = Action::new(3).unwrap();
+/// const DUTY: Record = Record::Duty(Owner::Party(PLUGIN), SAVE);
+/// const JOINT_DUTY: Record = Record::Duty(Owner::Both, SAVE);
+///
+/// assert!(Clause::duty(PLUGIN, SAVE).records().eq([DUTY]));
+/// assert!(Clause::duty(Owner::Both, SAVE).records().eq([JOINT_DUTY]));
+/// ```
+#[derive(Clone, Copy, Debug, PartialEq, Eq, Hash)]
+pub enum Owner {
+    /// One party.
+    Party(Party),
+    /// Both parties.
+    Both,
+}
+
+impl Owner {
+    /// 1 or 2 for a party, 3 for both.
+    #[must_use]
+    pub const fn number(self) -> u8 {
+        match self {
+            Owner::Party(party) => party.number(),
+            Owner::Both => 3,
+        }
+    }
+}
+
+impl From<Party> for Owner {
+    fn from(party: Party) -> Owner {
+        Owner::Party(party)
+    }
+}
+
 /// An action, 0 to 15. It succeeds in a period in which both parties try it.
 #[derive(Clone, Copy, Debug, PartialEq, Eq, Hash, PartialOrd, Ord)]
 pub struct Action(u8);
@@ -102,7 +142,7 @@ impl Window {
 #[non_exhaustive]
 pub enum Record {
     /// A clause: [`duty`](Clause::duty).
-    Duty(Party, Action),
+    Duty(Owner, Action),
     /// A clause: [`ban`](Clause::ban).
     Ban(Party, Action),
     /// A clause: [`power`](Clause::power).
@@ -172,8 +212,8 @@ impl Record {
     #[must_use]
     pub const fn to_bytes(self) -> [u8; Record::BYTES] {
         let (party, action, last) = match self {
-            Record::Duty(party, action)
-            | Record::Ban(party, action)
+            Record::Duty(owner, action) => (owner.number(), action.number(), 0),
+            Record::Ban(party, action)
             | Record::Power(party, action)
             | Record::Tries(party, action)
             | Record::Idle(party, action) => (party.number(), action.number(), 0),

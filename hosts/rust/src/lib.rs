@@ -4,7 +4,8 @@
 //! recalculation) each party tries some actions; an action succeeds when both try it. The monitor
 //! is given both parties' attempts and says whether the contract is open, met or broken, since
 //! which period, and who is to blame. `docs/FORMAT.md` says what contracts, periods, images and
-//! states are; it says what "document 01" says, which these pages cite, and of deadlines document 02.
+//! states are; it says what "document 01" says, which these pages cite, and of deadlines and joint
+//! duties document 02.
 //!
 //! A host builds a [`Clause`] and makes a [`Contract`] from it, compiles that to an [`Image`] once,
 //! begins a [`Monitor`] for each spreadsheet under the contract, and steps each of them with
@@ -78,7 +79,7 @@ mod refusal;
 mod reply;
 mod tree;
 
-pub use crate::contract::{Action, Contract, Party, Record, Window};
+pub use crate::contract::{Action, Contract, Owner, Party, Record, Window};
 pub use crate::image::Image;
 pub use crate::monitor::Monitor;
 pub use crate::period::Period;

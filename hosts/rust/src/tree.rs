@@ -2,7 +2,7 @@
 
 use alloc::collections::VecDeque;
 
-use crate::{Action, Party, Record, Window};
+use crate::{Action, Owner, Party, Record, Window};
 
 /// Records of a tree, operands before their operator.
 type Records = VecDeque<Record>;
@@ -54,7 +54,7 @@ fn join(mut left: Records, mut right: Records, operator: Record) -> Records {
 /// );
 ///
 /// let records = [
-///     Record::Duty(Party::One, A),
+///     Record::Duty(Party::One.into(), A),
 ///     Record::Repeat,
 ///     Record::Any,
 ///     Record::Star,
@@ -70,10 +70,30 @@ fn join(mut left: Records, mut right: Records, operator: Record) -> Records {
 pub struct Clause(Records);
 
 impl Clause {
-    /// In its first period both parties try the action. The party is to blame if it doesn't,
-    /// otherwise the other one.
-    pub fn duty(party: Party, action: Action) -> Clause {
-        Clause(leaf(Record::Duty(party, action)))
+    /// In its first period both parties try the action. The party that owns the duty is to blame
+    /// if it doesn't, otherwise the other one. If both own it, each is to blame that doesn't try.
+    ///
+    /// ```
+    /// use monitor::{Action, Blame, Clause, Contract, Image, Monitor, Owner, Party, Period};
+    ///
+    /// const PLUGIN: Party = Party::One;
+    /// const VALUES: Action = Action::new(0).unwrap();
+    /// const TOTALS: Action = Action::new(1).unwrap();
+    ///
+    /// # fn main() -> Result<(), monitor::Refusal> {
+    /// // The plugin hands over its values. Both parties check the totals; neither of them leads.
+    /// let totals = Clause::duty(Owner::Both, TOTALS);
+    /// let clause = Clause::duty(PLUGIN, VALUES).both(totals).repeat();
+    /// let mut sheet = Monitor::begin(&Image::compile(Contract::from(clause))?);
+    ///
+    /// // The values are handed over, but nobody checks the totals.
+    /// let reply = sheet.step(Period::from_actions(&[VALUES], &[VALUES]))?;
+    /// assert_eq!(reply.blame, Some(Blame::Both));
+    /// # Ok(())
+    /// # }
+    /// ```
+    pub fn duty(owner: impl Into<Owner>, action: Action) -> Clause {
+        Clause(leaf(Record::Duty(owner.into(), action)))
     }
 
     /// In one of its first periods, as many as the window has, both parties try the action;

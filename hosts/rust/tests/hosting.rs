@@ -3,8 +3,8 @@
 use std::num::NonZeroU32;
 
 use monitor::{
-    Action, Blame, Clause, Contract, Expression, Image, Monitor, Party, Period, Record, Refusal,
-    Reply, RunReply, Verdict, Window,
+    Action, Blame, Clause, Contract, Expression, Image, Monitor, Owner, Party, Period, Record,
+    Refusal, Reply, RunReply, Verdict, Window,
 };
 
 mod common;
@@ -12,7 +12,7 @@ use common::Random;
 
 const A: Action = Action::new(0).unwrap();
 const B: Action = Action::new(1).unwrap();
-const DUTY: Record = Record::Duty(Party::One, A);
+const DUTY: Record = Record::Duty(Owner::Party(Party::One), A);
 const GOOD: Period = Period::from_masks(1, 1);
 const BAD: Period = Period::from_masks(0, 1);
 
@@ -226,7 +226,7 @@ fn every_type_crosses_threads() {
     fn crosses<T: Send + Sync>() {}
     crosses::<Image>();
     crosses::<Monitor>();
-    crosses::<(Clause, Expression, Record, Contract, Period, Window)>();
+    crosses::<(Clause, Expression, Record, Contract, Owner, Period, Window)>();
     crosses::<(Reply, RunReply, Refusal)>();
 }
 

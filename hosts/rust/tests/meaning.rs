@@ -1,11 +1,11 @@
-//! Document 01's worked examples, and deadlines, as trees and as records, through compile, begin,
-//! step and run.
+//! Document 01's worked examples, joint duties and deadlines, as trees and as records, through
+//! compile, begin, step and run.
 
 use std::num::NonZeroU32;
 
 use monitor::{
-    Action, Blame, Clause, Contract, Expression, Image, Monitor, Party, Period, Record, Reply,
-    Verdict, Window,
+    Action, Blame, Clause, Contract, Expression, Image, Monitor, Owner, Party, Period, Record,
+    Reply, Verdict, Window,
 };
 use Party::{One, Two};
 use Record::*;
@@ -82,14 +82,129 @@ fn hold(image: &Image, trace: &str, want: Reply) {
     assert_eq!(run, stepped);
 }
 
+/// Holds two clauses to the same replies on random traces of two actions: the last replies.
+#[track_caller]
+fn alike(clauses: &[Clause; 2], random: &mut Random) -> Vec<Reply> {
+    let images = clauses
+        .each_ref()
+        .map(|clause| Image::compile(Contract::from(clause)).unwrap());
+    let mut last = Vec::new();
+    for _ in 0..100 {
+        let mut monitors = images.each_ref().map(Monitor::begin);
+        for _ in 0..60 {
+            let [one, two] = [random.below(4), random.below(4)].map(|mask| mask as u16);
+            let period = Period::from_masks(one, two);
+            let [reply, want] = monitors.each_mut().map(|m| m.step(period).unwrap());
+            assert_eq!(reply, want, "{clauses:?}");
+        }
+        last.push(monitors[0].look());
+    }
+    last
+}
+
 #[test]
 fn duty() {
-    let image = image(Clause::duty(One, A), &[Duty(One, A)]);
+    let image = image(Clause::duty(One, A), &[Duty(One.into(), A)]);
     hold(&image, "", open());
     hold(&image, "a/a", met(1));
     hold(&image, "-/a", broken(1, Blame::One));
     hold(&image, "-/-", broken(1, Blame::One));
     hold(&image, "a/-", broken(1, Blame::Two));
+}
+
+/// The blame is on each party that doesn't try.
+#[test]
+fn joint_duty() {
+    let image = image(Clause::duty(Owner::Both, A), &[Duty(Owner::Both, A)]);
+    hold(&image, "", open());
+    hold(&image, "a/a", met(1));
+    hold(&image, "-/a", broken(1, Blame::One));
+    hold(&image, "a/-", broken(1, Blame::Two));
+    hold(&image, "-/-", broken(1, Blame::Both));
+}
+
+/// Its blame is united with the other half's of the same period, and not with that of a later one.
+#[test]
+fn a_joint_duty_in_a_both() {
+    let other = Clause::duty(Two, B).repeat();
+    let image = image(
+        Clause::duty(Owner::Both, A).repeat().both(other),
+        &[
+            Duty(Owner::Both, A),
+            Repeat,
+            Duty(Two.into(), B),
+            Repeat,
+            Both,
+        ],
+    );
+    hold(&image, "ab/ab", open());
+    hold(&image, "ab/ab, -/a", broken(2, Blame::Both));
+    hold(&image, "ab/ab, a/-", broken(2, Blame::Two));
+    hold(&image, "ab/ab, b/b", broken(2, Blame::Both));
+    let want = reply(Verdict::BrokenAfter, Some(Blame::One), 2);
+    hold(&image, "ab/ab, b/ab, -/-", want);
+}
+
+/// The repair's blame alone counts, whichever of the two is the joint duty.
+#[test]
+fn joint_duties_and_repairs() {
+    let repaired = image(
+        Clause::duty(Owner::Both, A).repair(Clause::duty(One, B)),
+        &[Duty(Owner::Both, A), Duty(One.into(), B), Repair],
+    );
+    hold(&repaired, "-/-, b/b", met(2));
+    hold(&repaired, "-/-, b/-", broken(2, Blame::Two));
+    let repair = image(
+        Clause::duty(Two, A).repair(Clause::duty(Owner::Both, B)),
+        &[Duty(Two.into(), A), Duty(Owner::Both, B), Repair],
+    );
+    hold(&repair, "-/-, -/b", broken(2, Blame::One));
+    hold(&repair, "-/-, -/-", broken(2, Blame::Both));
+}
+
+/// A violation in the period of the acceptance counts.
+#[test]
+fn a_joint_duty_until() {
+    let notice = Expression::any().star().seq(Expression::tries(Two, B));
+    let image = image(
+        Clause::duty(Owner::Both, A).repeat().until(notice),
+        &[
+            Duty(Owner::Both, A),
+            Repeat,
+            Any,
+            Star,
+            Tries(Two, B),
+            Seq,
+            Until,
+        ],
+    );
+    hold(&image, "a/a, a/ab", met(2));
+    hold(&image, "a/a, a/b", broken(2, Blame::Two));
+    hold(&image, "a/a, -/b", broken(2, Blame::Both));
+}
+
+/// A joint duty means the duties of both parties at once, under every operator.
+#[test]
+fn a_joint_duty_is_both_parties_duties() {
+    let random = &mut Random::new(1);
+    let duties = [
+        Clause::duty(Owner::Both, B),
+        Clause::duty(One, B).both(Clause::duty(Two, B)),
+    ];
+    let close = || Expression::any().star().seq(Expression::succeeds(A));
+    let clauses: [&dyn Fn(Clause) -> Clause; 5] = [
+        &|duty| duty.both(Clause::power(One, A)),
+        &|duty| duty.then(Clause::ban(Two, A)),
+        &|duty| duty.clone().repair(duty),
+        &|duty| Clause::when(Expression::tries(One, A), duty),
+        &|duty| duty.repeat().until(close()),
+    ];
+    for clause in clauses {
+        let replies = alike(&duties.clone().map(|duty| clause(duty).repeat()), random);
+        for blame in [Blame::One, Blame::Two, Blame::Both] {
+            assert!(replies.iter().any(|reply| reply.blame == Some(blame)));
+        }
+    }
 }
 
 #[test]
@@ -109,7 +224,7 @@ fn ban() {
 fn both_unites_blames_of_one_period() {
     let image = image(
         Clause::both(Clause::power(One, A), Clause::duty(One, B)),
-        &[Power(One, A), Duty(One, B), Both],
+        &[Power(One, A), Duty(One.into(), B), Both],
     );
     hold(&image, "a/-", broken(1, Blame::Both));
 }
@@ -119,7 +234,13 @@ fn a_later_breach_adds_no_party() {
     let later = Clause::then(Clause::power(One, B), Clause::duty(Two, B));
     let image = image(
         Clause::both(Clause::duty(One, A), later),
-        &[Duty(One, A), Power(One, B), Duty(Two, B), Then, Both],
+        &[
+            Duty(One.into(), A),
+            Power(One, B),
+            Duty(Two.into(), B),
+            Then,
+            Both,
+        ],
     );
     let want = reply(Verdict::BrokenAfter, Some(Blame::One), 1);
     hold(&image, "-/a, -/-", want);
@@ -129,7 +250,7 @@ fn a_later_breach_adds_no_party() {
 fn repair() {
     let image = image(
         Clause::repair(Clause::duty(One, A), Clause::duty(One, B)),
-        &[Duty(One, A), Duty(One, B), Repair],
+        &[Duty(One.into(), A), Duty(One.into(), B), Repair],
     );
     hold(&image, "-/-, b/b", met(2));
 }
@@ -138,7 +259,7 @@ fn repair() {
 fn repeat() {
     let image = image(
         Clause::repeat(Clause::duty(One, A)),
-        &[Duty(One, A), Repeat],
+        &[Duty(One.into(), A), Repeat],
     );
     hold(&image, "a/a", open());
 }
@@ -147,7 +268,7 @@ fn repeat() {
 fn when() {
     let image = image(
         Clause::when(Expression::tries(One, B), Clause::duty(Two, A)),
-        &[Tries(One, B), Duty(Two, A), When],
+        &[Tries(One, B), Duty(Two.into(), A), When],
     );
     hold(&image, "-/-", met(1));
 }
@@ -162,7 +283,15 @@ fn until() {
                 Expression::tries(One, B),
             ),
         ),
-        &[Duty(One, A), Repeat, Any, Star, Tries(One, B), Seq, Until],
+        &[
+            Duty(One.into(), A),
+            Repeat,
+            Any,
+            Star,
+            Tries(One, B),
+            Seq,
+            Until,
+        ],
     );
     hold(&image, "a/a, ab/a", met(2));
     hold(&image, "a/a, b/a", broken(2, Blame::One));
@@ -190,20 +319,10 @@ fn a_deadline_is_repaired_duties() {
         let window = Window::new(periods).unwrap();
         let duty = || Clause::duty(Two, B);
         let repaired = (1..periods).fold(duty(), |later, _| duty().repair(later));
-        let images = [Clause::deadline(Two, B, window), repaired]
-            .map(|clause| Image::compile(Contract::from(clause.repeat())).unwrap());
-        let mut missed = 0;
-        for _ in 0..100 {
-            let mut monitors = images.each_ref().map(Monitor::begin);
-            for _ in 0..60 {
-                let [one, two] = [random.below(4), random.below(4)].map(|mask| mask as u16);
-                let period = Period::from_masks(one, two);
-                let [reply, want] = monitors.each_mut().map(|m| m.step(period).unwrap());
-                assert_eq!(reply, want, "window {periods}");
-            }
-            missed += usize::from(monitors[0].look().verdict != Verdict::Open);
-        }
-        assert!(missed > 0, "window {periods}");
+        let clauses = [Clause::deadline(Two, B, window), repaired].map(Clause::repeat);
+        let replies = alike(&clauses, random);
+        let missed = |reply: &Reply| reply.verdict != Verdict::Open;
+        assert!(replies.iter().any(missed), "window {periods}");
     }
 }
 
@@ -214,7 +333,7 @@ fn a_missed_deadline_is_repaired() {
         Clause::deadline(One, A, THREE)
             .repair(Clause::duty(One, B))
             .repeat(),
-        &[Deadline(One, A, THREE), Duty(One, B), Repair, Repeat],
+        &[Deadline(One, A, THREE), Duty(One.into(), B), Repair, Repeat],
     );
     hold(&image, "-/-, b/b, -/-, b/b, a/a", open());
     hold(&image, "-/-, b/b, -/-, b/-", broken(4, Blame::Two));
@@ -245,7 +364,7 @@ fn a_deadline_until() {
 /// A verdict after the decision is met-after or broken-after, and the rest of the reply stays.
 #[test]
 fn after_the_decision() {
-    let image = image(Clause::duty(One, A), &[Duty(One, A)]);
+    let image = image(Clause::duty(One, A), &[Duty(One.into(), A)]);
     hold(&image, "a/a, -/-", reply(Verdict::MetAfter, None, 1));
     let want = reply(Verdict::BrokenAfter, Some(Blame::One), 1);
     hold(&image, "-/-, a/-, a/a", want);
@@ -256,7 +375,7 @@ fn after_the_decision() {
 fn expressions() {
     let when = |expression: Expression, records: &[Record]| {
         let tree = Clause::when(expression, Clause::duty(One, A));
-        image(tree, &[records, &[Duty(One, A), When]].concat())
+        image(tree, &[records, &[Duty(One.into(), A), When]].concat())
     };
     let idle = when(Expression::idle(Two, B), &[Idle(Two, B)]);
     hold(&idle, "-/-, -/-", broken(2, Blame::One));
@@ -279,7 +398,7 @@ fn expressions() {
 fn watch() {
     let image = image(
         Clause::duty(One, A).repair(Clause::duty(One, B)).repeat(),
-        &[Duty(One, A), Duty(One, B), Repair, Repeat],
+        &[Duty(One.into(), A), Duty(One.into(), B), Repair, Repeat],
     );
     let mut monitor = Monitor::begin(&image);
     let mut lines = Vec::new();

@@ -1,6 +1,6 @@
 //! The bytes of records, and the numbers and names of answers.
 
-use monitor::{Action, Blame, Contract, Fault, Party, Period, Record, Verdict, Window};
+use monitor::{Action, Blame, Contract, Fault, Owner, Party, Period, Record, Verdict, Window};
 
 const A: Action = Action::new(0).unwrap();
 const B: Action = Action::new(1).unwrap();
@@ -11,7 +11,9 @@ fn every_kind_has_its_number_and_fields() {
     let (one, two) = (Party::One, Party::Two);
     let window = |periods| Window::new(periods).unwrap();
     let table = [
-        (Record::Duty(one, A), [0x54, 0x43, 1, 1, 0, 0]),
+        (Record::Duty(one.into(), A), [0x54, 0x43, 1, 1, 0, 0]),
+        (Record::Duty(two.into(), LAST), [0x54, 0x43, 1, 2, 15, 0]),
+        (Record::Duty(Owner::Both, B), [0x54, 0x43, 1, 3, 1, 0]),
         (Record::Ban(two, B), [0x54, 0x43, 2, 2, 1, 0]),
         (Record::Power(two, LAST), [0x54, 0x43, 3, 2, 15, 0]),
         (Record::Both, [0x54, 0x43, 4, 0, 0, 0]),
@@ -45,10 +47,20 @@ fn every_kind_has_its_number_and_fields() {
 
 #[test]
 fn a_contract_is_its_records_in_order() {
-    let contract = Contract::from_records(&[Record::Duty(Party::One, B), Record::Repeat]);
+    let duty = Record::Duty(Party::One.into(), B);
+    let contract = Contract::from_records(&[duty, Record::Repeat]);
     let bytes = [0x54, 0x43, 1, 1, 1, 0, 0x54, 0x43, 7, 0, 0, 0];
     assert_eq!(contract.as_bytes(), bytes);
     assert_eq!(contract, Contract::from_bytes(bytes));
+}
+
+#[test]
+fn an_owner_is_a_party_or_both() {
+    for party in [Party::One, Party::Two] {
+        assert_eq!(Owner::from(party), Owner::Party(party));
+        assert_eq!(Owner::from(party).number(), party.number());
+    }
+    assert_eq!(Owner::Both.number(), 3);
 }
 
 #[test]

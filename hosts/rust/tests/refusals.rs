@@ -1,11 +1,11 @@
 //! The table of refusals in documents 01 and 02: the small input of each, and a few more.
 
 use monitor::{
-    calls, Action, Contract, Fault, Image, Monitor, Party, Period, Record, Refusal, Window,
+    calls, Action, Contract, Fault, Image, Monitor, Owner, Party, Period, Record, Refusal, Window,
 };
 
 const A: Action = Action::new(0).unwrap();
-const DUTY: Record = Record::Duty(Party::One, A);
+const DUTY: Record = Record::Duty(Owner::Party(Party::One), A);
 
 /// An image by hand: party 1 owes action 0 in each period.
 const BY_HAND: [u8; 32] = [
@@ -42,7 +42,7 @@ fn lengths_of_contracts() {
 fn records_at_fault() {
     hold(Image::compile([0x54, 0x44, 1, 1, 0, 0]), 2, 0);
     hold(Image::compile([0x54, 0x43, 11, 0, 0, 0]), 3, 0);
-    hold(Image::compile([0x54, 0x43, 1, 3, 0, 0]), 4, 0);
+    hold(Image::compile([0x54, 0x43, 1, 4, 0, 0]), 4, 0);
     hold(Image::compile([0x54, 0x43, 1, 1, 16, 0]), 4, 0);
     hold(Image::compile([0x54, 0x43, 1, 1, 0, 1]), 4, 0);
     hold(Image::compile([0x54, 0x43, 10, 1, 0, 0]), 4, 0);
@@ -59,6 +59,31 @@ fn records_at_fault() {
     let mut second = Contract::from_records(&[DUTY, DUTY]).as_bytes().to_vec();
     second[8] = 24;
     hold(Image::compile(second), 3, 1);
+}
+
+/// A duty takes party 3, for both, and no other kind does; a lone expression is refused by 6.
+#[test]
+fn parties_of_every_kind() {
+    let kinds = [
+        (1, 3, 0),
+        (2, 2, 0),
+        (3, 2, 0),
+        (10, 2, 1),
+        (17, 2, 0),
+        (18, 2, 0),
+    ];
+    for (kind, most, last) in kinds {
+        for party in 0..=255 {
+            let compiled = Image::compile([0x54, 0x43, kind, party, 0, last]);
+            if !(1..=most).contains(&party) {
+                hold(compiled, 4, 0);
+            } else if kind > 16 {
+                hold(compiled, 6, 1);
+            } else {
+                assert!(compiled.is_ok(), "kind {kind}, party {party}: {compiled:?}");
+            }
+        }
+    }
 }
 
 #[test]

@@ -1,6 +1,6 @@
 //! Trees: the bytes that each builder spells, trees of any shape, and the refusals that are left.
 
-use monitor::{Action, Clause, Contract, Expression, Image, Party, Record, Window};
+use monitor::{Action, Clause, Contract, Expression, Image, Owner, Party, Record, Window};
 use Party::{One, Two};
 
 mod common;
@@ -52,6 +52,8 @@ fn expressions() -> [(Expression, Vec<[u8; 6]>); 2] {
 fn clauses_of_one_record() {
     hold(&Clause::duty(One, B), &[bytes(1, 1, 1)]);
     hold(&Clause::duty(Two, LAST), &[bytes(1, 2, 15)]);
+    hold(&Clause::duty(Owner::Party(Two), A), &[bytes(1, 2, 0)]);
+    hold(&Clause::duty(Owner::Both, LAST), &[bytes(1, 3, 15)]);
     hold(&Clause::ban(Two, B), &[bytes(2, 2, 1)]);
     hold(&Clause::power(One, LAST), &[bytes(3, 1, 15)]);
     let deadline = Clause::deadline(One, LAST, SHORTEST);
@@ -133,7 +135,7 @@ fn equal_trees() {
     assert_eq!(right, duty().then(duty().then(duty())));
     assert_eq!(
         format!("{:?}", duty().repeat()),
-        "Clause([Duty(One, Action(0)), Repeat])"
+        "Clause([Duty(Party(One), Action(0)), Repeat])"
     );
     assert_eq!(right.records().next_back(), Some(Record::Then));
 }
@@ -208,10 +210,11 @@ use Tree::{Clause as C, Expression as E};
 /// A tree without operands, and its record.
 fn leaf(random: &mut Random) -> (Tree, Record) {
     let p = [One, Two][random.below(2)];
+    let o = [p.into(), Owner::Both][random.below(2)];
     let a = Action::new(random.below(16) as u8).unwrap();
     let d = Window::new(1 + random.below(15) as u8).unwrap();
     match random.below(9) {
-        0 => (C(Clause::duty(p, a)), Record::Duty(p, a)),
+        0 => (C(Clause::duty(o, a)), Record::Duty(o, a)),
         1 => (C(Clause::ban(p, a)), Record::Ban(p, a)),
         2 => (C(Clause::power(p, a)), Record::Power(p, a)),
         3 => (C(Clause::deadline(p, a, d)), Record::Deadline(p, a, d)),
