@@ -87,6 +87,35 @@ operandRows n (s ∷ []) ts b S w = treeRows s (ts .0) b (w .start) (w .go)
 operandRows n (s ∷ s′ ∷ ss) ts b S w =
     treeRows s′ (ts .1 .0) b (w .start) (w .go) ++ treeRows s (ts .0) (afterTree s′ (ts .1 .0) b) S (w .keep)
 
+-- ---- a duty, by its owner
+
+-- what the bases stand for
+abbrev dutyBases : M.Parties → (a m b S K : ℕ) → List ℕ
+dutyBases o a m b S K = let w = windowBlock m 0 (inside duty b) in basesOf b S K w w (M.partiesNumber o) a
+
+-- its rows
+rows-duty : (o : M.Parties) (a m b S K : ℕ)
+    → let p = planOf (literalRecord (M.duty o) a) in
+    map numbersOf (clauseRows (M.literal (M.duty o) a) b S K [])
+    ≡ tableRows (dutyBases o a m b S K) rowTable (p .from) (p .before) ++ tableRows (dutyBases o a m b S K) rowTable (p .from + p .before) (p .after)
+unfolding clauseRows tableRows
+rows-duty (M.only party1) a m b S K = refl
+rows-duty (M.only party2) a m b S K = refl
+rows-duty M.bothParties a m b S K = refl
+
+no-more : (n : ℕ) → n + 0 ≡ n
+no-more n = omega arith
+
+-- its block
+block-duty : (o : M.Parties) (a m b S K : ℕ)
+    → let w = windowBlock m 0 (inside duty b) in
+    blockOf clause (M.literal (M.duty o) a) m b S
+    ≡ recordBlock (dutyBases o a m b S K) (planOf (literalRecord (M.duty o) a)) (line duty .number) (M.partiesNumber o) w w
+unfolding afterClause outputsOf recordBlock completed
+block-duty (M.only party1) a m b S K = rw (no-more (inside duty b))
+block-duty (M.only party2) a m b S K = rw (no-more (inside duty b))
+block-duty M.bothParties a m b S K = rw (no-more (inside duty b))
+
 -- ---- a node
 
 -- what the bases stand for in a record with these operands
@@ -120,20 +149,7 @@ other-number : (p : Party) → partyNumber (other p) ≡ otherNumber (partyNumbe
 other-number party1 = refl
 other-number party2 = refl
 
--- what the bases stand for in a duty of this owner
-abbrev dutyBases : M.Parties → (a m b S K : ℕ) → List ℕ
-dutyBases o a m b S K = let w = windowBlock m 0 (inside duty b) in basesOf b S K w w (M.partiesNumber o) a
-
 -- its rows
-rows-duty : (o : M.Parties) (a m b S K : ℕ)
-    → let p = planOf (literalRecord (M.duty o) a) in
-    map numbersOf (clauseRows (M.literal (M.duty o) a) b S K [])
-    ≡ tableRows (dutyBases o a m b S K) rowTable (p .from) (p .before) ++ tableRows (dutyBases o a m b S K) rowTable (p .from + p .before) (p .after)
-unfolding clauseRows tableRows
-rows-duty (M.only party1) a m b S K = refl
-rows-duty (M.only party2) a m b S K = refl
-rows-duty M.bothParties a m b S K = refl
-
 pub rows-node : (k : Kind) (f : Fields) (ts : Trees (line k .operands)) (m b S K : ℕ)
     → let r = recordOf k f in
     let p = planOf r in
@@ -204,15 +220,6 @@ cond-same true x = refl
 cond-same false x = refl
 
 -- its block
-block-duty : (o : M.Parties) (a m b S K : ℕ)
-    → let w = windowBlock m 0 (inside duty b) in
-    blockOf clause (M.literal (M.duty o) a) m b S
-    ≡ recordBlock (dutyBases o a m b S K) (planOf (literalRecord (M.duty o) a)) (line duty .number) (M.partiesNumber o) w w
-unfolding afterClause outputsOf recordBlock completed
-block-duty (M.only party1) a m b S K = let n : inside duty b + 0 ≡ inside duty b = omega arith in rw n
-block-duty (M.only party2) a m b S K = let n : inside duty b + 0 ≡ inside duty b = omega arith in rw n
-block-duty M.bothParties a m b S K = let n : inside duty b + 0 ≡ inside duty b = omega arith in rw n
-
 pub block-node : (k : Kind) (f : Fields) (ts : Trees (line k .operands)) (m b S K : ℕ)
     → let r = recordOf k f in
     blockOf (line k .completes) (node k f ts) m b S

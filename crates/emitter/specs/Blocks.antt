@@ -67,7 +67,8 @@ unfoldable pub recordWritten : (image bases : List ℕ) → Plan → (b n : ℕ)
 recordWritten image bases p b n =
     writtenRows (writtenRows image b (tableRows bases rowTable (p .from) (p .before))) n (tableRows bases rowTable (p .from + p .before) (p .after))
 
--- what its block gives; a literal's and a deadline's plan has its own party's blame before the other's, the block has party 1's before party 2's
+-- what its block gives; the plan of a literal and of a deadline has its own party's blame before the other's, the block has party 1's before party 2's,
+-- and so has the plan of a duty that both parties own
 unfoldable pub recordBlock : (bases : List ℕ) → Plan → (kind party : ℕ) → (left right : Block) → Block
 recordBlock bases p kind party l r =
     let blames-own = valueAt bases (p .one) in

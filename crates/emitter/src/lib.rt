@@ -301,7 +301,7 @@ const PLANS: [PlanLine; 18] = [
 // How a kind's rows are laid out: the first of its own rows in the tables, how many stand before its operands' rows and how many after them; the
 // rows that tell the right operand when it begins to read (start) and when it goes on (go), and the left operand when it goes on (keep; it
 // begins with the whole); and the rows that the block gives out, of a literal and of a deadline with its own party's blame as `one` and the
-// other's as `two`.
+// other's as `two`, and party 1's and party 2's where both own a duty.
 pub struct Plan {
     pub from: u8,
     pub before: u8,
