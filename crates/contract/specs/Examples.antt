@@ -314,7 +314,7 @@ pub record JointExamples : Type 0 where
       ≡ replicate 3 (violated 1 bothParties)
   -- and adds nothing of a later period, be it the other half's or its own (blame 3)
   pub joint-no-later-blame :
-      map (λ c. meaning c (-/a ∷ -/- ∷ [])) (both (joint a) (then (duty party2 a) (duty party2 b)) ∷ both (duty party1 a) (then (ban party1 a) (joint a)) ∷ [])
+      map (λ c. meaning c (-/a ∷ -/- ∷ [])) (both (joint a) (then (power party1 b) (duty party2 b)) ∷ both (duty party1 a) (then (ban party1 a) (joint a)) ∷ [])
       ≡ violated 1 (only party1) ∷ violated 1 (only party1) ∷ []
   -- then: its violation is the whole's; its satisfaction begins the right in period 2
   pub joint-then :
