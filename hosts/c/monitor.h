@@ -31,7 +31,7 @@ enum {
 
 /* Kinds of contract records. Operands stand before their operator. */
 enum monitor_kind {
-    MONITOR_KIND_DUTY = 1,      /* owner (a party, or both), action */
+    MONITOR_KIND_DUTY = 1,      /* party or MONITOR_PARTY_BOTH, action */
     MONITOR_KIND_BAN = 2,       /* party, action */
     MONITOR_KIND_POWER = 3,     /* party, action */
     MONITOR_KIND_BOTH = 4,      /* two clauses */
@@ -51,7 +51,7 @@ enum monitor_kind {
     MONITOR_KIND_STAR = 23      /* an expression */
 };
 
-/* Parties: 1 or 2 in a contract record, where a duty's owner may also be both; any of the four in a reply's blame. */
+/* Parties: 1 or 2 in a contract record, for the owner of a duty also both (a joint duty); any of the four in a reply's blame. */
 enum monitor_party {
     MONITOR_PARTY_NONE = 0,
     MONITOR_PARTY_1 = 1,

@@ -21,7 +21,7 @@ fn deadline(party: u8, window: u8) -> Vec<u8> {
     vec![0x54, 0x43, 10, party, 0, window]
 }
 
-/// All records of these kinds, each with both parties.
+/// All records of these kinds, each with either party.
 fn of_parties(kinds: &[u8]) -> Vec<Vec<u8>> {
     let each = |kind: &u8| [record(*kind, 1), record(*kind, 2)];
     kinds.iter().flat_map(each).collect()

@@ -24,7 +24,7 @@ impl Party {
 
 /// The owner of a duty: one party, or both. A duty that both own is a joint duty.
 ///
-/// [`Clause::duty`] also takes a [`Party`] as the owner; a [`Record`] has the owner itself:
+/// [`Clause::duty`] takes a [`Party`] as the owner too; a [`Record::Duty`] has the owner itself:
 ///
 /// ```
 /// use monitor::{Action, Clause, Owner, Party, Record};

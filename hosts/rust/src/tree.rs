@@ -71,7 +71,8 @@ pub struct Clause(Records);
 
 impl Clause {
     /// In its first period both parties try the action. The party that owns the duty is to blame
-    /// if it doesn't, otherwise the other one. If both own it, each is to blame that doesn't try.
+    /// if it doesn't, otherwise the other one. If both own it (a joint duty), each party that
+    /// doesn't try is to blame.
     ///
     /// ```
     /// use monitor::{Action, Blame, Clause, Contract, Image, Monitor, Owner, Party, Period};
@@ -81,7 +82,7 @@ impl Clause {
     /// const TOTALS: Action = Action::new(1).unwrap();
     ///
     /// # fn main() -> Result<(), monitor::Refusal> {
-    /// // The plugin hands over its values. Both parties check the totals; neither of them leads.
+    /// // The plugin owes its values. The check of the totals is both parties' duty.
     /// let totals = Clause::duty(Owner::Both, TOTALS);
     /// let clause = Clause::duty(PLUGIN, VALUES).both(totals).repeat();
     /// let mut sheet = Monitor::begin(&Image::compile(Contract::from(clause))?);
