@@ -1,5 +1,5 @@
--- Vectors of compile: its result, the image buffer and the reply, byte for byte. Document 01, "Calls" and "Replies that refuse"; document 02, "Duties with a deadline" and
--- "Duties that both parties own".
+-- Vectors of compile: its result, the image buffer and the reply, byte for byte. Document 01, "Calls" and "Replies that refuse"; document 02,
+-- "Duties with a deadline" and "Duties that both parties own".
 use Prim.Native.Nat.{ℕ}
 use mathlib.Core.List.{List, [], _∷_, _++_, map}
 use mathlib.Core.Path.{_≡_}

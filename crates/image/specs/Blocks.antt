@@ -152,7 +152,7 @@ outputsOf (until c e) b =
     let left = afterExpression e (inside Table.until b) in
     outputs (afterClause c left ⊹ 3) (outputsOf c left .one) (outputsOf c left .two)
 
--- a duty of both parties differs from a duty of party 1 in the last row: party 2 is to blame whether or not party 1 tries
+-- a duty of both parties differs from a duty of party 1 in the last row: party 2 is to blame if it doesn't try, whether or not party 1 does
 abbrev pub literalRows : Literal → (action : ℕ) → (b S : ℕ) → List Row → List Row
 literalRows (duty (only p)) a b S rest =
     attempt p a ∷ attempt (other p) a ∷ conjunction S b ∷ conjunction (b ⊹ 2) (b ⊹ 1)
