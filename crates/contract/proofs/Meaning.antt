@@ -15,7 +15,7 @@ use Rattle.records.proofs.Written.{drop-take}
 use Rattle.periods.specs.Periods.{Party, other, Period, tries}
 use Rattle.contract.specs.Expressions.{Expression, Holds}
 use Rattle.contract.specs.Readings.{Reading, pending, accepted, rejected, reading}
-use Rattle.contract.specs.Meaning.{Parties, only, bothParties, Literal, duty, ban, power, Clause, literal, deadline, both, then, repair, repeat, when, until, unite, Decision, undecided, satisfied, violated, literalDecision, firstParty, literalMeaning, earlier, bothMeaning, later, after, thenMeaning, repairMeaning, repeatMeaning, whenMeaning, noLater, untilMeaning, meaning, EmptyFree}
+use Rattle.contract.specs.Meaning.{Parties, only, bothParties, Literal, duty, ban, power, Clause, literal, deadline, both, then, repair, repeat, when, until, unite, Decision, undecided, satisfied, violated, literalDecision, testedFirst, literalMeaning, earlier, bothMeaning, later, after, thenMeaning, repairMeaning, repeatMeaning, whenMeaning, noLater, untilMeaning, meaning, EmptyFree}
 use Rattle.contract.specs.Verdicts.{decisionPeriod}
 use Rattle.contract.proofs.Expressions.{some-list}
 use Rattle.contract.proofs.Windows.{deadline-none, deadline-one, deadline-more}
@@ -129,7 +129,7 @@ within-repeat m bounded (suc f) w =
 within-first : (l : Literal) (a : ℕ) (w : List Period) → Within (length w) (meaning (literal l a) w)
 unfolding meaning
 within-first l a [] = tt
-within-first l a (x ∷ w) = within-literal l (tries x (firstParty l) a) (tries x (other (firstParty l)) a) (length w)
+within-first l a (x ∷ w) = within-literal l (tries x (testedFirst l) a) (tries x (other (testedFirst l)) a) (length w)
 
 within-deadline : (p : Party) (a d : ℕ) (w : List Period) → Within (length w) (meaning (deadline p a d) w)
 unfolding meaning
@@ -359,9 +359,9 @@ stable-literal : (l : Literal) (a : ℕ) → Stable (meaning (literal l a))
 unfolding meaning
 stable-literal l a zero [] = refl
 stable-literal l a zero (x ∷ w) =
-    sym (not-at-start 1 (literalMeaning l a (x ∷ w)) (within-literal l (tries x (firstParty l) a) (tries x (other (firstParty l)) a) 0))
+    sym (not-at-start 1 (literalMeaning l a (x ∷ w)) (within-literal l (tries x (testedFirst l) a) (tries x (other (testedFirst l)) a) 0))
 stable-literal l a (suc n) [] = refl
-stable-literal l a (suc n) (x ∷ w) = literal-by-now l (tries x (firstParty l) a) (tries x (other (firstParty l)) a) n
+stable-literal l a (suc n) (x ∷ w) = literal-by-now l (tries x (testedFirst l) a) (tries x (other (testedFirst l)) a) n
 
 stable-deadline : (p : Party) (a d : ℕ) → Stable (meaning (deadline p a d))
 unfolding meaning

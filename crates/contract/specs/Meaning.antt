@@ -72,16 +72,16 @@ literalDecision (power p) true false = violated 1 (only (other p))
 literalDecision (power p) false q = satisfied 1
 
 -- the party that is tested first: p, and party 1 where both own a duty
-abbrev pub firstParty : Literal → Party
-firstParty (duty (only p)) = p
-firstParty (duty bothParties) = party1
-firstParty (ban p) = p
-firstParty (power p) = p
+abbrev pub testedFirst : Literal → Party
+testedFirst (duty (only p)) = p
+testedFirst (duty bothParties) = party1
+testedFirst (ban p) = p
+testedFirst (power p) = p
 
 -- a literal looks at the first period
 abbrev pub literalMeaning : Literal → (action : ℕ) → List Period → Decision
 literalMeaning l a [] = undecided
-literalMeaning l a (x ∷ w) = literalDecision l (tries x (firstParty l) a) (tries x (other (firstParty l)) a)
+literalMeaning l a (x ∷ w) = literalDecision l (tries x (testedFirst l) a) (tries x (other (testedFirst l)) a)
 
 -- the earlier of two violations, with that one's blame; the two blames are united if they fall in the same period
 abbrev pub earlier : ℕ → Parties → ℕ → Parties → Decision

@@ -7,7 +7,7 @@ use mathlib.Core.Option.{Option, none, some}
 use mathlib.Core.Path.{_≡_, refl}
 use lib.ListN.{length}
 use Rattle.periods.specs.Periods.{Party, other, Period, tries}
-use Rattle.contract.specs.Meaning.{Literal, literal, Decision, undecided, satisfied, violated, firstParty, meaning, EmptyFree}
+use Rattle.contract.specs.Meaning.{Literal, literal, Decision, undecided, satisfied, violated, testedFirst, meaning, EmptyFree}
 use Rattle.contract.proofs.Meaning.{Within, decision-within, within-period}
 use Rattle.image.proofs.Signals.{Signal, at, nothing, literalReport, Says, exactly}
 use Rattle.image.proofs.Once.{length-snoc}
@@ -23,7 +23,7 @@ not-before-first (violated k x) b = b .0
 
 module _ (l : Literal) (a : ℕ) where
   abbrev q : Party
-  q = firstParty l
+  q = testedFirst l
 
   within-first : (p : Period) → Within 1 (meaning (literal l a) (p ∷ []))
   unfolding EmptyFree
@@ -46,7 +46,7 @@ module _ (l : Literal) (a : ℕ) where
 
 pub behaves-literal : {l : Literal} {a : ℕ} {S K sat one two : Signal}
     → ((p : Period) (h : List Period)
-    → Says (sat p h) (one p h) (two p h) (literalReport l (S p h) (tries p (firstParty l) a) (tries p (other (firstParty l)) a)))
+    → Says (sat p h) (one p h) (two p h) (literalReport l (S p h) (tries p (testedFirst l) a) (tries p (other (testedFirst l)) a)))
     → Behaves (literal l a) S K sat one two
 unfolding thread
 behaves-literal {l} {a} {S} {K} {sat} {one} {two} e = record { says = says }

@@ -7,7 +7,7 @@ use mathlib.Core.Path.{_≡_, refl}
 use Rattle.periods.specs.Periods.{Party, party1, party2, other, Period, tries, succeeds}
 use Rattle.layout.specs.Rows.{Row, never, initial, attempt, negation, conjunction, disjunction, previous}
 use Rattle.contract.specs.Expressions.{Atom, holds, Expression, atom, seq, or, star, holdsEmpty}
-use Rattle.contract.specs.Meaning.{Parties, only, bothParties, Literal, duty, Clause, literal, deadline, both, then, repair, repeat, when, until, Decision, undecided, satisfied, violated, literalDecision, firstParty}
+use Rattle.contract.specs.Meaning.{Parties, only, bothParties, Literal, duty, Clause, literal, deadline, both, then, repair, repeat, when, until, Decision, undecided, satisfied, violated, literalDecision, testedFirst}
 
 -- A signal has a value in each period: given the period and those before it, the latest first.
 abbrev pub Signal : Type 0
@@ -161,7 +161,7 @@ pub data WiredExpression : Expression → (S K end live : Signal) → Type 0 whe
 pub data WiredClause : Clause → (S K sat one two : Signal) → Type 0 where
   wired-literal : {l : Literal} {a : ℕ} {S K sat one two : Signal}
       → ((p : Period) (h : List Period)
-      → Says (sat p h) (one p h) (two p h) (literalReport l (S p h) (tries p (firstParty l) a) (tries p (other (firstParty l)) a)))
+      → Says (sat p h) (one p h) (two p h) (literalReport l (S p h) (tries p (testedFirst l) a) (tries p (other (testedFirst l)) a)))
       → WiredClause (literal l a) S K sat one two
   wired-deadline : {q : Party} {a d : ℕ} {S K missed earlier last sat one two : Signal}
       → (missed ≐ λ p h. S p h && not (succeeds p a))

@@ -10,7 +10,7 @@ use borrow.Author.Tests.{leb-true}
 use Rattle.periods.specs.Periods.{Party, party1, party2}
 use Rattle.layout.specs.Rows.{Row}
 use Rattle.contract.specs.Expressions.{Atom, any, tries, idle, succeeds, fails, Expression, atom, seq, or, star, holdsEmpty}
-use Rattle.contract.specs.Meaning.{only, bothParties, Literal, duty, ban, power, Clause, literal, deadline, both, then, repair, repeat, when, until, firstParty}
+use Rattle.contract.specs.Meaning.{only, bothParties, Literal, duty, ban, power, Clause, literal, deadline, both, then, repair, repeat, when, until, testedFirst}
 use Rattle.reader.specs.Table
 use Rattle.reader.specs.Trees.{Record}
 use Rattle.reader.specs.Spelling.{atomRecord, literalRecord, deadlineRecord, expressionRecords, records, windows}
@@ -174,7 +174,7 @@ inside-literal party2 h i = omega arith
 
 pub inside-clause : (c : Clause) (b : ℕ) → 0 < b → ClauseInside c b (outputsOf c b)
 unfolding outputsOf afterClause
-inside-clause (literal (duty o) a) b h = inside-literal (firstParty (duty o)) (omega arith) (omega arith)
+inside-clause (literal (duty o) a) b h = inside-literal (testedFirst (duty o)) (omega arith) (omega arith)
 inside-clause (literal (ban p) a) b h = inside-literal p (omega arith) (omega arith)
 inside-clause (literal (power p) a) b h = inside-literal p (omega arith) (omega arith)
 inside-clause (deadline p a d) b h = let e = after-window (d - 1) (inside Table.deadline b) in inside-literal p (omega arith) (omega arith)

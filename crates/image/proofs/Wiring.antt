@@ -7,7 +7,7 @@ use Rattle.periods.specs.Periods
 use Rattle.periods.specs.Periods.{Party, party1, party2, other, Period}
 use Rattle.layout.specs.Rows.{Row}
 use Rattle.contract.specs.Expressions.{Atom, any, tries, idle, succeeds, fails, holds, Expression, atom, seq, or, star, holdsEmpty}
-use Rattle.contract.specs.Meaning.{only, bothParties, Literal, duty, ban, power, Clause, literal, deadline, both, then, repair, repeat, when, until, firstParty}
+use Rattle.contract.specs.Meaning.{only, bothParties, Literal, duty, ban, power, Clause, literal, deadline, both, then, repair, repeat, when, until, testedFirst}
 use Rattle.contract.proofs.Windows.{by-party}
 use Rattle.image.specs.Widths.{neverRow, periodRows, _⊹_, afterWindow, afterExpression, afterClause}
 use Rattle.image.specs.Blocks.{untilDone, handOver, joinOn, remember, endRow, liveRow, ifEmpty, expressionRows, blaming, outputsOf, windowRows, lastRow, clauseRows}
@@ -97,11 +97,11 @@ says-blaming v party1 sat own others t = record { sat-is = t .sat-is; one-is = t
 says-blaming v party2 sat own others t = record { sat-is = t .sat-is; one-is = t .others-is; two-is = t .own-is }
 
 wire-literal : (v : ℕ → Signal) (l : Literal) (a S K sat own others : ℕ)
-    → let q = firstParty l in
+    → let q = testedFirst l in
     ((p : Period) (h : List Period)
     → LiteralSays q (literalReport l (v S p h) (Periods.tries p q a) (Periods.tries p (other q) a)) (v sat p h) (v own p h) (v others p h))
     → let out = blaming q sat own others in WiredClause (literal l a) (v S) (v K) (v (out .sat)) (v (out .one)) (v (out .two))
-wire-literal v l a S K sat own others t = wired-literal λ p h. says-blaming v (firstParty l) sat own others (t p h)
+wire-literal v l a S K sat own others t = wired-literal λ p h. says-blaming v (testedFirst l) sat own others (t p h)
 
 -- ---- deadlines
 

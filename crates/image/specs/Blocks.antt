@@ -10,7 +10,7 @@ use mathlib.Core.List.{List, _∷_}
 use Rattle.periods.specs.Periods.{Party, party1, party2, other}
 use Rattle.layout.specs.Rows.{Row, attempt, negation, conjunction, disjunction, previous}
 use Rattle.contract.specs.Expressions.{Atom, any, tries, idle, succeeds, fails, Expression, atom, seq, or, star, holdsEmpty}
-use Rattle.contract.specs.Meaning.{only, bothParties, Literal, duty, ban, power, Clause, literal, deadline, both, then, repair, repeat, when, until, firstParty}
+use Rattle.contract.specs.Meaning.{only, bothParties, Literal, duty, ban, power, Clause, literal, deadline, both, then, repair, repeat, when, until, testedFirst}
 use Rattle.reader.specs.Table
 use Rattle.image.specs.Widths.{neverRow, periodRows, _⊹_, afterWindow, inside, afterExpression, afterClause}
 
@@ -116,7 +116,7 @@ blaming party1 s x y = outputs s x y
 blaming party2 s x y = outputs s y x
 
 abbrev pub literalOutputs : Literal → (b : ℕ) → Outputs
-literalOutputs (duty o) b = blaming (firstParty (duty o)) (b ⊹ 3) (b ⊹ 5) (b ⊹ 7)
+literalOutputs (duty o) b = blaming (testedFirst (duty o)) (b ⊹ 3) (b ⊹ 5) (b ⊹ 7)
 literalOutputs (ban p) b = blaming p (b ⊹ 5) (b ⊹ 3) neverRow
 literalOutputs (power p) b = blaming p (b ⊹ 6) neverRow (b ⊹ 4)
 

@@ -190,6 +190,7 @@ pub record RowVectors : Type 0 where
       (row 0 0 0 ∷ row 1 0 0 ∷ row 3 1 0
       ∷ row 2 1 2 ∷ row 2 2 2 ∷ row 4 1 3 ∷ row 4 5 4 ∷ row 3 3 0 ∷ row 4 1 7 ∷ row 3 4 0 ∷ row 4 1 9
       ∷ end 6 8 10 ∷ [])
+  -- party 2's duty, which tests party 2 first
   pub rows-of-duty-2 :
       imageFor (six 1 2 2)
       ≡ joined

@@ -13,7 +13,7 @@ use Rattle.periods.proofs.Recorded.{Recorded, masked, masked-tries, masked-reco
 use Rattle.contract.specs.Expressions.{Atom, any, idle, succeeds, fails, holds, Expression, Holds, one, join, left, right, none, more, member, begins}
 use Rattle.contract.specs.Expressions as Expressions
 use Rattle.contract.specs.Readings.{Dead, Reading, pending, accepted, rejected, judged, readingTo, reading}
-use Rattle.contract.specs.Meaning.{only, Literal, duty, ban, power, Clause, literal, deadline, both, then, repair, repeat, when, until, Decision, undecided, satisfied, violated, firstParty, literalMeaning, later, after, firstSuccess, thenMeaning, repairMeaning, repeatMeaning, whenMeaning, meaning}
+use Rattle.contract.specs.Meaning.{only, Literal, duty, ban, power, Clause, literal, deadline, both, then, repair, repeat, when, until, Decision, undecided, satisfied, violated, testedFirst, literalMeaning, later, after, firstSuccess, thenMeaning, repairMeaning, repeatMeaning, whenMeaning, meaning}
 use Rattle.contract.proofs.Expressions.{member-iff, begins-iff}
 use Rattle.reader.specs.Spelling.{atomRecord, literalRecord, deadlineRecord, Allowed, ExpressionInRange, InRange}
 use Rattle.reader.proofs.Fields.{allowed-action}
@@ -159,7 +159,7 @@ literal-action (power p) n r = allowed-action (literalRecord (power p) n) r
 module _ (n : ℕ) (h : n < actions) where
   literal-alike : (l : Literal) → MeansAlike (literalMeaning l n)
   literal-alike l [] [] end = refl
-  literal-alike l (x ∷ w) (y ∷ v) (next s a) = rw (s .same (firstParty l) n h, s .same (other (firstParty l)) n h)
+  literal-alike l (x ∷ w) (y ∷ v) (next s a) = rw (s .same (testedFirst l) n h, s .same (other (testedFirst l)) n h)
 
   success-alike : MeansAlike (firstSuccess n)
   unfolding firstSuccess Periods.succeeds

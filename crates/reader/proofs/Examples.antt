@@ -38,6 +38,7 @@ reader-vectors =
       party-3 = refl;
       party-4 = refl;
       duty-parties = refl;
+      party-3-of-second = refl;
       fields-of-joint = refl;
       action-16 = refl;
       unused-party = refl;

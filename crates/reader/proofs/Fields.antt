@@ -20,14 +20,14 @@ abbrev pub uses : Range → Bool
 uses r = ltb 0 (r .greatest)
 
 -- whether a range of parties has the number of both
-abbrev owners : Range → Bool
-owners r = leb (ownerNumbers .greatest) (r .greatest)
+abbrev ofOwners : Range → Bool
+ofOwners r = leb (ownerNumbers .greatest) (r .greatest)
 
 -- what a node keeps: of the field with a party the owner or the party
 abbrev pub used : Kind → Fields → Fields
 used k f =
     record {
-      party = cond (owners (line k .party)) (partiesNumber (ownerNamed (f .party))) (cond (uses (line k .party)) (partyNumber (partyNamed (f .party))) 0);
+      party = cond (ofOwners (line k .party)) (partiesNumber (ownerNamed (f .party))) (cond (uses (line k .party)) (partyNumber (partyNamed (f .party))) 0);
       action = cond (uses (line k .action)) (f .action) 0;
       last = cond (uses (line k .last)) (f .last) 0;
     }
@@ -85,11 +85,11 @@ owner-number n h =
 
 -- a range of owners, of parties, or of 0 alone
 abbrev ofParties : Range → Bool
-ofParties r = cond (owners r) (contains ownerNumbers r) (not (uses r) || contains partyNumbers r)
+ofParties r = cond (ofOwners r) (contains ownerNumbers r) (not (uses r) || contains partyNumbers r)
 
 used-party : (r : Range) → ofParties r ≡ true → (n : ℕ) → within r n ≡ true
-    → cond (owners r) (partiesNumber (ownerNamed n)) (cond (uses r) (partyNumber (partyNamed n)) 0) ≡ n
-used-party r g n h = go (owners r) (uses r) g (used-number r n h)
+    → cond (ofOwners r) (partiesNumber (ownerNamed n)) (cond (uses r) (partyNumber (partyNamed n)) 0) ≡ n
+used-party r g n h = go (ofOwners r) (uses r) g (used-number r n h)
   where
     go : (o u : Bool) → cond o (contains ownerNumbers r) (not u || contains partyNumbers r) ≡ true → cond u n 0 ≡ n
         → cond o (partiesNumber (ownerNamed n)) (cond u (partyNumber (partyNamed n)) 0) ≡ n

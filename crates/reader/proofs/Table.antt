@@ -15,7 +15,6 @@ use Rattle.records.proofs.Searches.{failing-below}
 use Rattle.reader.specs.declared.Entry.{Entry}
 use Rattle.reader.specs.declared.Lookup.the-variants.{Found, Unknown}
 use Rattle.reader.specs.Table.{Kind, kinds, firstNumbered, kindOf, line, duty, ban, power, both, then, repair, repeat, when, until, deadline, any, tries, idle, succeeds, fails, seq, or, star}
-use Rattle.reader.specs.Trees.{Fields, Record}
 use Rattle.reader.specs.Codes.{entryOf, packedLine, unpackedLine, lookupOf}
 
 pub kind-number : (k : Kind) → kindOf (line k .number) ≡ some k

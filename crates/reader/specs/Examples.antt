@@ -143,12 +143,15 @@ pub record ReaderVectors : Type 0 where
   pub party-3 : map (λ k. found (six k 3 0 ∷ [])) (1 ∷ 2 ∷ 3 ∷ 17 ∷ 18 ∷ []) ≡ (0, 0) ∷ replicate 4 (4, 0)
   pub party-4 : map (λ k. found (six k 4 0 ∷ [])) (1 ∷ 2 ∷ 3 ∷ 17 ∷ 18 ∷ []) ≡ replicate 5 (4, 0)
   pub duty-parties : map (λ p. found (six 1 p 0 ∷ [])) (1 ∷ 2 ∷ 3 ∷ 5 ∷ 7 ∷ 255 ∷ []) ≡ replicate 3 (0, 0) ++ replicate 3 (4, 0)
+  pub party-3-of-second :
+      map (λ r. found (six 1 3 0 ∷ r ∷ [])) (six 2 3 0 ∷ six 3 3 0 ∷ sixWith 10 3 0 1 ∷ six 17 3 0 ∷ six 18 3 0 ∷ []) ≡ replicate 5 (4, 1)
   pub fields-of-joint : map (λ r. found (r ∷ [])) (six 1 3 16 ∷ sixWith 1 3 0 1 ∷ sixWith 1 3 0 3 ∷ []) ≡ replicate 3 (4, 0)
   pub action-16 :
       map (λ r. found (r ∷ [])) (six 1 1 16 ∷ six 2 1 16 ∷ six 3 1 16 ∷ six 17 1 16 ∷ six 18 1 16 ∷ six 19 0 16 ∷ six 20 0 16 ∷ [])
       ≡ replicate 7 (4, 0)
   pub unused-party :
-      map (λ k. found (six k 1 0 ∷ [])) (4 ∷ 5 ∷ 6 ∷ 7 ∷ 8 ∷ 9 ∷ 16 ∷ 19 ∷ 20 ∷ 21 ∷ 22 ∷ 23 ∷ []) ≡ replicate 12 (4, 0)
+      map (λ p. map (λ k. found (six k p 0 ∷ [])) (4 ∷ 5 ∷ 6 ∷ 7 ∷ 8 ∷ 9 ∷ 16 ∷ 19 ∷ 20 ∷ 21 ∷ 22 ∷ 23 ∷ [])) (1 ∷ 3 ∷ [])
+      ≡ replicate 2 (replicate 12 (4, 0))
   pub unused-action : map (λ k. found (six k 0 1 ∷ [])) (4 ∷ 5 ∷ 6 ∷ 7 ∷ 8 ∷ 9 ∷ 16 ∷ 21 ∷ 22 ∷ 23 ∷ []) ≡ replicate 10 (4, 0)
   pub last-byte :
       map (λ z. map found (lastBytes z)) (1 ∷ 15 ∷ 255 ∷ [])
