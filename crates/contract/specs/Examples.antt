@@ -320,10 +320,11 @@ pub record JointExamples : Type 0 where
   pub joint-then :
       map (meaning (then (joint a) (joint b))) ((-/- ∷ b/b ∷ []) ∷ (a/a ∷ b/b ∷ []) ∷ (a/a ∷ -/- ∷ []) ∷ (a/a ∷ b/- ∷ []) ∷ [])
       ≡ violated 1 bothParties ∷ satisfied 2 ∷ violated 2 bothParties ∷ violated 2 (only party2) ∷ []
-  -- repair: the right's blame alone counts (blame 3, with the left's; blame 1, by the left's alone)
+  -- repair: the right's blame alone counts (blame 3, the left's)
   pub joint-repaired :
       map (meaning (repair (joint a) (duty party2 b))) ((a/a ∷ []) ∷ (-/- ∷ []) ∷ (-/- ∷ b/b ∷ []) ∷ (-/- ∷ -/- ∷ []) ∷ [])
       ≡ satisfied 1 ∷ undecided ∷ satisfied 2 ∷ violated 2 (only party2) ∷ []
+  -- also where it is the joint duty's (blame 1, the left's)
   pub joint-repairs :
       map (meaning (repair (duty party1 b) (joint a))) ((-/- ∷ a/a ∷ []) ∷ (-/- ∷ a/- ∷ []) ∷ (-/- ∷ -/- ∷ []) ∷ [])
       ≡ satisfied 2 ∷ violated 2 (only party2) ∷ violated 2 bothParties ∷ []

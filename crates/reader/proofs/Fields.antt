@@ -23,11 +23,15 @@ uses r = ltb 0 (r .greatest)
 abbrev ofOwners : Range → Bool
 ofOwners r = leb (ownerNumbers .greatest) (r .greatest)
 
--- what a node keeps: of the field with a party the owner or the party
+-- what a node keeps of the field with a party: the owner, the party, or nothing
+abbrev keptParty : Range → ℕ → ℕ
+keptParty r n = cond (ofOwners r) (partiesNumber (ownerNamed n)) (cond (uses r) (partyNumber (partyNamed n)) 0)
+
+-- what it keeps of all
 abbrev pub used : Kind → Fields → Fields
 used k f =
     record {
-      party = cond (ofOwners (line k .party)) (partiesNumber (ownerNamed (f .party))) (cond (uses (line k .party)) (partyNumber (partyNamed (f .party))) 0);
+      party = keptParty (line k .party) (f .party);
       action = cond (uses (line k .action)) (f .action) 0;
       last = cond (uses (line k .last)) (f .last) 0;
     }
@@ -87,8 +91,7 @@ owner-number n h =
 abbrev ofParties : Range → Bool
 ofParties r = cond (ofOwners r) (contains ownerNumbers r) (not (uses r) || contains partyNumbers r)
 
-used-party : (r : Range) → ofParties r ≡ true → (n : ℕ) → within r n ≡ true
-    → cond (ofOwners r) (partiesNumber (ownerNamed n)) (cond (uses r) (partyNumber (partyNamed n)) 0) ≡ n
+used-party : (r : Range) → ofParties r ≡ true → (n : ℕ) → within r n ≡ true → keptParty r n ≡ n
 used-party r g n h = go (ofOwners r) (uses r) g (used-number r n h)
   where
     go : (o u : Bool) → cond o (contains ownerNumbers r) (not u || contains partyNumbers r) ≡ true → cond u n 0 ≡ n
