@@ -5,16 +5,17 @@ use Rattle.records.specs.Marks.{marked}
 use Rattle.records.specs.Refusals.{firstFailing}
 use Rattle.periods.specs.Forms.{formOf}
 use Rattle.periods.specs.Periods.{tries, bit, periodFrom}
-use Rattle.periods.specs.Traces.{wholePeriods, markedAs, periodAt, marksTest, periodTest}
+use Rattle.periods.specs.Traces.{wholePeriods, markedAs, periodAt, periodsOf, marksTest, periodTest}
 use Rattle.layout.specs.Rows.{rowOf, encode, decode}
 use Rattle.layout.specs.Images.{imageBytes, rowsBytes, endBytes, rowCount, rowsOf, imageOf, goodImageLength, goodRowAt, goodEnd}
 use Rattle.layout.specs.Refusals.{imageTest}
 use Rattle.states.specs.States.{stateOf, stateBytes, sound, allAtMost, allZero}
 use Rattle.states.specs.Refusals.{stateTest, countTest}
-use Rattle.machine.specs.Machine.{afterPeriod, computed, counted, valuesAfter, newValues}
-use Rattle.runner.specs.Refusals.{beginTest, readyTest, stepTest}
+use Rattle.machine.specs.Machine.{afterPeriod, afterPeriods, computed, counted, valuesAfter, newValues}
+use Rattle.runner.specs.Reading.{stateAfterRecords, recordsRead}
+use Rattle.runner.specs.Refusals.{beginTest, readyTest, stepTest, unreadTest, decideTest}
 use Rattle.records.specs.Replies.{fieldsBytes, call}
-use Rattle.runner.specs.Calls.{begin, step}
+use Rattle.runner.specs.Calls.{begin, step, decide}
 use Rattle.contract.specs.Expressions.{holdsEmpty}
 use Rattle.reader.specs.Table.{firstNumbered, kindOf}
 use Rattle.reader.specs.Trees.{goodFields, node}
@@ -23,7 +24,7 @@ use Rattle.reader.specs.Reader.{operandsOf, readRecord, readRecords, read}
 use Rattle.image.specs.Widths.{afterExpression, afterClause}
 use Rattle.image.specs.Blocks.{endRow, liveRow, expressionRows, outputsOf, windowRows, clauseRows}
 use Rattle.image.specs.Images.{rowsFor, image, imageFor}
-use Rattle.image.specs.Examples.{linesFrom, lines, repliesFrom, replies, KindVectors, StudentVectors, DeadlineVectors, JointVectors, WatchVector, RowVectors, RoomVectors}
+use Rattle.image.specs.Examples.{linesFrom, lines, repliesFrom, replies, decidedReplies, KindVectors, StudentVectors, DeadlineVectors, JointVectors, WatchVector, DecisionVectors, RowVectors, RoomVectors}
 
 pub student-vectors : StudentVectors
 unfolding
@@ -70,11 +71,14 @@ joint-vectors =
 
 pub watch-vector : WatchVector
 unfolding
-    replies repliesFrom read Reader.goodContractLength Reader.contractRecords readRecords readRecord firstNumbered kindOf goodFields operandsOf node imageFor image
+    replies repliesFrom decidedReplies decide decideTest unreadTest recordsRead stateAfterRecords periodsOf afterPeriods read Reader.goodContractLength Reader.contractRecords readRecords readRecord firstNumbered kindOf goodFields operandsOf node imageFor image
     rowsFor clauseRows outputsOf afterClause imageBytes rowsBytes endBytes encode begin step call beginTest stepTest readyTest fieldsBytes
     imageTest goodImageLength rowCount firstFailing goodRowAt goodEnd decode rowOf imageOf rowsOf stateTest stateOf stateBytes sound allAtMost allZero
     periodTest marksTest formOf wholePeriods markedAs countTest afterPeriod valuesAfter newValues computed counted periodAt periodFrom tries bit marked bytes field value
-watch-vector = record { replied = refl }
+watch-vector = record { replied = refl; decided = refl }
+
+pub decision-vectors : DecisionVectors
+decision-vectors = record { outcomes = refl; records = refl }
 
 pub row-vectors : RowVectors
 unfolding

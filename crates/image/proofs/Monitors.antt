@@ -2,45 +2,48 @@
 use Prim.Native.Nat.{ℕ, _+_, _-_, _≤_, _<_}
 use native.Mathlib.Nat.{zero-add}
 use native.Mathlib.Omega.{arith}
-use mathlib.Core.Bool.{true, false}
+use mathlib.Core.Bool.{true, false, cond}
 use mathlib.Core.List.{List, [], _∷_, _++_}
 use mathlib.Core.Logic.{_⊎_, inl, inr, ⊎-elim}
 use mathlib.Core.Path.{_≡_, refl, sym, ap, _∙_}
-use borrow.Author.Tests.{le-leb, lt-leb, lt-ltb, le-ltb, ltb-true}
-use lib.Dec.{ltb}
-use lib.ListN.{length, replicate, length-append}
+use borrow.Author.Tests.{le-leb, lt-leb, lt-ltb, le-ltb, ltb-true, eqb-false}
+use lib.Dec.{ltb, eqb}
+use lib.ListN.{length, length-append}
 use Rattle.records.specs.declared.Fault.the-variants.{FullCount}
 use Rattle.records.specs.declared.Test.the-variants.{Passed}
 use Rattle.records.specs.Refusals.{require}
 use Rattle.records.proofs.Cases.{lt-or-le, true-or-false}
 use Rattle.records.proofs.Refusals.{first-passed, require-passed, passed-not}
 use Rattle.records.specs.Replies.{unwritten, written, headSize}
-use Rattle.records.proofs.Replies.{call-no-room, call-refused}
+use Rattle.records.proofs.Replies.{call-no-room, call-passed, call-refused}
 use Rattle.periods.specs.Periods.{Period}
-use Rattle.periods.specs.Traces.{periodAt, periodTest}
+use Rattle.periods.specs.Traces.{periodRecords, periodAt, periodsOf, periodTest}
+use Rattle.periods.proofs.Traces.{length-periodsOf, periods-split}
 use Rattle.layout.specs.Images.{rowCount, imageOf}
 use Rattle.states.specs.Limits.{headBytes, maxPeriods}
-use Rattle.states.specs.States.{State, stateOf, stateBytes}
+use Rattle.states.specs.States.{State, stateOf, stateBytes, freshBytes}
 use Rattle.states.specs.Refusals.{countTest}
 use Rattle.states.proofs.Fresh.{fresh-read}
 use Rattle.states.specs.Verdicts as Shown
 use Rattle.machine.specs.Machine.{afterPeriod, afterPeriods}
 use Rattle.machine.proofs.Machine.{after-snoc, periods-afterPeriods}
-use Rattle.runner.specs.Refusals.{readyTest, stepTest}
-use Rattle.runner.specs.Calls.{stepReplyBytes, stepAnswer, answer, begin, step}
+use Rattle.runner.specs.Reading.{stateAfterRecords, recordsRead}
+use Rattle.runner.specs.Refusals.{readyTest, stepTest, decideTest}
+use Rattle.runner.specs.Calls.{stepReplyBytes, stepAnswer, answer, decideReplyBytes, begin, step, decide}
 use Rattle.runner.specs.StepCalls as StepCalls
 use Rattle.runner.specs.StepCalls.{StepCall, stateAfterCall, stateAfter}
 use Rattle.runner.proofs.Refusals.{begin-passes}
+use Rattle.runner.proofs.Reading.{openAfter, few-read, read-is}
 use Rattle.runner.proofs.StepCalls.{accepted-passed, accepted-step, refused-step, taken-read, stays-sound, begin-written, begin-sound}
-use Rattle.contract.specs.Meaning.{Clause, Decision, undecided, satisfied, violated, meaning}
+use Rattle.contract.specs.Meaning.{Clause, Decision, undecided, satisfied, violated, meaning, EmptyFree}
 use Rattle.contract.specs.Verdicts.{verdict}
-use Rattle.contract.proofs.Verdicts.{decides-once}
+use Rattle.contract.proofs.Verdicts.{decides-once, stands}
 use Rattle.reader.specs.Spelling.{Spells}
 use Rattle.reader.specs.Reader.{taken, read}
 use Rattle.reader.proofs.Reader.{taken-spells}
 use Rattle.image.specs.Images.{imageFor}
-use Rattle.image.specs.Rightness.{Shows, RightFor}
-use Rattle.image.specs.Monitors.{callTest, accepts, periodsAfter, meantAnswer, AnswersCall, AnswersCalls, Monitors}
+use Rattle.image.specs.Rightness.{recordsFor, Shows, RightFor}
+use Rattle.image.specs.Monitors.{callTest, accepts, periodsAfter, meantAnswer, AnswersCall, AnswersCalls, meantDecision, AnswersTrace, Monitors}
 use Rattle.image.proofs.Images.{right-for}
 
 -- ---- a state that shows a decision answers with it
@@ -54,14 +57,20 @@ answer-meant : (c : Clause) (w : List Period) (s : State) → Shows (meaning c w
 unfolding meantAnswer
 answer-meant c w s h e = rw (verdict-shown (meaning c w) s h, h .blame-is, h .decision-is, e)
 
+-- and tells how many records it takes
+records-shown : (d : Decision) (s : State) (n : ℕ) → Shows d s → recordsFor d n ≡ cond (eqb (s .outcome) 0) n (s .decision)
+records-shown undecided s n h = rw (h .outcome-is)
+records-shown (satisfied k) s n h = rw (h .outcome-is, h .decision-is)
+records-shown (violated k b) s n h = rw (h .outcome-is, h .decision-is)
+
 -- ---- the tests of a step on a state of n periods
 
-count-test : (s : State) (n : ℕ) → s .periods ≡ n → n ≤ maxPeriods → countTest s 1 ≡ require (ltb n maxPeriods) FullCount 0
+count-test : (n : ℕ) → n ≤ maxPeriods → countTest n 1 ≡ require (ltb n maxPeriods) FullCount 0
 unfolding countTest
-count-test s n e h =
+count-test n h =
     ⊎-elim
-    (λ (l : n < maxPeriods). rw (e, lt-ltb n maxPeriods l, le-leb (n + 1) maxPeriods (omega arith)))
-    (λ (l : maxPeriods ≤ n). let i : maxPeriods - n ≡ 0 = omega arith in rw (e, le-ltb n maxPeriods l, lt-leb (n + 1) maxPeriods (omega arith), i))
+    (λ (l : n < maxPeriods). rw (lt-ltb n maxPeriods l, le-leb (n + 1) maxPeriods (omega arith)))
+    (λ (l : maxPeriods ≤ n). let i : maxPeriods - n ≡ 0 = omega arith in rw (le-ltb n maxPeriods l, lt-leb (n + 1) maxPeriods (omega arith), i))
     (lt-or-le n maxPeriods)
 
 -- ---- step calls on the states that the machine reaches
@@ -69,7 +78,7 @@ count-test s n e h =
 module _ (c : Clause) (image : List ℕ) (right : RightFor c image) where
   -- the machine's states: the first, and the one after the periods w
   abbrev fresh : State
-  fresh = stateOf (replicate (headBytes + rowCount image) 0)
+  fresh = stateOf (freshBytes (rowCount image))
 
   abbrev reached : List Period → State
   reached w = afterPeriods (imageOf image) fresh w
@@ -90,7 +99,7 @@ module _ (c : Clause) (image : List ℕ) (right : RightFor c image) where
 
     test-at : stepTest image state (k .period) ≡ callTest (length w) (k .period)
     unfolding stepTest callTest
-    test-at = rw (h .ready, count-test (stateOf state) (length w) counted (h .few))
+    test-at = rw (h .ready, counted, count-test (length w) (h .few))
 
     -- the runner accepts a call where document 01 does
     accepts-at : StepCalls.accepted image state k ≡ accepts (length w) k
@@ -161,6 +170,45 @@ module _ (c : Clause) (image : List ℕ) (right : RightFor c image) where
       let b = begin-written image state reply r (begin-passes image state (right .good) l) in
       record { ready = begin-sound image state reply r (begin-passes image state (right .good) l); is = rw (b, l); few = omega arith }
 
+  -- ---- decide
+
+  -- the states that it reads through are the machine's
+  module _ (trace : List ℕ) where
+    abbrev last : ℕ
+    last = recordsRead image trace
+
+    abbrev all : List Period
+    all = periodsOf trace (periodRecords trace)
+
+    shows-read : (k : ℕ) → Shows (meaning c (periodsOf trace k)) (stateAfterRecords image trace k)
+    unfolding stateAfterRecords
+    shows-read k = right .shows (periodsOf trace k)
+
+    -- undecided, all is read; and a decision stands
+    read-alone : EmptyFree c → meaning c (periodsOf trace last) ≡ meaning c all
+    read-alone g =
+        let v = periods-split trace last (periodRecords trace) (few-read image trace) in
+        ⊎-elim
+        (λ o. let e : last ≡ periodRecords trace = read-is image trace ∙ rw o in rw e)
+        (λ f. let decided : ¬ (meaning c (periodsOf trace last) ≡ undecided) =
+        λ e. eqb-false (stateAfterRecords image trace last .outcome) 0 f (rw e at (shows-read last .outcome-is)) in
+        rw (v .1) (sym (stands c g (periodsOf trace last) (v .0) decided)))
+        (true-or-false (openAfter image trace last))
+
+    records-meant : EmptyFree c → recordsFor (meaning c all) (length all) ≡ last
+    records-meant g =
+        rw (length-periodsOf trace (periodRecords trace))
+        (records-shown (meaning c all) (stateAfterRecords image trace last) (periodRecords trace) (rw (read-alone g) at (shows-read last)) ∙ sym (read-is image trace))
+
+    answers-trace : EmptyFree c → (reply : List ℕ) → decideTest image trace ≡ Passed → decideReplyBytes ≤ length reply → AnswersTrace c image trace reply
+    unfolding decide meantDecision
+    answers-trace g reply t r =
+        let h = rw (read-alone g) at (shows-read last) in
+        record {
+          answer = call-passed (decideTest image trace) _ (tt {0}) (tt {0}) reply r t ∙ rw (records-meant g, h .outcome-is, h .blame-is, h .decision-is);
+          read-alone = read-alone g;
+        }
+
   pub right-monitors : (contract : List ℕ) → Spells contract c → Monitors contract image
   right-monitors contract s =
       record {
@@ -169,6 +217,7 @@ module _ (c : Clause) (image : List ℕ) (right : RightFor c image) where
         decides = decides-once c (s .empty-free);
         answers = λ state reply l r.
             (begin-written image state reply r (begin-passes image state (right .good) l), λ ks. answers-calls ks [] (begin image state reply .buffers) (begun-at state reply l r));
+        answers-trace = λ trace reply. answers-trace trace (s .empty-free) reply;
       }
 
 -- ---- the theorem

@@ -1,25 +1,28 @@
 -- Vectors of the image: every kind, every error of document 01's "What students hand in", and the example of "Watch" through the bytes; the rows
--- of deadlines and of joint duties (document 02, "Duties with a deadline" and "Duties that both parties own"), and the room for rows.
+-- of deadlines and of joint duties (document 02, "Duties with a deadline" and "Duties that both parties own"), and the room for rows; that example
+-- read to its decision (document 02, "Stop reading once it is decided").
 use Prim.Native.Nat.{ℕ, _+_}
 use mathlib.Core.List.{List, [], _∷_, _++_, map}
 use mathlib.Core.Path.{_≡_}
-use lib.ListN.{length, replicate}
+use lib.ListN.{length, take, replicate}
 use Rattle.records.specs.Examples.{area}
 use Rattle.records.specs.Verdicts.{Verdict, «open», met, broken, broken-after}
 use Rattle.periods.specs.Periods.{party1, party2, Period}
+use Rattle.periods.specs.Examples.{otherRecord}
 use Rattle.layout.specs.Images.{Image, rowCount}
 use Rattle.layout.specs.Examples.{row, end}
 use Rattle.states.specs.States.{State, stateOf}
 use Rattle.states.specs.Verdicts.{verdict}
 use Rattle.machine.specs.Machine.{afterPeriod}
-use Rattle.runner.specs.Calls.{begin, step}
-use Rattle.runner.specs.Examples.{reply}
+use Rattle.runner.specs.Calls.{begin, step, decide}
+use Rattle.runner.specs.Examples.{reply, decideReply}
 use Rattle.contract.specs.Expressions.{any, tries, idle, succeeds, fails, atom, seq, or, star}
-use Rattle.contract.specs.Meaning.{Clause, deadline, both, then, repair, repeat, when, until}
+use Rattle.contract.specs.Meaning.{only, Clause, Decision, undecided, satisfied, violated, deadline, both, then, repair, repeat, when, until}
 use Rattle.contract.specs.Examples.{a, b, duty, joint, ban, power, a/a, a/-, -/a, -/-, b/a, b/b, b/-}
 use Rattle.reader.specs.Examples.{six, sixWith, joined}
 use Rattle.image.specs.Limits.{allowedFor, bufferFor}
 use Rattle.image.specs.Images.{image, imageFor}
+use Rattle.image.specs.Rightness.{outcome, recordsFor}
 
 -- verdict, blame and decision period
 abbrev pub Line : Type 0
@@ -156,11 +159,24 @@ replies contract rs =
     let image = imageFor contract in
     repliesFrom image (begin image (area (10 + rowCount image)) (area 16) .buffers) rs
 
--- number, verdict, place, blame, decision period
+-- decide's replies on the first records, 2 of them, 3 and all, and on all with a wrong mark in the last one
+unfoldable pub decidedReplies : (contract : List ℕ) → (records : List (List ℕ)) → List (List ℕ)
+decidedReplies contract rs =
+    map (λ (trace : List ℕ). decide (imageFor contract) trace (area 32) .reply)
+    (joined (take 2 rs) ∷ joined (take 3 rs) ∷ joined rs ∷ (joined (take 3 rs) ++ otherRecord) ∷ [])
+
 pub record WatchVector : Type 0 where
+  -- number, verdict, place, blame, decision period
   pub replied :
       replies watchedBytes watchedRecords
       ≡ reply 0 0 0 0 0 ∷ reply 0 0 0 0 0 ∷ reply 0 2 0 2 3 ∷ reply 0 4 0 2 3 ∷ []
+  -- number, outcome, place, blame, decision period, records read
+  pub decided : decidedReplies watchedBytes watchedRecords ≡ decideReply 0 0 0 0 0 2 ∷ replicate 3 (decideReply 0 2 0 2 3 3)
+
+-- "outcome (0 undecided, 1 satisfied, 2 violated)"; "the decision period, or the trace's record count when undecided", of 5 records
+pub record DecisionVectors : Type 0 where
+  pub outcomes : map outcome (undecided ∷ satisfied 3 ∷ violated 4 (only party1) ∷ []) ≡ 0 ∷ 1 ∷ 2 ∷ []
+  pub records : map (λ (d : Decision). recordsFor d 5) (undecided ∷ satisfied 3 ∷ violated 4 (only party1) ∷ []) ≡ 5 ∷ 3 ∷ 4 ∷ []
 
 -- ---- the rows of deadlines and of joint duties, and the room for rows
 

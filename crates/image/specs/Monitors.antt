@@ -1,6 +1,6 @@
 -- What it means for an image to monitor a contract: demand 3, one claim about every list of step calls. Document 01, "Calls", from "The list
--- in demand 3". The calls are `begin` and `step` as the runner's own contracts have them. What document 01 says there of compile is for compile's
--- own contract.
+-- in demand 3"; and that decide tells what the contract means on a trace. Document 02, "Stop reading once it is decided". The calls are `begin`, `step`
+-- and `decide` as the runner's own contracts have them. What document 01 says there of compile is for compile's own contract.
 use Prim.Native.Nat.{ℕ, _+_, _≤_, _<_}
 use mathlib.Core.Bool.{Bool, true, false, cond}
 use mathlib.Core.List.{List, [], _∷_, _++_}
@@ -15,15 +15,18 @@ use Rattle.records.specs.declared.Test.the-variants.{Passed}
 use Rattle.records.specs.Refusals.{firstOf, require}
 use Rattle.records.specs.Replies.{Answer, alone, replyOf, unwritten, written, headSize}
 use Rattle.periods.specs.Periods.{Period}
-use Rattle.periods.specs.Traces.{periodAt, periodTest}
+use Rattle.periods.specs.Traces.{periodRecords, periodAt, periodsOf, periodTest}
 use Rattle.layout.specs.Images.{rowCount}
 use Rattle.states.specs.Limits.{headBytes, maxPeriods}
 use Rattle.states.specs.States.{stateOf}
-use Rattle.runner.specs.Calls.{stepAnswer, stepReplyBytes, begin, step}
+use Rattle.runner.specs.Reading.{recordsRead}
+use Rattle.runner.specs.Refusals.{decideTest}
+use Rattle.runner.specs.Calls.{stepAnswer, stepReplyBytes, decideAnswer, decideReplyBytes, begin, step, decide}
 use Rattle.runner.specs.StepCalls.{StepCall, acceptedBy, stateAfterCall}
 use Rattle.contract.specs.Meaning.{Clause, meaning}
 use Rattle.contract.specs.Verdicts.{decisionPeriod, blame, verdict, DecidesOnce}
 use Rattle.reader.specs.Spelling.{Spells}
+use Rattle.image.specs.Rightness.{outcome, recordsFor}
 
 -- "refused exactly when its own record meets 11 or, that record being good, 4,294,967,295 steps before it were accepted (12)", n being the
 -- number of those accepted before it
@@ -65,9 +68,20 @@ AnswersCalls clause image state w (c ∷ cs) =
     × AnswersCall clause image state w c
     × AnswersCalls clause image (stateAfterCall image state c) (periodsAfter w c) cs
 
+-- number 0, place 0 and the decision of the clause's meaning on these periods, with the records that it takes
+unfoldable pub meantDecision : Clause → List Period → Answer
+meantDecision clause w =
+    let d = meaning clause w in
+    decideAnswer (outcome d) (blame d) (decisionPeriod d) (recordsFor d (length w))
+
+-- An accepted decide replies what the clause means on the trace's periods; and it means the same on those of the records read alone.
+pub record AnswersTrace (clause : Clause) (image trace reply : List ℕ) : Type 0 where
+  pub answer : decide image trace reply ≡ written tt reply Passed (meantDecision clause (periodsOf trace (periodRecords trace)))
+  pub read-alone : meaning clause (periodsOf trace (recordsRead image trace)) ≡ meaning clause (periodsOf trace (periodRecords trace))
+
 -- The image monitors the contract: the contract's records spell a clause, which decides every list of periods at one period or at none; begin,
--- given room for its reply, accepts the image with a state of 10 + rows bytes, whatever these held; and from the state that it leaves every list of
--- step calls is answered by what that clause means.
+-- given room for its reply, accepts the image with a state of 10 + rows bytes, whatever these held; from the state that it leaves every list of
+-- step calls is answered by what that clause means; and so is every trace that decide accepts with room for its reply.
 pub record Monitors (contract image : List ℕ) : Type 0 where
   pub clause : Clause
   pub spells : Spells contract clause
@@ -75,3 +89,4 @@ pub record Monitors (contract image : List ℕ) : Type 0 where
   pub answers : (state reply : List ℕ) → length state ≡ headBytes + rowCount image → headSize ≤ length reply
       → (begin image state reply ≡ written (replicate (length state) 0) reply Passed (alone 0))
       × ((calls : List StepCall) → AnswersCalls clause image (begin image state reply .buffers) [] calls)
+  pub answers-trace : (trace reply : List ℕ) → decideTest image trace ≡ Passed → decideReplyBytes ≤ length reply → AnswersTrace clause image trace reply

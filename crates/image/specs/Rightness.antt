@@ -2,13 +2,11 @@
 use Prim.Native.Nat.{ℕ, _+_, _≤_}
 use mathlib.Core.List.{List}
 use mathlib.Core.Path.{_≡_}
-use lib.ListN.{replicate}
 use Rattle.records.specs.declared.Test.the-variants.{Passed}
 use Rattle.periods.specs.Periods.{Period}
 use Rattle.layout.specs.Images.{rowCount, imageOf}
 use Rattle.layout.specs.Refusals.{imageTest}
-use Rattle.states.specs.Limits.{headBytes}
-use Rattle.states.specs.States.{State, stateOf}
+use Rattle.states.specs.States.{State, stateOf, freshBytes}
 use Rattle.machine.specs.Machine.{afterPeriods}
 use Rattle.contract.specs.Meaning.{Clause, Decision, undecided, satisfied, violated, meaning}
 use Rattle.contract.specs.Verdicts.{decisionPeriod, blame}
@@ -22,6 +20,12 @@ outcome undecided = 0
 outcome (satisfied k) = 1
 outcome (violated k b) = 2
 
+-- "the decision period, or the trace's record count when undecided"
+abbrev pub recordsFor : Decision → (count : ℕ) → ℕ
+recordsFor undecided n = n
+recordsFor (satisfied k) n = k
+recordsFor (violated k b) n = k
+
 pub record Shows (d : Decision) (s : State) : Type 0 where
   pub outcome-is : s .outcome ≡ outcome d
   pub blame-is : s .blame ≡ blame d
@@ -32,7 +36,7 @@ pub record Shows (d : Decision) (s : State) : Type 0 where
 pub record RightFor (clause : Clause) (image : List ℕ) : Type 0 where
   pub good : imageTest image ≡ Passed
   pub shows : (w : List Period)
-      → Shows (meaning clause w) (afterPeriods (imageOf image) (stateOf (replicate (headBytes + rowCount image) 0)) w)
+      → Shows (meaning clause w) (afterPeriods (imageOf image) (stateOf (freshBytes (rowCount image))) w)
 
 -- how many rows it has, for a contract that means this clause: as many as the sizes of the contract's records and the fixed rows add up to, no
 -- more than the widest records would have with windows as long, and so within what refusal 8 makes room for

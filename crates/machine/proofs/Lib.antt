@@ -5,4 +5,5 @@ pub mod Computing
 pub mod Deciding
 pub mod Trimming
 pub mod Steps
+pub mod Taking
 pub mod Examples

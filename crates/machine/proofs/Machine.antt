@@ -16,6 +16,7 @@ use Rattle.states.specs.States.{State, allAtMost}
 use Rattle.states.specs.Premises.{SoundHead, undecided, satisfied, violated}
 use Rattle.states.proofs.Values.{at-allAtMost}
 use Rattle.states.proofs.Soundness.{Sound, values≤}
+use Rattle.machine.proofs.Deciding.{decision-some}
 use Rattle.machine.specs.Machine.{byteOf, isTrue, newValues, valuesAfter, outcomeOf, blameOf, computed, counted, afterPeriod, afterPeriods}
 
 -- ---- row values
@@ -43,6 +44,14 @@ module _ (m : Image) (p : Period) (s : State) where
   pub after-decided : ¬ (s .outcome ≡ 0) → afterPeriod m p s ≡ counted s
   unfolding afterPeriod
   after-decided e = rw (ne-eqb (s .outcome) 0 e)
+
+  -- the period that decides is the decision period
+  pub decides-now : s .outcome ≡ 0 → ¬ (afterPeriod m p s .outcome ≡ 0) → afterPeriod m p s .decision ≡ s .periods + 1
+  unfolding computed
+  decides-now e d =
+      let new = valuesAfter m p s in
+      let c = after-undecided e in
+      rw c (decision-some (getD new (m .S) false) (getD new (m .V1) false) (getD new (m .V2) false) (s .periods + 1) (rw c at d))
 
   -- every period is counted
   pub periods-after : afterPeriod m p s .periods ≡ s .periods + 1

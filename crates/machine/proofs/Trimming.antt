@@ -107,7 +107,7 @@ module _ (l : List ℕ) (h : headBytes ≤ length l) where
   head-long : length (take headBytes l) ≡ headBytes
   head-long = length-take-le headBytes l h
 
-  trimmed-at : (i : ℕ) → i < headBytes → getD (trimmed l) i 0 ≡ getD l i 0
+  pub trimmed-at : (i : ℕ) → i < headBytes → getD (trimmed l) i 0 ≡ getD l i 0
   unfolding trimmed
   trimmed-at i k = List·getD-append (take headBytes l) rest 0 i (rw head-long k) ∙ getD-take headBytes l i 0 k
 

@@ -67,9 +67,13 @@ computed m new s =
 unfoldable pub counted : State → State
 counted s = record { outcome = s .outcome; blame = s .blame; periods = s .periods + 1; decision = s .decision; values = s .values }
 
+-- a state without a decision
+abbrev pub undecided : State → Bool
+undecided s = eqb (s .outcome) 0
+
 -- the state after one period
 unfoldable pub afterPeriod : Image → Period → State → State
-afterPeriod m p s = cond (eqb (s .outcome) 0) (computed m (valuesAfter m p s) s) (counted s)
+afterPeriod m p s = cond (undecided s) (computed m (valuesAfter m p s) s) (counted s)
 
 -- the state after a list of periods
 unfoldable pub afterPeriods : Image → State → List Period → State

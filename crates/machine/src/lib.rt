@@ -11,7 +11,7 @@ ghost use Rattle.layout.specs.Images.{imageOf};
 ghost use Rattle.states.specs.Limits.{headBytes};
 ghost use Rattle.states.specs.States.{stateOf, stateBytes, allAtMost};
 ghost use Rattle.machine.specs.Machine.{byteOf, value, outcomeOf, blameOf, afterPeriods};
-ghost use Rattle.machine.specs.Premises.{Ready};
+ghost use Rattle.machine.specs.Premises.{Ready, TakesWhile};
 ghost use Rattle.machine.specs.Computing.{firstBits, valuesIn, trimmed, packed, oldIn, newBits, KindRow, NextRow, RowValues, HasRows, withDecision, decidedBytes, Working, Advanced};
 use periods::Attempts;
 
@@ -159,4 +159,19 @@ pub fn take_periods(image: &[u8], state: &mut [u8], trace: &[u8], n: usize)
         k += 1;
     }
     trim(state);
+}
+
+// The periods of a trace's records, one after the other, as long as the state is undecided and the next of the first n records has
+// its mark. Gives how many were taken.
+pub fn take_while_undecided(image: &[u8], state: &mut [u8], trace: &[u8], n: usize) -> usize
+    requires { ⌜ Ready (now image) (now state) n × (n ≤ periodRecords (now trace)) ⌝ }
+    ensures { λ r. ⌜ TakesWhile (now (image .entry)) (now (state .entry)) (now (trace .entry)) n (now (state .exit)) r ⌝ }
+{
+    let mut k = 0;
+    while k < n && state[0] == 0 && periods::is_marked(trace, k) {
+        advance(image, state, periods::read_period(trace, k));
+        k += 1;
+    }
+    trim(state);
+    k
 }

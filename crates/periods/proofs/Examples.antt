@@ -5,12 +5,12 @@ use Rattle.records.specs.Marks.{marked}
 use Rattle.records.specs.Refusals.{firstFailing}
 use Rattle.periods.specs.Forms.{formOf}
 use Rattle.periods.specs.Periods.{bit, tries, succeeds, periodFrom}
-use Rattle.periods.specs.Traces.{wholePeriods, markedAs, periodRecordAt, periodAt, periodsOf, marksTest, periodTest, traceTest}
+use Rattle.periods.specs.Traces.{wholePeriods, markedAs, periodRecordAt, firstRecords, periodAt, periodsOf, marksTest, periodTest, traceTest}
 use Rattle.periods.specs.Examples.{PeriodVectors}
 
 pub period-vectors : PeriodVectors
 unfolding
-    field value marked firstFailing formOf bit tries succeeds periodFrom wholePeriods markedAs periodRecordAt periodAt periodsOf marksTest
+    field value marked firstFailing formOf bit tries succeeds periodFrom wholePeriods markedAs periodRecordAt firstRecords periodAt periodsOf marksTest
     periodTest traceTest
 period-vectors =
     record {
@@ -20,6 +20,7 @@ period-vectors =
       other-parties = refl;
       masks = refl;
       records-of-6 = refl;
+      first-records = refl;
       second-record = refl;
       tried-bits = refl;
       tried-by-1 = refl;
@@ -29,4 +30,6 @@ period-vectors =
       taken-in-run = refl;
       marks-in-run = refl;
       length-in-run = refl;
+      lengths = refl;
+      first-marks = refl;
     }

@@ -1,5 +1,5 @@
 -- What holds of a period record in each form.
-use Prim.Native.Nat.{ℕ, _+_, _*_, _≤_, _<_}
+use Prim.Native.Nat.{ℕ, _+_, _*_, _%_, _≤_, _<_}
 use native.Mathlib.Nat.{add-assoc}
 use native.Mathlib.Omega.{arith}
 use mathlib.Core.List.{List}
@@ -27,6 +27,23 @@ short-period Short l at = rw (add-assoc at 2 2)
 pub period-inside : (f : Form) (l : List ℕ) (k : ℕ) → k < wholePeriods f l → periodBytes f * k + periodBytes f ≤ length l
 unfolding wholePeriods
 period-inside Short l k h = omega arith
+
+-- so do the first k of the whole records, and each of these before the next
+pub records-inside : (f : Form) (l : List ℕ) (k : ℕ) → k ≤ wholePeriods f l → periodBytes f * k ≤ length l
+unfolding wholePeriods
+records-inside Short l k h = omega arith
+
+pub next-inside : (f : Form) (i k : ℕ) → i < k → periodBytes f * i + periodBytes f ≤ periodBytes f * k
+next-inside Short i k h = omega arith
+
+-- as many bytes as k records have are k records, and as many or more have them whole
+pub k-whole : (f : Form) (l : List ℕ) (k : ℕ) → length l ≡ periodBytes f * k → (wholePeriods f l ≡ k) × (length l % periodBytes f ≡ 0)
+unfolding wholePeriods
+k-whole Short l k h = (omega arith, omega arith)
+
+pub has-whole : (f : Form) (l : List ℕ) (k : ℕ) → periodBytes f * k ≤ length l → k ≤ wholePeriods f l
+unfolding wholePeriods
+has-whole Short l k h = omega arith
 
 -- as many bytes as one record has are one record, and the first of them
 pub one-whole : (f : Form) (l : List ℕ) → length l ≡ periodBytes f → wholePeriods f l ≡ 1

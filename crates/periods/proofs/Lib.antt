@@ -3,4 +3,5 @@ pub mod Forms
 pub mod Periods
 pub mod Recorded
 pub mod Traces
+pub mod First
 pub mod Examples

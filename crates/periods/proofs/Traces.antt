@@ -4,9 +4,10 @@ use native.Mathlib.Nat.{add-zero, add-assoc, mul-zero}
 use native.Mathlib.Numerals.{add-one}
 use native.Mathlib.Omega.{arith}
 use mathlib.Core.Bool.{Bool, true, false, Bool·beq}
-use mathlib.Core.List.{List, [], _∷_}
+use mathlib.Core.List.{List, [], _∷_, _++_, append-assoc, append-nil}
+use mathlib.Core.Logic.{⊎-elim}
 use mathlib.Core.Path.{_≡_, refl, ap, _∙_}
-use borrow.Author.Tests.{eqb-true, eq-eqb}
+use borrow.Author.Tests.{eqb-true, eq-eqb, ne-eqb}
 use lib.Dec.{eqb}
 use lib.ListN.{length, getD, drop, length-append, length-drop}
 use lib.Seq.{getD-drop, length-take-le, getD-take, drop-drop, take-take}
@@ -16,13 +17,14 @@ use Rattle.records.specs.declared.Fault.{Fault}
 use Rattle.records.specs.declared.Fault.the-variants.{BadPeriod}
 use Rattle.records.specs.declared.Test.the-variants.{Passed, Refused}
 use Rattle.records.specs.Refusals.{require, firstFailing}
+use Rattle.records.proofs.Cases.{lt-or-le}
 use Rattle.records.proofs.Written.{drop-take}
-use Rattle.records.proofs.Searches.{all-passed}
+use Rattle.records.proofs.Searches.{all-pass, all-passed, failing-is}
 use Rattle.records.proofs.Refusals.{first-passed, require-passed, onlyFor, only-require, only-first}
 use Rattle.periods.specs.declared.Form.{Form}
 use Rattle.periods.specs.Forms.{maskBytes, periodBytes, formOf}
-use Rattle.periods.specs.Periods.{periodFrom}
-use Rattle.periods.specs.Traces.{markedAs, periodRecords, periodRecordAt, periodAt, periodsOf, markedAt, marksTest, periodTest, traceTest}
+use Rattle.periods.specs.Periods.{Period, periodFrom}
+use Rattle.periods.specs.Traces.{markedAs, periodRecords, periodRecordAt, periodAt, periodsOf, markedAt, marksTest, periodTest, traceLengthTest, traceTest}
 use Rattle.periods.specs.Computing.{marksAre}
 use Rattle.periods.proofs.Forms.{period-inside, one-whole}
 
@@ -30,6 +32,17 @@ pub length-periodsOf : (trace : List ℕ) (n : ℕ) → length (periodsOf trace 
 unfolding periodsOf
 length-periodsOf trace zero = refl
 length-periodsOf trace (suc n) = rw (length-append, length-periodsOf trace n) (add-one n)
+
+-- the periods of the first k records, and those that follow
+pub periods-split : (trace : List ℕ) (k n : ℕ) → k ≤ n → (v : List Period) × (periodsOf trace n ≡ periodsOf trace k ++ v)
+unfolding periodsOf
+periods-split trace k zero h = let e : k ≡ 0 = omega arith in ([], rw (e, append-nil))
+periods-split trace k (suc n) h =
+    ⊎-elim
+    (λ (l : k < suc n). let b = periods-split trace k n (omega arith) in
+    (b .0 ++ (periodAt trace n ∷ []), rw (b .1, append-assoc)))
+    (λ (l : suc n ≤ k). let e : k ≡ suc n = omega arith in ([], rw (e, append-nil)))
+    (lt-or-le k (suc n))
 
 -- record k's mark compared with what is asked for
 pub marks-are : (m : Bool) (f : Form) (l : List ℕ) (k : ℕ) (t : Bool) → t ≡ markedAs f l k → Bool·beq t m ≡ marksAre m f l k
@@ -44,32 +57,52 @@ marks-are false f l k false e = rw (← e)
 abbrev pub periodFaults : List Fault
 periodFaults = BadPeriod ∷ []
 
-marks-only : (trace : List ℕ) → onlyFor periodFaults (marksTest trace) ≡ true
+pub marks-only : (trace : List ℕ) (n : ℕ) → onlyFor periodFaults (marksTest trace n) ≡ true
 unfolding marksTest
-marks-only trace = only-require periodFaults BadPeriod refl (eqb (firstFailing (markedAt trace) 0 (periodRecords trace)) (periodRecords trace)) _
+marks-only trace n = only-require periodFaults BadPeriod refl (eqb (firstFailing (markedAt trace) 0 n) n) _
 
 pub period-only : (period : List ℕ) → onlyFor periodFaults (periodTest period) ≡ true
 unfolding periodTest
-period-only period = only-first periodFaults (require (eqb (length period) (periodBytes (formOf period))) BadPeriod 0) (marksTest period) (only-require periodFaults BadPeriod refl (eqb (length period) (periodBytes (formOf period))) 0) (marks-only period)
+period-only period = only-first periodFaults (require (eqb (length period) (periodBytes (formOf period))) BadPeriod 0) (marksTest period (periodRecords period)) (only-require periodFaults BadPeriod refl (eqb (length period) (periodBytes (formOf period))) 0) (marks-only period (periodRecords period))
+
+pub trace-length-only : (trace : List ℕ) → onlyFor periodFaults (traceLengthTest trace) ≡ true
+trace-length-only trace = only-require periodFaults BadPeriod refl (eqb (length trace % periodBytes (formOf trace)) 0) 0
 
 pub trace-only : (trace : List ℕ) → onlyFor periodFaults (traceTest trace) ≡ true
 unfolding traceTest
-trace-only trace = only-first periodFaults (require (eqb (length trace % periodBytes (formOf trace)) 0) BadPeriod 0) (marksTest trace) (only-require periodFaults BadPeriod refl (eqb (length trace % periodBytes (formOf trace)) 0) 0) (marks-only trace)
+trace-only trace =
+    let n = periodRecords trace in
+    only-first periodFaults (traceLengthTest trace) (marksTest trace n) (trace-length-only trace) (marks-only trace n)
+
+-- the marks of the first n records are good exactly where the test is passed
+pub marks-passed : (trace : List ℕ) (n : ℕ) → marksTest trace n ≡ Passed → (i : ℕ) → i < n → markedAt trace i ≡ true
+unfolding marksTest
+marks-passed trace n e =
+    let bad = firstFailing (markedAt trace) 0 n in
+    all-passed (markedAt trace) n (eqb-true bad n (require-passed (eqb bad n) BadPeriod bad e))
+
+pub marks-pass : (trace : List ℕ) (n : ℕ) → ((i : ℕ) → i < n → markedAt trace i ≡ true) → marksTest trace n ≡ Passed
+unfolding marksTest
+marks-pass trace n m = rw (all-pass (markedAt trace) n m, eq-eqb n n refl)
+
+-- and the first bad one is the place
+pub marks-refused : (trace : List ℕ) (n k : ℕ) → k < n → ((i : ℕ) → i < k → markedAt trace i ≡ true) → markedAt trace k ≡ false
+    → marksTest trace n ≡ Refused BadPeriod k
+unfolding marksTest
+marks-refused trace n k i m bad = rw (failing-is (markedAt trace) n k i m bad, ne-eqb k n (λ q. omega arith))
 
 pub trace-marks : (trace : List ℕ) → traceTest trace ≡ Passed → (i : ℕ) → i < periodRecords trace → markedAt trace i ≡ true
-unfolding traceTest marksTest
+unfolding traceTest
 trace-marks trace e =
     let n = periodRecords trace in
-    let bad = firstFailing (markedAt trace) 0 n in
-    let t = first-passed (require (eqb (length trace % periodBytes (formOf trace)) 0) BadPeriod 0) (marksTest trace) e in
-    all-passed (markedAt trace) n (eqb-true bad n (require-passed (eqb bad n) BadPeriod bad (t .1)))
+    marks-passed trace n (first-passed (traceLengthTest trace) (marksTest trace n) e .1)
 
 -- a good record of a step is one record
 pub period-one : (period : List ℕ) → periodTest period ≡ Passed → periodRecords period ≡ 1
 unfolding periodTest
 period-one period e =
     let n = periodBytes (formOf period) in
-    let t = first-passed (require (eqb (length period) n) BadPeriod 0) (marksTest period) e in
+    let t = first-passed (require (eqb (length period) n) BadPeriod 0) (marksTest period (periodRecords period)) e in
     one-whole (formOf period) period (eqb-true (length period) n (require-passed (eqb (length period) n) BadPeriod 0 (t .0)))
 
 -- ---- the records of a trace

@@ -7,7 +7,7 @@ use mathlib.Core.Path.{_≡_}
 use Rattle.records.specs.Examples.{numberAndPlace}
 use Rattle.periods.specs.Limits.{actions}
 use Rattle.periods.specs.Periods.{party1, party2, partyNumber, partyOf, other, Period, tries, succeeds}
-use Rattle.periods.specs.Traces.{periodRecords, periodRecordAt, periodAt, periodsOf, periodTest, traceTest}
+use Rattle.periods.specs.Traces.{periodRecords, periodRecordAt, firstRecords, periodAt, periodsOf, marksTest, periodTest, traceLengthTest, traceTest}
 
 -- a period record, of masks below 256: "`54 50`, two bytes of party 1's attempts, two of party 2's"
 abbrev pub periodRecord : (one two : ℕ) → List ℕ
@@ -35,6 +35,7 @@ pub record PeriodVectors : Type 0 where
   pub masks : periodsOf twoRecords 2
       ≡ record { attempts1 = 0x0201; attempts2 = 0x0403 } ∷ record { attempts1 = 5; attempts2 = 0x0600 } ∷ []
   pub records-of-6 : periodRecords twoRecords ≡ 2
+  pub first-records : map (firstRecords twoRecords) (0 ∷ 1 ∷ 2 ∷ []) ≡ [] ∷ (0x54 ∷ 0x50 ∷ 1 ∷ 2 ∷ 3 ∷ 4 ∷ []) ∷ twoRecords ∷ []
   pub second-record : periodRecordAt twoRecords 1 ≡ 0x54 ∷ 0x50 ∷ 5 ∷ 0 ∷ 0 ∷ 6 ∷ []
   -- "bit a is set when the party tries action a": bits 0, 2 and 15 of 0x8005
   pub tried-bits : map (tries (record { attempts1 = 0; attempts2 = 0x8005 }) party2) (0 ∷ 1 ∷ 2 ∷ 3 ∷ 8 ∷ 14 ∷ 15 ∷ [])
@@ -59,3 +60,9 @@ pub record PeriodVectors : Type 0 where
   pub length-in-run :
       map (λ (l : List ℕ). numberAndPlace (traceTest l)) ((periodRecord 1 1 ++ (0 ∷ [])) ∷ (periodRecord 1 1 ++ otherRecord ++ (0 ∷ [])) ∷ [])
       ≡ (11, 0) ∷ (11, 0) ∷ []
+  -- the length alone: none, 6 bytes, 7, 12 with wrong marks
+  pub lengths : map (λ (l : List ℕ). numberAndPlace (traceLengthTest l)) ([] ∷ periodRecord 1 1 ∷ (periodRecord 1 1 ++ (0 ∷ [])) ∷ (otherRecord ++ otherRecord) ∷ [])
+      ≡ (0, 0) ∷ (0, 0) ∷ (11, 0) ∷ (0, 0) ∷ []
+  -- the marks of the first records alone, record 1 being of wrong mark
+  pub first-marks : map (λ (n : ℕ). numberAndPlace (marksTest (periodRecord 1 1 ++ otherRecord ++ periodRecord 1 1) n)) (0 ∷ 1 ∷ 2 ∷ 3 ∷ [])
+      ≡ (0, 0) ∷ (0, 0) ∷ (11, 1) ∷ (11, 1) ∷ []

@@ -31,6 +31,10 @@ periodRecords trace = wholePeriods (formOf trace) trace
 unfoldable pub periodRecordAt : List ℕ → ℕ → List ℕ
 periodRecordAt trace k = take (periodBytes (formOf trace)) (drop (periodBytes (formOf trace) * k) trace)
 
+-- the bytes of its first k records
+unfoldable pub firstRecords : List ℕ → (k : ℕ) → List ℕ
+firstRecords trace k = take (periodBytes (formOf trace) * k) trace
+
 -- the period that its record k holds
 unfoldable pub periodAt : List ℕ → ℕ → Period
 periodAt trace k = periodFrom (formOf trace) trace (periodBytes (formOf trace) * k)
@@ -46,16 +50,20 @@ markedAt trace k = markedAs (formOf trace) trace k
 
 -- ---- refusal 11
 
--- 11, marks: the first record with another mark
-unfoldable pub marksTest : List ℕ → Test
-marksTest trace =
-    let bad = firstFailing (markedAt trace) 0 (periodRecords trace) in
-    require (eqb bad (periodRecords trace)) BadPeriod bad
+-- 11, marks of its first n records: the first with another mark
+unfoldable pub marksTest : List ℕ → (n : ℕ) → Test
+marksTest trace n =
+    let bad = firstFailing (markedAt trace) 0 n in
+    require (eqb bad n) BadPeriod bad
 
 -- 11 in step: the length of one record, then the mark
 unfoldable pub periodTest : List ℕ → Test
-periodTest period = firstOf (require (eqb (length period) (periodBytes (formOf period))) BadPeriod 0) (marksTest period)
+periodTest period = firstOf (require (eqb (length period) (periodBytes (formOf period))) BadPeriod 0) (marksTest period (periodRecords period))
 
--- 11 in run: a multiple of that length, then the marks
+-- 11, a trace's length: a multiple of that length
+abbrev pub traceLengthTest : List ℕ → Test
+traceLengthTest trace = require (eqb (length trace % periodBytes (formOf trace)) 0) BadPeriod 0
+
+-- 11 in run: the length, then the marks
 unfoldable pub traceTest : List ℕ → Test
-traceTest trace = firstOf (require (eqb (length trace % periodBytes (formOf trace)) 0) BadPeriod 0) (marksTest trace)
+traceTest trace = firstOf (traceLengthTest trace) (marksTest trace (periodRecords trace))

@@ -10,7 +10,7 @@ ghost use Rattle.periods.specs.Limits.{actions};
 ghost use Rattle.periods.specs.Forms.{formMark, periodBytes, formOf};
 ghost use Rattle.periods.specs.Periods.{Party, partyNumber, bit, tries, periodFrom};
 ghost use Rattle.periods.specs.Computing.{periodOf, HoldsPeriod, marksAre};
-ghost use Rattle.periods.specs.Traces.{wholePeriods, periodRecords, periodAt, marksTest, periodTest, traceTest};
+ghost use Rattle.periods.specs.Traces.{wholePeriods, periodRecords, periodAt, markedAt, marksTest, periodTest, traceLengthTest, traceTest};
 use records::Fault;
 use records::Test;
 
@@ -114,13 +114,30 @@ pub fn period_records(trace: &[u8]) -> usize
     whole_periods(form_of(trace), trace)
 }
 
+// Where record k starts, counted in records of a form.
+fn record_start(form: Form, s: &[u8], k: usize) -> usize
+    requires { ⌜ k < wholePeriods form (now s) ⌝ }
+    ensures { λ r. ⌜ (r ≡ periodBytes form * k) × (r + periodBytes form ≤ length (now (s .entry))) ⌝ }
+{
+    period_bytes(form) * k
+}
+
 // Both parties' attempts in record k of a trace.
 pub fn read_period(trace: &[u8], k: usize) -> Attempts
     requires { ⌜ k < periodRecords (now trace) ⌝ }
     ensures { λ r. ⌜ HoldsPeriod (periodAt (now (trace .entry)) k) r ⌝ }
 {
     let form = form_of(trace);
-    read_from(form, trace, period_bytes(form) * k)
+    read_from(form, trace, record_start(form, trace, k))
+}
+
+// Whether record k of a trace has its mark.
+pub fn is_marked(trace: &[u8], k: usize) -> bool
+    requires { ⌜ k < periodRecords (now trace) ⌝ }
+    ensures { λ r. ⌜ r ≡ markedAt (now (trace .entry)) k ⌝ }
+{
+    let form = form_of(trace);
+    marked_from(form, trace, record_start(form, trace, k))
 }
 
 // The first of n records of a form without its mark or, where `marked` is false, with it; n where there is none.
@@ -141,7 +158,7 @@ pub fn first_other(form: Form, s: &[u8], n: usize, marked: bool) -> usize
 
 // The marks of a trace of whole records.
 fn marks_test(trace: &[u8]) -> Test
-    ensures { λ r. ⌜ r ≡ marksTest (now (trace .entry)) ⌝ }
+    ensures { λ r. ⌜ r ≡ marksTest (now (trace .entry)) (periodRecords (now (trace .entry))) ⌝ }
 {
     let n = period_records(trace);
     let bad = first_other(form_of(trace), trace, n, true);
@@ -161,12 +178,23 @@ pub fn period_test(period: &[u8]) -> Test
     marks_test(period)
 }
 
-// A run's trace: its length, then its marks.
-pub fn trace_test(trace: &[u8]) -> Test
-    ensures { λ r. ⌜ r ≡ traceTest (now (trace .entry)) ⌝ }
+// A trace's length: whole records.
+pub fn trace_length_test(trace: &[u8]) -> Test
+    ensures { λ r. ⌜ r ≡ traceLengthTest (now (trace .entry)) ⌝ }
 {
     if trace.len() % period_bytes(form_of(trace)) != 0 {
         return Test::Refused(Fault::BadPeriod, 0);
     }
+    Test::Passed
+}
+
+// A run's trace: its length, then its marks.
+pub fn trace_test(trace: &[u8]) -> Test
+    ensures { λ r. ⌜ r ≡ traceTest (now (trace .entry)) ⌝ }
+{
+    let t = trace_length_test(trace);
+    let Test::Passed = t else {
+        return t;
+    };
     marks_test(trace)
 }

@@ -91,6 +91,15 @@ module _ {Buffers : Type 0} (t : Test) (a : Answer) (before later : Buffers) (ar
   unfolding call
   call-refused h e = rw (le-ltb (length area) (replyBytes a) h) (refused t e)
 
+  -- with room for its reply the result is 1, refused or not
+  pub call-result : replyBytes a ≤ length area → call t a before later area .result ≡ 1
+  unfolding call
+  call-result h = rw (le-ltb (length area) (replyBytes a) h) (of t)
+    where
+      of : (t : Test) → answered t a before later area .result ≡ 1
+      of Passed = refl
+      of (Refused f k) = refl
+
   -- the three ways out of a call
   pub gives-no-room : length area < replyBytes a → Gives (call t a before later area) 0 before area
   gives-no-room h = rw (call-no-room h) record { result-is = refl; buffers-are = refl; reply-is = refl }

@@ -23,7 +23,7 @@ pub const INPUT_BYTES: usize = 65520;
 // An image buffer and a state for as many rows as an image can have, and room for a line for each period and one more.
 pub const IMAGE_BYTES: usize = layout::ROW_BYTES * (layout::MAX_ROWS + 1);
 
-pub const STATE_BYTES: usize = states::HEAD_BYTES + layout::MAX_ROWS;
+pub const STATE_BYTES: usize = runner::STATE_BYTES;
 
 pub const TEXT_BYTES: usize = LINE_BYTES * (INPUT_PERIODS + 1);
 

@@ -1,29 +1,33 @@
 -- The vectors hold of the definitions, by computation.
+use Prim.Native.Nat.{_+_}
+use native.Mathlib.Omega.{arith}
 use mathlib.Core.Path.{refl}
+use borrow.Author.Tests.{lt-leb}
 use Rattle.records.specs.Fields.{value, bytes, field}
 use Rattle.records.specs.Marks.{marked}
 use Rattle.records.specs.Refusals.{firstFailing}
 use Rattle.records.specs.Replies.{fieldsBytes, call}
 use Rattle.periods.specs.Forms.{formOf}
 use Rattle.periods.specs.Periods.{bit, tries, periodFrom}
-use Rattle.periods.specs.Traces.{wholePeriods, markedAs, periodAt, periodsOf, marksTest, periodTest, traceTest}
+use Rattle.periods.specs.Traces.{wholePeriods, markedAs, periodRecords, periodAt, periodsOf, marksTest, periodTest, traceTest}
 use Rattle.layout.specs.Rows.{rowOf, decode}
 use Rattle.layout.specs.Images.{rowCount, rowsOf, imageOf, goodImageLength, goodRowAt, goodEnd}
 use Rattle.layout.specs.Refusals.{imageTest}
 use Rattle.states.specs.States.{stateBytes, stateOf, allAtMost, allZero, sound}
 use Rattle.states.specs.Refusals.{stateTest, countTest}
 use Rattle.machine.specs.Machine.{newValues, valuesAfter, computed, counted, afterPeriod, afterPeriods}
-use Rattle.runner.specs.Refusals.{beginTest, readyTest, stepTest, runTest}
-use Rattle.runner.specs.Calls.{begin, step, run}
+use Rattle.runner.specs.Reading.{stateAfterRecords, recordsRead}
+use Rattle.runner.specs.Refusals.{beginTest, readyTest, stepTest, runTest, unreadTest, decideTest}
+use Rattle.runner.specs.Calls.{begin, step, run, decide}
 use Rattle.runner.specs.StepCalls.{accepted, stateAfterCall, stateAfter, acceptedCount}
-use Rattle.runner.specs.Examples.{RefusalVectors, CallVectors, StepCallVectors}
+use Rattle.runner.specs.Examples.{RefusalVectors, CallVectors, StepCallVectors, DecideVectors}
 
-pub call-vectors : RefusalVectors × CallVectors × StepCallVectors
+pub call-vectors : RefusalVectors × CallVectors × StepCallVectors × DecideVectors
 unfolding
     value bytes field marked firstFailing fieldsBytes call formOf bit tries periodFrom wholePeriods markedAs periodAt periodsOf marksTest
     periodTest traceTest rowOf decode rowCount rowsOf imageOf goodImageLength goodRowAt goodEnd imageTest stateBytes stateOf allAtMost allZero sound
     stateTest countTest newValues valuesAfter computed counted afterPeriod afterPeriods beginTest readyTest stepTest runTest begin step run
-    accepted stateAfterCall stateAfter acceptedCount
+    accepted stateAfterCall stateAfter acceptedCount stateAfterRecords recordsRead unreadTest decideTest decide
 call-vectors = (
   record {
     by-9 = refl;
@@ -47,4 +51,18 @@ call-vectors = (
     just-room = refl;
   },
   record { counted = refl; left = refl },
+  record {
+    undecided = refl;
+    violated = refl;
+    each-outcome = refl;
+    bad-after = refl;
+    bad-before = refl;
+    bad-deciding = refl;
+    bad-length = refl;
+    length-first = λ trace e. rw e;
+    too-many = λ trace e n. rw (e, lt-leb (0 + periodRecords trace) 4294967295 (omega arith));
+    bad-images = refl;
+    short-area = refl;
+    full-area = refl;
+  },
 )

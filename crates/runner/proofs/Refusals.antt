@@ -1,4 +1,4 @@
--- What passed tests of begin, step and run show, and which faults they can give. Document 01, "Replies that refuse".
+-- What passed tests of begin, step, run and decide show, and which faults they can give. Document 01, "Replies that refuse".
 use Prim.Native.Nat.{ℕ, _+_, _≤_, _<_}
 use native.Mathlib.Omega.{arith}
 use mathlib.Core.Path.{_≡_}
@@ -11,17 +11,18 @@ use Rattle.records.specs.declared.Test.{Test}
 use Rattle.records.specs.declared.Test.the-variants.{Passed}
 use Rattle.records.specs.Refusals.{firstOf}
 use Rattle.records.proofs.Refusals.{first-passed, onlyFor, only-append}
-use Rattle.periods.specs.Traces.{periodRecords, markedAt, periodTest, traceTest}
-use Rattle.periods.proofs.Traces.{trace-marks, period-one, periodFaults, period-only, trace-only}
+use Rattle.periods.specs.Traces.{periodRecords, markedAt, marksTest, periodTest, traceLengthTest, traceTest}
+use Rattle.periods.proofs.Traces.{trace-marks, period-one, periodFaults, marks-only, period-only, trace-length-only, trace-only}
 use Rattle.layout.specs.Images.{rowCount}
 use Rattle.layout.specs.Refusals.{imageTest}
 use Rattle.layout.proofs.Images.{imageFaults, image-only}
-use Rattle.states.specs.Limits.{headBytes}
+use Rattle.states.specs.Limits.{headBytes, maxPeriods}
 use Rattle.states.specs.States.{stateOf, sound}
 use Rattle.states.specs.Refusals.{stateLengthTest, stateTest, countTest}
-use Rattle.states.proofs.Refusals.{length-passed, state-passed, passed-count, stateFaults, countFaults, length-only, state-only, count-only}
+use Rattle.states.proofs.Refusals.{length-passed, state-passed, passed-count, passes-count, stateFaults, countFaults, length-only, state-only, count-only}
 use Rattle.machine.specs.Premises.{Ready}
-use Rattle.runner.specs.Refusals.{beginTest, readyTest, stepTest, runTest}
+use Rattle.runner.specs.Reading.{recordsRead}
+use Rattle.runner.specs.Refusals.{beginTest, readyTest, stepTest, runTest, unreadTest, decideTest}
 
 -- a good image and a state as long as its rows ask pass begin's tests
 pub begin-passes : (image state : List ℕ) → imageTest image ≡ Passed → length state ≡ headBytes + rowCount image → beginTest image state ≡ Passed
@@ -44,13 +45,13 @@ ready-head image state e =
     omega (arith, f .0)
 
 -- the tests of image, state and count, with that of the records between them
-tests-ready : (image state : List ℕ) (t : Test) (n : ℕ) → firstOf (readyTest image state) (firstOf t (countTest (stateOf state) n)) ≡ Passed
+tests-ready : (image state : List ℕ) (t : Test) (n : ℕ) → firstOf (readyTest image state) (firstOf t (countTest (stateOf state .periods) n)) ≡ Passed
     → Ready image state n × (t ≡ Passed)
 tests-ready image state t n e =
-    let a = first-passed (readyTest image state) (firstOf t (countTest (stateOf state) n)) e in
-    let b = first-passed t (countTest (stateOf state) n) (a .1) in
+    let a = first-passed (readyTest image state) (firstOf t (countTest (stateOf state .periods) n)) e in
+    let b = first-passed t (countTest (stateOf state .periods) n) (a .1) in
     let r = ready-passed image state (a .0) in
-    (record { good = r .0; sound = r .1; room = passed-count (stateOf state) n (b .1) }, b .0)
+    (record { good = r .0; sound = r .1; room = passed-count (stateOf state .periods) n (b .1) }, b .0)
 
 pub step-ready : (image state period : List ℕ) → stepTest image state period ≡ Passed → Ready image state 1
 unfolding stepTest
@@ -68,6 +69,21 @@ pub run-marks : (image state trace : List ℕ) → runTest image state trace ≡
 unfolding runTest
 run-marks image state trace e = trace-marks trace (tests-ready image state (traceTest trace) (periodRecords trace) e .1)
 
+-- decide's, before it reads
+pub unread-passed : (image trace : List ℕ) → unreadTest image trace ≡ Passed
+    → (imageTest image ≡ Passed) × (traceLengthTest trace ≡ Passed) × (periodRecords trace ≤ maxPeriods)
+unfolding unreadTest
+unread-passed image trace e =
+    let a = first-passed (imageTest image) (firstOf (traceLengthTest trace) (countTest 0 (periodRecords trace))) e in
+    let b = first-passed (traceLengthTest trace) (countTest 0 (periodRecords trace)) (a .1) in
+    let c = passed-count 0 (periodRecords trace) (b .1) in
+    (a .0, b .0, omega arith)
+
+pub unread-passes : (image trace : List ℕ) → imageTest image ≡ Passed → traceLengthTest trace ≡ Passed → periodRecords trace ≤ maxPeriods
+    → unreadTest image trace ≡ Passed
+unfolding unreadTest
+unread-passes image trace g l n = rw (g, l) (passes-count 0 (periodRecords trace) (omega arith))
+
 -- ---- no test of these calls gives another fault
 
 abbrev pub beginFaults : List Fault
@@ -76,6 +92,9 @@ beginFaults = imageFaults ++ stateFaults
 abbrev pub stepFaults : List Fault
 stepFaults = beginFaults ++ (periodFaults ++ countFaults)
 
+abbrev pub decideFaults : List Fault
+decideFaults = imageFaults ++ (periodFaults ++ countFaults) ++ periodFaults
+
 pub begin-only : (image state : List ℕ) → onlyFor beginFaults (beginTest image state) ≡ true
 unfolding beginTest
 begin-only image state =
@@ -83,12 +102,12 @@ begin-only image state =
 
 -- the image, the state, then records with this test, then their count
 tests-only : (image state : List ℕ) (t : Test) (n : ℕ) → onlyFor periodFaults t ≡ true
-    → onlyFor stepFaults (firstOf (readyTest image state) (firstOf t (countTest (stateOf state) n))) ≡ true
+    → onlyFor stepFaults (firstOf (readyTest image state) (firstOf t (countTest (stateOf state .periods) n))) ≡ true
 unfolding readyTest
 tests-only image state t n h =
-    only-append (imageFaults ++ stateFaults) (periodFaults ++ countFaults) (readyTest image state) (firstOf t (countTest (stateOf state) n))
+    only-append (imageFaults ++ stateFaults) (periodFaults ++ countFaults) (readyTest image state) (firstOf t (countTest (stateOf state .periods) n))
     (only-append imageFaults stateFaults (imageTest image) (stateTest (rowCount image) state) (image-only image) (state-only (rowCount image) state))
-    (only-append periodFaults countFaults t (countTest (stateOf state) n) h (count-only (stateOf state) n))
+    (only-append periodFaults countFaults t (countTest (stateOf state .periods) n) h (count-only (stateOf state .periods) n))
 
 pub step-only : (image state period : List ℕ) → onlyFor stepFaults (stepTest image state period) ≡ true
 unfolding stepTest
@@ -97,3 +116,12 @@ step-only image state period = tests-only image state (periodTest period) 1 (per
 pub run-only : (image state trace : List ℕ) → onlyFor stepFaults (runTest image state trace) ≡ true
 unfolding runTest
 run-only image state trace = tests-only image state (traceTest trace) (periodRecords trace) (trace-only trace)
+
+pub decide-only : (image trace : List ℕ) → onlyFor decideFaults (decideTest image trace) ≡ true
+unfolding decideTest unreadTest
+decide-only image trace =
+    only-append (imageFaults ++ (periodFaults ++ countFaults)) periodFaults (unreadTest image trace) (marksTest trace (recordsRead image trace))
+    (only-append imageFaults (periodFaults ++ countFaults) (imageTest image) (firstOf (traceLengthTest trace) (countTest 0 (periodRecords trace)))
+    (image-only image)
+    (only-append periodFaults countFaults (traceLengthTest trace) (countTest 0 (periodRecords trace)) (trace-length-only trace) (count-only 0 (periodRecords trace))))
+    (marks-only trace (recordsRead image trace))

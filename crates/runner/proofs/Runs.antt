@@ -17,13 +17,12 @@ use Rattle.records.specs.declared.Test.the-variants.{Passed, Refused}
 use Rattle.records.specs.Refusals.{passed}
 use Rattle.records.proofs.Cases.{lt-or-le}
 use Rattle.records.proofs.Fields.{field-lt}
-use Rattle.records.proofs.Searches.{failing-is, all-pass}
 use Rattle.records.proofs.Refusals.{first-refused}
 use Rattle.records.specs.Replies.{replyOf, After, written}
 use Rattle.records.proofs.Replies.{call-no-room, call-passed, call-refused}
 use Rattle.periods.specs.Forms.{periodBytes, formOf}
-use Rattle.periods.specs.Traces.{periodRecords, periodAt, markedAt, marksTest, periodTest, traceTest, periodsOf, periodRecordAt}
-use Rattle.periods.proofs.Traces.{length-periodsOf, record-period, period-test, period-refused}
+use Rattle.periods.specs.Traces.{periodRecords, periodAt, markedAt, periodTest, traceTest, periodsOf, periodRecordAt}
+use Rattle.periods.proofs.Traces.{length-periodsOf, marks-pass, marks-refused, record-period, period-test, period-refused}
 use Rattle.layout.specs.Images.{imageOf}
 use Rattle.states.specs.Limits.{maxPeriods}
 use Rattle.states.specs.States.{stateOf, stateBytes}
@@ -45,7 +44,7 @@ use Rattle.runner.proofs.StepCalls.{accepted-step, taken-step}
 module _ (image l : List ℕ) where
   step-passes : Ready image l 1 → (r : List ℕ) → periodTest r ≡ Passed → stepTest image l r ≡ Passed
   unfolding stepTest readyTest
-  step-passes h r t = rw (h .good, h .sound, t) (passes-count (stateOf l) 1 (h .room))
+  step-passes h r t = rw (h .good, h .sound, t) (passes-count (stateOf l .periods) 1 (h .room))
 
   step-refuses : {n : ℕ} → Ready image l n → (r : List ℕ) → periodTest r ≡ Refused BadPeriod 0 → stepTest image l r ≡ Refused BadPeriod 0
   unfolding stepTest readyTest
@@ -188,10 +187,8 @@ module _ (image state trace : List ℕ) (h : readyTest image state ≡ Passed) (
   -- by a record's mark: at the first record of another mark, which its step refuses if the count lets the steps before it pass
   module _ (k : ℕ) (i : k < periodRecords trace) (m : (j : ℕ) → j < k → markedAt trace j ≡ true) (bad : markedAt trace k ≡ false) where
     pub refused-mark : runTest image state trace ≡ Refused BadPeriod k
-    unfolding runTest traceTest marksTest
-    refused-mark =
-        let f = failing-is (markedAt trace) (periodRecords trace) k i m bad in
-        rw (h, eq-eqb (length trace % periodBytes (formOf trace)) 0 e, f, ne-eqb k (periodRecords trace) (λ q. omega arith))
+    unfolding runTest traceTest
+    refused-mark = rw (h, eq-eqb (length trace % periodBytes (formOf trace)) 0 e, marks-refused trace (periodRecords trace) k i m bad)
 
     pub refused-mark-step : (reply : List ℕ) → AllBytes state → stepReplyBytes ≤ length reply → stateOf state .periods + k ≤ maxPeriods
         → RefusedAt image state trace reply k (Refused BadPeriod 0)
@@ -209,10 +206,10 @@ module _ (image state trace : List ℕ) (h : readyTest image state ≡ Passed) (
   -- by the count: at the first record too many, which its step refuses
   module _ (m : (j : ℕ) → j < periodRecords trace → markedAt trace j ≡ true) (l : maxPeriods < stateOf state .periods + periodRecords trace) where
     pub refused-count : runTest image state trace ≡ Refused FullCount (maxPeriods - stateOf state .periods)
-    unfolding runTest traceTest marksTest countTest
+    unfolding runTest traceTest countTest
     refused-count =
         let n = periodRecords trace in
-        rw (h, eq-eqb (length trace % periodBytes (formOf trace)) 0 e, all-pass (markedAt trace) n m, eq-eqb n n refl, lt-leb (stateOf state .periods + n) maxPeriods l)
+        rw (h, eq-eqb (length trace % periodBytes (formOf trace)) 0 e, marks-pass trace n m, lt-leb (stateOf state .periods + n) maxPeriods l)
 
     pub refused-count-step : (reply : List ℕ) → AllBytes state → stepReplyBytes ≤ length reply
         → RefusedAt image state trace reply (maxPeriods - stateOf state .periods) (Refused FullCount 0)

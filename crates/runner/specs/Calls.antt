@@ -1,5 +1,6 @@
--- What begin, step and run leave in the bytes that they were lent. Document 01, "Calls" and "Replies that refuse".
--- Image, record and trace are lent to be read only, so they are afterwards as they were; the state is the one buffer beside the reply area.
+-- What begin, step, run and decide leave in the bytes that they were lent. Document 01, "Calls" and "Replies that refuse"; document 02, "Stop reading
+-- once it is decided". Image, record and trace are lent to be read only, so they are afterwards as they were; the state is the one buffer beside the
+-- reply area, and decide has none.
 use Prim.Native.Nat.{ℕ}
 use mathlib.Core.List.{List, [], _∷_}
 use lib.ListN.{length, replicate}
@@ -10,7 +11,8 @@ use Rattle.layout.specs.Images.{imageOf}
 use Rattle.states.specs.States.{State, stateOf, stateBytes}
 use Rattle.states.specs.Verdicts.{verdict}
 use Rattle.machine.specs.Machine.{afterPeriod, afterPeriods}
-use Rattle.runner.specs.Refusals.{beginTest, stepTest, runTest}
+use Rattle.runner.specs.Reading.{stateAfterRecords, recordsRead}
+use Rattle.runner.specs.Refusals.{beginTest, stepTest, runTest, decideTest}
 
 -- ---- what they answer beside number and place: begin a zero
 
@@ -25,6 +27,17 @@ answer s = stepAnswer (verdictNumber (verdict s)) (s .blame) (s .decision)
 -- the bytes of step's and run's reply; begin's has the first three fields alone
 abbrev pub stepReplyBytes : ℕ
 stepReplyBytes = replyBytes (stepAnswer 0 0 0)
+
+-- decide: the outcome, and behind the place blame, decision period, the number of records read and a zero
+abbrev pub decideAnswer : (outcome blame decision records : ℕ) → Answer
+decideAnswer o b d n = record { own = o; others = four b ∷ four d ∷ four n ∷ four 0 ∷ [] }
+
+-- "outcome, blame, decision period and the number of period records it read", of the state that these leave
+abbrev pub decisionAnswer : State → (records : ℕ) → Answer
+decisionAnswer s n = decideAnswer (s .outcome) (s .blame) (s .decision) n
+
+abbrev pub decideReplyBytes : ℕ
+decideReplyBytes = replyBytes (decideAnswer 0 0 0 0)
 
 -- ---- the calls
 
@@ -43,3 +56,9 @@ unfoldable pub run : (image state trace reply : List ℕ) → After (List ℕ)
 run image state trace reply =
     let later = afterPeriods (imageOf image) (stateOf state) (periodsOf trace (periodRecords trace)) in
     call (runTest image state trace) (answer later) state (stateBytes later) reply
+
+-- "A new call takes an image and a trace and gives outcome, blame, decision period and the number of period records it read."
+unfoldable pub decide : (image trace reply : List ℕ) → After Unit
+decide image trace reply =
+    let n = recordsRead image trace in
+    call (decideTest image trace) (decisionAnswer (stateAfterRecords image trace n) n) tt tt reply

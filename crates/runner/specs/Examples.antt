@@ -1,14 +1,18 @@
--- Vectors of begin, step and run. What is expected stands in bytes alone, from document 01's text.
-use Prim.Native.Nat.{ℕ}
+-- Vectors of begin, step, run and decide. What is expected stands in bytes alone, from the text of documents 01 and 02.
+use Prim.Native.Nat.{ℕ, _<_}
 use mathlib.Core.List.{List, [], _∷_, _++_, map}
 use mathlib.Core.Path.{_≡_}
 use lib.ListN.{replicate}
+use Rattle.records.specs.declared.Fault.the-variants.{BadPeriod, FullCount}
+use Rattle.records.specs.declared.Test.the-variants.{Passed, Refused}
 use Rattle.records.specs.Replies.{After}
 use Rattle.records.specs.Examples.{area, head, leaves}
 use Rattle.periods.specs.Examples.{periodRecord, otherRecord}
+use Rattle.periods.specs.Traces.{periodRecords, traceLengthTest}
 use Rattle.layout.specs.Examples.{row, end}
 use Rattle.states.specs.Examples.{state}
-use Rattle.runner.specs.Calls.{begin, step, run}
+use Rattle.runner.specs.Refusals.{decideTest}
+use Rattle.runner.specs.Calls.{begin, step, run, decide}
 use Rattle.runner.specs.StepCalls.{StepCall, stateAfter, acceptedCount}
 
 -- step's and run's reply: number, verdict, place, then blame (4 bytes) and decision period (4)
@@ -102,3 +106,69 @@ threeCalls =
 pub record StepCallVectors : Type 0 where
   pub counted : acceptedCount goodImage (replicate 13 0) threeCalls ≡ 1
   pub left : stateAfter goodImage (replicate 13 0) threeCalls ≡ state 0 0 1 0 (1 ∷ 0 ∷ 0 ∷ [])
+
+-- decide's reply: number, outcome, place, then blame (4 bytes), decision period (4), records read (4) and a zero (4)
+abbrev pub decideReply : (number outcome place blame decision records : ℕ) → List ℕ
+decideReply number outcome place blame decision records =
+    head number outcome place ++ (blame ∷ 0 ∷ 0 ∷ 0 ∷ decision ∷ 0 ∷ 0 ∷ 0 ∷ records ∷ 0 ∷ 0 ∷ 0 ∷ 0 ∷ 0 ∷ 0 ∷ 0 ∷ [])
+
+-- decide with room for one byte past the reply, and a decide that leaves this reply and that byte as it was
+abbrev pub decided : (image trace : List ℕ) → After Unit
+decided image trace = decide image trace (area 33)
+
+abbrev pub replies : List ℕ → After Unit
+replies reply = record { result = 1; buffers = tt; reply = reply ++ (0xff ∷ []) }
+
+-- rows: false; true in period 1; true in period 2; both parties try action 0
+abbrev pub decidingBy : (S V1 V2 : ℕ) → List ℕ
+decidingBy s v w = row 0 0 0 ++ row 1 0 0 ++ row 6 1 0 ++ row 2 1 0 ++ row 2 2 0 ++ row 4 3 4 ++ end s v w
+
+-- `goodImage` is broken by party 1 in the period after one in which it tries
+abbrev pub brokenAt2 : List ℕ
+brokenAt2 = periodRecord 1 0 ++ periodRecord 0 0
+
+-- "Stop reading once it is decided"
+pub record DecideVectors : Type 0 where
+  -- no record; undecided: "the trace's record count"
+  pub undecided : map (decided goodImage) ([] ∷ periodRecord 1 0 ∷ (periodRecord 0 0 ++ periodRecord 0 0 ++ periodRecord 1 0) ∷ [])
+      ≡ replies (decideReply 0 0 0 0 0 0) ∷ replies (decideReply 0 0 0 0 0 1) ∷ replies (decideReply 0 0 0 0 0 3) ∷ []
+  -- "That number is the decision period": at the last record, and with more behind it
+  pub violated : map (decided goodImage) (brokenAt2 ∷ (brokenAt2 ++ periodRecord 1 1 ++ periodRecord 0 0) ∷ (periodRecord 0 0 ++ brokenAt2 ++ periodRecord 0 0) ∷ [])
+      ≡ replies (decideReply 0 2 0 1 2 2) ∷ replies (decideReply 0 2 0 1 2 2) ∷ replies (decideReply 0 2 0 1 3 3) ∷ []
+  -- satisfied in period 1; violated in period 2 with blame 2 and with both; both at once is violated; satisfied by what both try in period 3
+  pub each-outcome :
+      map (λ (image : List ℕ). decided image (periodRecord 0 1 ++ periodRecord 1 0 ++ periodRecord 1 1 ++ periodRecord 0 0))
+      (decidingBy 1 0 0 ∷ decidingBy 0 0 2 ∷ decidingBy 0 2 2 ∷ decidingBy 1 1 0 ∷ decidingBy 5 0 0 ∷ [])
+      ≡ replies (decideReply 0 1 0 0 1 1)
+      ∷ replies (decideReply 0 2 0 2 2 2)
+      ∷ replies (decideReply 0 2 0 3 2 2)
+      ∷ replies (decideReply 0 2 0 1 1 1)
+      ∷ replies (decideReply 0 1 0 0 3 3)
+      ∷ []
+  -- "Records after the decision aren't looked at, so a bad mark there is no refusal in this call."
+  pub bad-after : map (decided goodImage) ((brokenAt2 ++ otherRecord) ∷ (brokenAt2 ++ periodRecord 0 0 ++ otherRecord) ∷ [])
+      ≡ replicate 2 (replies (decideReply 0 2 0 1 2 2))
+  -- before it: record 0, record 1 of three; and where nothing decides, the first of two
+  pub bad-before :
+      map (decided goodImage)
+      ((otherRecord ++ periodRecord 0 0) ∷ (periodRecord 0 0 ++ otherRecord ++ periodRecord 0 0) ∷ (periodRecord 0 0 ++ otherRecord ++ otherRecord) ∷ [])
+      ≡ replies (decideReply 11 0 0 0 0 0) ∷ replies (decideReply 11 0 1 0 0 0) ∷ replies (decideReply 11 0 1 0 0 0) ∷ []
+  -- at it: the record that would decide
+  pub bad-deciding : decided goodImage (periodRecord 1 0 ++ otherRecord) ∷ decided (decidingBy 1 0 0) otherRecord ∷ []
+      ≡ replies (decideReply 11 0 1 0 0 0) ∷ replies (decideReply 11 0 0 0 0 0) ∷ []
+  -- "After 9, length is still tested first": 7 bytes; 13 bytes, though record 1 decides; 13 bytes with a wrong mark in record 1
+  pub bad-length : map (decided goodImage) (sevenBytes ∷ (brokenAt2 ++ (0 ∷ [])) ∷ (periodRecord 0 0 ++ otherRecord ++ (0 ∷ [])) ∷ [])
+      ≡ replicate 3 (replies (decideReply 11 0 0 0 0 0))
+  -- however many records it has
+  pub length-first : (trace : List ℕ) → traceLengthTest trace ≡ Refused BadPeriod 0 → decideTest goodImage trace ≡ Refused BadPeriod 0
+  -- "A trace of more than 4,294,967,295 records meets 12 next.", at the first record too many, whatever marks and periods it has
+  pub too-many : (trace : List ℕ) → traceLengthTest trace ≡ Passed → 4294967295 < periodRecords trace
+      → decideTest goodImage trace ≡ Refused FullCount 4294967295
+  -- 9 before it, at row 0, row 1 and the end record after two rows
+  pub bad-images :
+      map (λ (image : List ℕ). decided image sevenBytes)
+      (badImage ∷ (row 0 0 0 ++ row 7 0 0 ++ end 0 0 0) ∷ (row 0 0 0 ++ row 0 0 0 ++ end 2 0 0) ∷ [])
+      ≡ replies (decideReply 9 0 0 0 0 0) ∷ replies (decideReply 9 0 1 0 0 0) ∷ replies (decideReply 9 0 2 0 0 0) ∷ []
+  -- a reply of 32 bytes
+  pub short-area : decide goodImage brokenAt2 (area 31) ≡ record { result = 0; buffers = tt; reply = area 31 }
+  pub full-area : decide goodImage brokenAt2 (area 32) ≡ record { result = 1; buffers = tt; reply = decideReply 0 2 0 1 2 2 }

@@ -11,6 +11,7 @@ state-vectors =
     record {
       written = refl;
       read = refl;
+      fresh = refl;
       lengths = refl;
       lengths-alone = refl;
       outcomes = refl;

@@ -1,12 +1,12 @@
 -- The state of no periods: its bytes are zeros, and it is sound.
-use Prim.Native.Nat.{ℕ, zero, suc, _+_}
+use Prim.Native.Nat.{ℕ, zero, suc}
 use native.Mathlib.Omega.{arith}
 use mathlib.Core.Bool.{true}
 use mathlib.Core.Path.{_≡_, refl, sym}
 use lib.ListN.{replicate, length-replicate, replicate-append-replicate}
 use Rattle.records.specs.Fields.{bytes}
 use Rattle.states.specs.Limits.{headBytes}
-use Rattle.states.specs.States.{State, stateOf, stateBytes, allAtMost}
+use Rattle.states.specs.States.{State, stateOf, stateBytes, freshBytes, allAtMost}
 use Rattle.states.specs.Premises.{undecided}
 use Rattle.states.proofs.Soundness.{Sound}
 use Rattle.states.proofs.States.{read-back}
@@ -15,7 +15,7 @@ use Rattle.states.proofs.States.{read-back}
 abbrev pub freshState : ℕ → State
 freshState n = record { outcome = 0; blame = 0; periods = 0; decision = 0; values = replicate n 0 }
 
-pub fresh-bytes : (n : ℕ) → replicate (headBytes + n) 0 ≡ stateBytes (freshState n)
+pub fresh-bytes : (n : ℕ) → freshBytes n ≡ stateBytes (freshState n)
 unfolding stateBytes bytes
 fresh-bytes n = sym (replicate-append-replicate headBytes n 0)
 
@@ -27,5 +27,5 @@ zeros-small (suc n) = zeros-small n
 pub fresh-sound : (n : ℕ) → Sound n (freshState n)
 fresh-sound n = record { long = length-replicate n 0; head = undecided; values-sound = zeros-small n }
 
-pub fresh-read : (n : ℕ) → stateOf (replicate (headBytes + n) 0) ≡ freshState n
+pub fresh-read : (n : ℕ) → stateOf (freshBytes n) ≡ freshState n
 fresh-read n = rw (fresh-bytes n) (read-back n (freshState n) (fresh-sound n) (omega arith))

@@ -12,7 +12,7 @@ use Rattle.records.specs.declared.Test.the-variants.{Passed}
 use Rattle.records.specs.Refusals.{require}
 use Rattle.records.proofs.Refusals.{first-passed, require-passed, onlyFor, only-require, only-first}
 use Rattle.states.specs.Limits.{headBytes, maxPeriods}
-use Rattle.states.specs.States.{stateOf, sound, State}
+use Rattle.states.specs.States.{stateOf, sound}
 use Rattle.states.specs.Refusals.{stateLengthTest, stateTest, countTest}
 
 pub length-passed : (n : ℕ) (l : List ℕ) → stateLengthTest n l ≡ Passed → length l ≡ headBytes + n
@@ -26,13 +26,13 @@ state-passed n l e =
       require-passed (sound (stateOf l)) BadState 0 (u .1),
     )
 
-pub passed-count : (s : State) (n : ℕ) → countTest s n ≡ Passed → s .periods + n ≤ maxPeriods
+pub passed-count : (taken n : ℕ) → countTest taken n ≡ Passed → taken + n ≤ maxPeriods
 unfolding countTest
-passed-count s n e = leb-true (s .periods + n) maxPeriods (require-passed (leb (s .periods + n) maxPeriods) FullCount (maxPeriods - s .periods) e)
+passed-count taken n e = leb-true (taken + n) maxPeriods (require-passed (leb (taken + n) maxPeriods) FullCount (maxPeriods - taken) e)
 
-pub passes-count : (s : State) (n : ℕ) → s .periods + n ≤ maxPeriods → countTest s n ≡ Passed
+pub passes-count : (taken n : ℕ) → taken + n ≤ maxPeriods → countTest taken n ≡ Passed
 unfolding countTest
-passes-count s n h = rw (le-leb (s .periods + n) maxPeriods h)
+passes-count taken n h = rw (le-leb (taken + n) maxPeriods h)
 
 -- no test of this crate gives another fault
 abbrev pub stateFaults : List Fault
@@ -49,6 +49,6 @@ unfolding stateTest
 state-only n l =
     only-first stateFaults (stateLengthTest n l) (require (sound (stateOf l)) BadState 0) (length-only n l) (only-require stateFaults BadState refl (sound (stateOf l)) 0)
 
-pub count-only : (s : State) (n : ℕ) → onlyFor countFaults (countTest s n) ≡ true
+pub count-only : (taken n : ℕ) → onlyFor countFaults (countTest taken n) ≡ true
 unfolding countTest
-count-only s n = only-require countFaults FullCount refl (leb (s .periods + n) maxPeriods) (maxPeriods - s .periods)
+count-only taken n = only-require countFaults FullCount refl (leb (taken + n) maxPeriods) (maxPeriods - taken)

@@ -5,7 +5,7 @@ use mathlib.Core.Path.{_≡_}
 use lib.ListN.{replicate}
 use Rattle.records.specs.Verdicts.{verdictNumber}
 use Rattle.records.specs.Examples.{numberAndPlace}
-use Rattle.states.specs.States.{stateOf, stateBytes}
+use Rattle.states.specs.States.{stateOf, stateBytes, freshBytes}
 use Rattle.states.specs.Verdicts.{verdict}
 use Rattle.states.specs.Refusals.{stateLengthTest, stateTest, countTest}
 
@@ -23,7 +23,7 @@ ofStates states = map (λ (l : List ℕ). numberAndPlace (stateTest 2 l)) states
 
 -- what 12 finds of more records for a state
 abbrev pub ofCounts : List ℕ → (more : List ℕ) → List (ℕ × ℕ)
-ofCounts l more = map (λ (n : ℕ). numberAndPlace (countTest (stateOf l) n)) more
+ofCounts l more = map (λ (n : ℕ). numberAndPlace (countTest (stateOf l .periods) n)) more
 
 -- Each unsound state below fails by its own condition alone.
 pub record StateVectors : Type 0 where
@@ -31,6 +31,8 @@ pub record StateVectors : Type 0 where
       ≡ 2 ∷ 3 ∷ 4 ∷ 3 ∷ 2 ∷ 1 ∷ 8 ∷ 7 ∷ 6 ∷ 5 ∷ 0 ∷ 1 ∷ []
   pub read : stateOf (2 ∷ 3 ∷ 4 ∷ 3 ∷ 2 ∷ 1 ∷ 8 ∷ 7 ∷ 6 ∷ 5 ∷ 0 ∷ 1 ∷ [])
       ≡ record { outcome = 2; blame = 3; periods = 0x01020304; decision = 0x05060708; values = 0 ∷ 1 ∷ [] }
+  -- 10 + rows zeros
+  pub fresh : map freshBytes (0 ∷ 2 ∷ []) ≡ replicate 10 0 ∷ replicate 12 0 ∷ []
   -- 10 + rows bytes
   pub lengths : map (λ (n : ℕ). numberAndPlace (stateTest 2 (replicate n 0))) (0 ∷ 11 ∷ 12 ∷ 13 ∷ []) ≡ (10, 0) ∷ (10, 0) ∷ (0, 0) ∷ (10, 0) ∷ []
   -- which is all that begin asks

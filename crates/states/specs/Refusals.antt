@@ -7,7 +7,7 @@ use Rattle.records.specs.declared.Fault.the-variants.{BadState, FullCount}
 use Rattle.records.specs.declared.Test.{Test}
 use Rattle.records.specs.Refusals.{require, firstOf}
 use Rattle.states.specs.Limits.{headBytes, maxPeriods}
-use Rattle.states.specs.States.{State, stateOf, sound}
+use Rattle.states.specs.States.{stateOf, sound}
 
 -- 10: the state's length, for an image of n rows
 abbrev pub stateLengthTest : ℕ → List ℕ → Test
@@ -17,6 +17,6 @@ stateLengthTest n state = require (eqb (length state) (headBytes + n)) BadState 
 unfoldable pub stateTest : ℕ → List ℕ → Test
 stateTest n state = firstOf (stateLengthTest n state) (require (sound (stateOf state)) BadState 0)
 
--- 12: n more records would pass the largest count; at the first record too many
-unfoldable pub countTest : State → ℕ → Test
-countTest s n = require (leb (s .periods + n) maxPeriods) FullCount (maxPeriods - s .periods)
+-- 12: after so many periods taken, n more records would pass the largest count; at the first record too many
+unfoldable pub countTest : (taken n : ℕ) → Test
+countTest taken n = require (leb (taken + n) maxPeriods) FullCount (maxPeriods - taken)

@@ -1,9 +1,9 @@
 -- States, their bytes, and which are sound. Document 01, "Image and row machine", from "State".
-use Prim.Native.Nat.{ℕ}
+use Prim.Native.Nat.{ℕ, _+_}
 use mathlib.Core.Bool.{Bool, true, _&&_, Bool·beq, cond}
 use mathlib.Core.List.{List, [], _∷_, _++_}
 use lib.Dec.{eqb, leb}
-use lib.ListN.{getD, drop}
+use lib.ListN.{getD, drop, replicate}
 use Rattle.records.specs.Fields.{bytes, field}
 use Rattle.states.specs.Limits.{headBytes}
 
@@ -23,6 +23,10 @@ stateBytes s = s .outcome ∷ s .blame ∷ (bytes 4 (s .periods) ++ (bytes 4 (s 
 unfoldable pub stateOf : List ℕ → State
 stateOf l =
     record { outcome = getD l 0 0; blame = getD l 1 0; periods = field l 2 4; decision = field l 6 4; values = drop headBytes l }
+
+-- a fresh state's bytes, for n rows: "Begin sets a state to zeros."
+abbrev pub freshBytes : ℕ → List ℕ
+freshBytes n = replicate (headBytes + n) 0
 
 -- every value is at most m
 unfoldable pub allAtMost : ℕ → List ℕ → Bool

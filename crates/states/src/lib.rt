@@ -96,12 +96,11 @@ pub fn state_test(n: usize, state: &[u8]) -> Test
 
 // ---- refusal 12
 
-// Whether n more periods can be counted in the state.
-pub fn count_test(state: &[u8], n: usize) -> Test
-    requires { ⌜ headBytes ≤ length (now state) ⌝ }
-    ensures { λ r. ⌜ r ≡ countTest (stateOf (now (state .entry))) n ⌝ }
+// Whether n more periods can be counted after so many.
+pub fn count_test(taken: u32, n: usize) -> Test
+    ensures { λ r. ⌜ r ≡ countTest taken n ⌝ }
 {
-    let left = (MAX_PERIODS - records::get4(state, 2)) as usize;
+    let left = (MAX_PERIODS - taken) as usize;
     if left < n {
         return Test::Refused(Fault::FullCount, left);
     }

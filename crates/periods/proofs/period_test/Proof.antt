@@ -1,6 +1,11 @@
 -- `periods::period_test` meets its contract: the length, then the mark.
 use borrow.Author.Needs.{needs}
 use borrow.Author.Tests.{eq-eqb, ne-eqb}
+use mathlib.Core.Bool.{true}
+use mathlib.Core.Path.{_≡_}
+use lib.Dec.{eqb}
+use lib.ListN.{length}
+use Rattle.periods.specs.Forms.{periodBytes, formOf}
 use Rattle.periods.specs.Traces.{periodTest}
 use Rattle.periods.proofs.period_test.Statement.{statement}
 use Rattle.periods.proofs.period_test.Tie as tie
@@ -20,7 +25,10 @@ marks-test-requires c κs = search needs
 
 returns-2 : tie.Need-returns-2
 unfolding periodTest
-returns-2 c = rw (← c .before .before .before .form-of .ensures, ← c .before .before .period-bytes .ensures, eq-eqb _ _ (c .before .if1 .left)) (c .marks-test .ensures)
+returns-2 c =
+    let one : eqb (length (c .before .before .before .before .before .args .period .now)) (periodBytes (formOf (c .before .before .before .before .before .args .period .now))) ≡ true =
+    rw (← c .before .before .before .form-of .ensures, ← c .before .before .period-bytes .ensures) (eq-eqb _ _ (c .before .if1 .left)) in
+    rw one (c .marks-test .ensures)
 
 pub period-test-spec : {M : Type 1} → statement M
 period-test-spec =

@@ -1,31 +1,39 @@
 -- `periods::trace_test` meets its contract: the length, then the marks.
 use borrow.Author.Needs.{needs}
-use borrow.Author.Tests.{eq-eqb, ne-eqb}
+use Rattle.records.proofs.Refusals.{refused-first}
 use Rattle.periods.specs.Traces.{traceTest}
 use Rattle.periods.proofs.trace_test.Statement.{statement}
 use Rattle.periods.proofs.trace_test.Tie as tie
 
-form-of-requires : tie.Need-form-of-requires
-form-of-requires c κs = search needs
+trace-length-test-requires : tie.Need-trace-length-test-requires
+trace-length-test-requires c κs = search needs
 
-period-bytes-requires : tie.Need-period-bytes-requires
-period-bytes-requires c κs = search needs
+enum-told : tie.Need-enum-told
+enum-told c = search needs
 
-rem-if1 : tie.Need-rem-if1
-rem-if1 c = search needs
+enum-told-2 : tie.Need-enum-told-2
+enum-told-2 c = search needs
 
 returns : tie.Need-returns
 unfolding traceTest
-returns c = rw (← c .before .before .form-of .ensures, ← c .before .period-bytes .ensures, ne-eqb _ _ (c .if1 .taken))
+returns c =
+    let t = c .before .before .trace-length-test in
+    refused-first (t .result) _ _ (t .ensures) (c .enum-told2 .given .1)
 
 marks-test-requires : tie.Need-marks-test-requires
 marks-test-requires c κs = search needs
 
 returns-2 : tie.Need-returns-2
 unfolding traceTest
-returns-2 c = rw (← c .before .before .before .form-of .ensures, ← c .before .before .period-bytes .ensures, eq-eqb _ _ (c .before .if1 .left)) (c .marks-test .ensures)
+returns-2 c = rw (← c .before .before .before .trace-length-test .ensures, c .before .enum-told .given .1) (c .marks-test .ensures)
 
 pub trace-test-spec : {M : Type 1} → statement M
 trace-test-spec =
     tie.close
-    (tie.spec form-of-requires period-bytes-requires rem-if1 returns marks-test-requires returns-2)
+    (tie.spec
+    trace-length-test-requires
+    enum-told
+    enum-told-2
+    returns
+    marks-test-requires
+    returns-2)

@@ -1,10 +1,13 @@
 -- `runner::run_test` meets its contract: the image and the state, then the trace, then the count.
 use borrow.Author.Needs.{needs}
+use native.Mathlib.Omega.{arith}
 use mathlib.Core.Path.{_≡_, sym, _∙_}
 use Rattle.records.specs.declared.Test.the-variants.{Passed}
 use Rattle.records.proofs.Refusals.{refused-first}
+use Rattle.records.proofs.get4.Reads as get4-reads
 use Rattle.periods.proofs.trace_test.Reads as trace-test-reads
 use Rattle.periods.proofs.period_records.Reads as period-records-reads
+use Rattle.states.specs.States.{stateOf}
 use Rattle.states.proofs.count_test.Reads as count-test-reads
 use Rattle.runner.specs.Refusals.{readyTest, runTest}
 use Rattle.runner.proofs.Refusals.{ready-head}
@@ -30,7 +33,7 @@ returns c =
     refused-first (t .result) _ _ (t .ensures) (c .enum-told2 .given .1)
 
 -- past the tests of the image and the state
-ready : (c : lts.After-enum-told (ready-test-reads.Asked, ready-test-reads.Learnt, trace-test-reads.Asked, trace-test-reads.Learnt, period-records-reads.Asked, period-records-reads.Learnt, count-test-reads.Asked, count-test-reads.Learnt) reads.Pre reads.Post)
+ready : (c : lts.After-enum-told (ready-test-reads.Asked, ready-test-reads.Learnt, trace-test-reads.Asked, trace-test-reads.Learnt, get4-reads.Asked, get4-reads.Learnt, period-records-reads.Asked, period-records-reads.Learnt, count-test-reads.Asked, count-test-reads.Learnt) reads.Pre reads.Post)
     → let a = c .before .before .before .before .before .before .args in readyTest (a .image .now) (a .state .now) ≡ Passed
 ready c = sym (c .before .before .ready-test .ensures) ∙ c .enum-told .given .1
 
@@ -49,17 +52,20 @@ returns-2 c =
     let t = c .before .before .trace-test in
     rw (ready (c .before .before .before)) (refused-first (t .result) _ _ (t .ensures) (c .enum-told4 .given .1))
 
+get4-requires : tie.Need-get4-requires
+get4-requires c κs = let h = ready-head _ _ (ready (c .before .before .before)) in omega arith
+
 period-records-requires : tie.Need-period-records-requires
 period-records-requires c κs = search needs
 
 count-test-requires : tie.Need-count-test-requires
-count-test-requires c κs = ready-head _ _ (ready (c .before .before .before .before))
+count-test-requires c κs = search needs
 
 returns-3 : tie.Need-returns-3
-unfolding runTest
+unfolding runTest stateOf
 returns-3 c =
-    let t = c .before .before .before .before .trace-test in
-    rw (ready (c .before .before .before .before .before), ← c .before .period-records .ensures, ← t .ensures, c .before .before .enum-told3 .given .1) (c .count-test .ensures)
+    let t = c .before .before .before .before .before .trace-test in
+    rw (ready (c .before .before .before .before .before .before), ← c .before .period-records .ensures, ← t .ensures, c .before .before .before .enum-told3 .given .1, ← c .before .before .get4 .ensures .is) (c .count-test .ensures)
 
 pub run-test-spec : {M : Type 1} → statement M
 run-test-spec =
@@ -73,6 +79,7 @@ run-test-spec =
     enum-told-3
     enum-told-4
     returns-2
+    get4-requires
     period-records-requires
     count-test-requires
     returns-3)

@@ -1,9 +1,12 @@
 -- `runner::step_test` meets its contract: the image and the state, then the record, then the count.
 use borrow.Author.Needs.{needs}
+use native.Mathlib.Omega.{arith}
 use mathlib.Core.Path.{_≡_, sym, _∙_}
 use Rattle.records.specs.declared.Test.the-variants.{Passed}
 use Rattle.records.proofs.Refusals.{refused-first}
+use Rattle.records.proofs.get4.Reads as get4-reads
 use Rattle.periods.proofs.period_test.Reads as period-test-reads
+use Rattle.states.specs.States.{stateOf}
 use Rattle.states.proofs.count_test.Reads as count-test-reads
 use Rattle.runner.specs.Refusals.{readyTest, stepTest}
 use Rattle.runner.proofs.Refusals.{ready-head}
@@ -29,7 +32,7 @@ returns c =
     refused-first (t .result) _ _ (t .ensures) (c .enum-told2 .given .1)
 
 -- past the tests of the image and the state
-ready : (c : lts.After-enum-told (ready-test-reads.Asked, ready-test-reads.Learnt, period-test-reads.Asked, period-test-reads.Learnt, count-test-reads.Asked, count-test-reads.Learnt) reads.Pre reads.Post)
+ready : (c : lts.After-enum-told (ready-test-reads.Asked, ready-test-reads.Learnt, period-test-reads.Asked, period-test-reads.Learnt, get4-reads.Asked, get4-reads.Learnt, count-test-reads.Asked, count-test-reads.Learnt) reads.Pre reads.Post)
     → let a = c .before .before .before .before .before .before .args in readyTest (a .image .now) (a .state .now) ≡ Passed
 ready c = sym (c .before .before .ready-test .ensures) ∙ c .enum-told .given .1
 
@@ -48,14 +51,17 @@ returns-2 c =
     let t = c .before .before .period-test in
     rw (ready (c .before .before .before)) (refused-first (t .result) _ _ (t .ensures) (c .enum-told4 .given .1))
 
+get4-requires : tie.Need-get4-requires
+get4-requires c κs = let h = ready-head _ _ (ready (c .before .before .before)) in omega arith
+
 count-test-requires : tie.Need-count-test-requires
-count-test-requires c κs = ready-head _ _ (ready (c .before .before .before))
+count-test-requires c κs = search needs
 
 returns-3 : tie.Need-returns-3
-unfolding stepTest
+unfolding stepTest stateOf
 returns-3 c =
-    let t = c .before .before .before .period-test in
-    rw (ready (c .before .before .before .before), ← t .ensures, c .before .enum-told3 .given .1) (c .count-test .ensures)
+    let t = c .before .before .before .before .period-test in
+    rw (ready (c .before .before .before .before .before), ← t .ensures, c .before .before .enum-told3 .given .1, ← c .before .get4 .ensures .is) (c .count-test .ensures)
 
 pub step-test-spec : {M : Type 1} → statement M
 step-test-spec =
@@ -69,5 +75,6 @@ step-test-spec =
     enum-told-3
     enum-told-4
     returns-2
+    get4-requires
     count-test-requires
     returns-3)

@@ -4,13 +4,9 @@ use Prim.Native.Nat.{_+_}
 use native.Mathlib.Omega.{arith}
 use borrow.Author.Tests.{lt-leb, le-leb}
 use Rattle.states.specs.Limits.{maxPeriods}
-use Rattle.states.specs.States.{stateOf}
 use Rattle.states.specs.Refusals.{countTest}
 use Rattle.states.proofs.count_test.Statement.{statement}
 use Rattle.states.proofs.count_test.Tie as tie
-
-get4-requires : tie.Need-get4-requires
-get4-requires c κs = search needs
 
 sub-left : tie.Need-sub-left
 sub-left c = search needs
@@ -19,16 +15,16 @@ cast-left : tie.Need-cast-left
 cast-left c = search needs
 
 returns : tie.Need-returns
-unfolding stateOf countTest
+unfolding countTest
 returns c =
-    let g = c .before .get4 in
-    rw (← g .ensures .is, lt-leb (g .result + c .before .before .before .args .n) maxPeriods (omega arith))
+    let a = c .before .args in
+    rw (lt-leb (a .taken + a .n) maxPeriods (omega arith))
 
 returns-2 : tie.Need-returns-2
-unfolding stateOf countTest
+unfolding countTest
 returns-2 c =
-    let g = c .before .get4 in
-    rw (← g .ensures .is, le-leb (g .result + c .before .before .before .args .n) maxPeriods (omega arith))
+    let a = c .before .args in
+    rw (le-leb (a .taken + a .n) maxPeriods (omega arith))
 
 pub count-test-spec : {M : Type 1} → statement M
-count-test-spec = tie.close (tie.spec get4-requires sub-left cast-left returns returns-2)
+count-test-spec = tie.close (tie.spec sub-left cast-left returns returns-2)

@@ -1,0 +1,83 @@
+-- A loop that has taken a trace's first k periods, with older values left in second bits.
+use Prim.Native.Nat.{ℕ, _+_, _-_, _≤_, _<_}
+use native.Mathlib.Numerals.{add-one}
+use native.Mathlib.Omega.{arith}
+use mathlib.Core.Bool.{true, false}
+use mathlib.Core.List.{List}
+use mathlib.Core.Path.{_≡_, refl, sym, ap, _∙_}
+use borrow.Author.Tests.{eq-eqb, ne-eqb}
+use lib.ListN.{length, getD, drop}
+use Rattle.records.specs.Holding.{AllBytes}
+use Rattle.periods.specs.Traces.{periodAt, markedAt, periodsOf}
+use Rattle.periods.proofs.Traces.{length-periodsOf}
+use Rattle.layout.specs.Images.{rowCount, imageOf}
+use Rattle.states.specs.Limits.{headBytes}
+use Rattle.states.specs.States.{State, stateOf, stateBytes, allAtMost}
+use Rattle.states.proofs.States.{stateBytes-stateOf}
+use Rattle.machine.specs.Machine.{afterPeriods}
+use Rattle.machine.specs.Computing.{trimmed, Working, Advanced}
+use Rattle.machine.specs.Premises.{Ready, goesOn}
+use Rattle.machine.proofs.Machine.{after-snoc}
+use Rattle.machine.proofs.Trimming.{trimmed-plain, plain-small, trimmed-at}
+use Rattle.machine.proofs.Steps.{ready-long, later-read, later-ready}
+
+-- the bytes stand for what the first k periods leave of the state
+pub record Took (image state trace : List ℕ) (k : ℕ) (l : List ℕ) : Type 0 where
+  pub same-length : length l ≡ length state
+  pub stands : trimmed l ≡ stateBytes (afterPeriods (imageOf image) (stateOf state) (periodsOf trace k))
+  pub small : allAtMost 3 (drop headBytes l) ≡ true
+
+module _ (image state trace : List ℕ) (n : ℕ) (h : Ready image state n) where
+  abbrev reached : ℕ → State
+  reached k = afterPeriods (imageOf image) (stateOf state) (periodsOf trace k)
+
+  pub took-none : AllBytes state → Took image state trace 0 state
+  unfolding periodsOf afterPeriods
+  took-none bytes =
+      record {
+        same-length = refl;
+        stands = trimmed-plain (rowCount image) state (h .sound) ∙ sym (stateBytes-stateOf state bytes (omega (arith, ready-long image state n h)));
+        small = plain-small (rowCount image) state (h .sound);
+      }
+
+  module _ (k : ℕ) (l : List ℕ) (t : Took image state trace k l) where
+    pub took-head : headBytes ≤ length l
+    took-head = omega (arith, t .same-length, ready-long image state n h)
+
+    -- the next period can be taken
+    pub took-working : k < n → Working image l 1
+    took-working i =
+        let e : length (periodsOf trace k) ≡ k = length-periodsOf trace k in
+        let g = later-ready image state n h (periodsOf trace k) (omega arith) in
+        record { ready = rw (t .stands) record { good = g .good; sound = g .sound; room = omega (arith, g .room) }; small = t .small }
+
+    pub took-next : k < n → (later : List ℕ) → length later ≡ length l → Advanced image l (periodAt trace k) later → Took image state trace (k + 1) later
+    unfolding periodsOf
+    took-next i later s a =
+        let w = periodsOf trace k in
+        let e : length w ≡ k = length-periodsOf trace k in
+        record {
+          same-length = s ∙ t .same-length;
+          stands = a .is
+              ∙ rw (t .stands, later-read image state n h w (omega arith), add-one k)
+              (ap stateBytes (sym (after-snoc (imageOf image) (stateOf state) w (periodAt trace k))));
+          small = a .small;
+        }
+
+    -- its first byte is the outcome
+    took-outcome : getD l 0 0 ≡ reached k .outcome
+    unfolding stateBytes
+    took-outcome = sym (trimmed-at l took-head 0 (omega arith)) ∙ ap (λ (b : List ℕ). getD b 0 0) (t .stands)
+
+    -- whether record k is taken
+    pub goes-on : getD l 0 0 ≡ 0 → markedAt trace k ≡ true → goesOn image state trace k ≡ true
+    unfolding goesOn
+    goes-on o m = rw (eq-eqb (reached k .outcome) 0 (sym took-outcome ∙ o)) m
+
+    pub stops-unmarked : getD l 0 0 ≡ 0 → markedAt trace k ≡ false → goesOn image state trace k ≡ false
+    unfolding goesOn
+    stops-unmarked o m = rw (eq-eqb (reached k .outcome) 0 (sym took-outcome ∙ o)) m
+
+    pub stops-decided : ¬ (getD l 0 0 ≡ 0) → goesOn image state trace k ≡ false
+    unfolding goesOn
+    stops-decided o = rw (ne-eqb (reached k .outcome) 0 (λ e. o (took-outcome ∙ e)))

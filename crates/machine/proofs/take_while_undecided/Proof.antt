@@ -1,0 +1,129 @@
+-- `machine::take_while_undecided` meets its contract: after k turns the state stands for what the first k periods leave, and none of the
+-- first k records is the last.
+use Prim.Native.Nat.{_-_, _≤_}
+use native.Mathlib.Omega.{arith}
+use native.Mathlib.Nat.{sub-zero}
+use mathlib.Core.Logic.{⊎-elim}
+use mathlib.Core.Path.{_≡_, sym, _∙_}
+use borrow.Author.Tests.{eqb-true, eqb-false}
+use Rattle.records.specs.Holding.{AllBytes}
+use Rattle.records.specs.Refusals.{firstFailing}
+use Rattle.records.proofs.Searches.{failing-next, failing-here, failing-end}
+use Rattle.machine.specs.Premises.{goesOn}
+use Rattle.machine.proofs.Taking.{Took, took-none, took-head, took-working, took-next, goes-on, stops-unmarked, stops-decided}
+use Rattle.machine.proofs.take_while_undecided.Statement.{statement}
+use Rattle.machine.proofs.take_while_undecided.Tie as tie
+
+abbrev Inv-loop : tie.InvT-loop
+Inv-loop image state₀ trace n k₀ state k =
+    (k ≤ n) × Took image state₀ trace k state × (firstFailing (goesOn image state₀ trace) 0 n ≡ firstFailing (goesOn image state₀ trace) k (n - k))
+
+abbrev μ-loop : tie.MeasureT-loop
+μ-loop image state₀ trace n k₀ state k = n - k
+
+-- src/lib.rt:171:5
+loop-holds : tie.Need-loop-holds Inv-loop μ-loop
+loop-holds c =
+    let a = c .before .before .before .args in
+    let bytes : AllBytes (a .state .now) = record { below = λ i. c .before .slice-known .given i .fits } in
+    (omega arith, took-none (a .image .now) (a .state .now) (a .trace .now) (a .n) (c .before .before .before .pre .0) bytes, rw sub-zero)
+
+-- src/lib.rt:171:20
+slice-read-if1 : tie.Need-slice-read-if1 Inv-loop μ-loop
+slice-read-if1 c =
+    let p = c .before .before in
+    let s = p .before .before .before .before in
+    let a = s .args in
+    let l = p .loop in
+    omega (arith, took-head (a .image .now) (a .state .now) (a .trace .now) (a .n) (s .pre .0) (l .k) _ (l .inv .1))
+
+-- src/lib.rt:171:37
+is-marked-requires : tie.Need-is-marked-requires Inv-loop μ-loop
+is-marked-requires c κs = omega (arith, c .before .before .before .before .before .before .before .pre .1)
+
+-- src/lib.rt:172:31
+read-period-requires : tie.Need-read-period-requires Inv-loop μ-loop
+read-period-requires c κs = omega (arith, c .before .before .before .before .before .before .before .before .before .before .pre .1)
+
+-- src/lib.rt:172:9
+advance-requires : tie.Need-advance-requires Inv-loop μ-loop
+advance-requires c κs =
+    let p = c .before .before .before .before .before .before .before in
+    let s = p .before .before .before .before in
+    let a = s .args in
+    let l = p .loop in
+    took-working (a .image .now) (a .state .now) (a .trace .now) (a .n) (s .pre .0) (l .k) _ (l .inv .1) (omega arith)
+
+-- src/lib.rt:173:9
+add-k : tie.Need-add-k Inv-loop μ-loop
+add-k c = omega arith
+
+-- src/lib.rt:171:5
+loop-less : tie.Need-loop-less Inv-loop μ-loop
+loop-less c = omega arith
+
+-- src/lib.rt:171:5
+loop-again : tie.Need-loop-again Inv-loop μ-loop
+loop-again c =
+    let p = c .before .before .before .before .before .before .before .before .before .before in
+    let s = p .before .before .before .before in
+    let a = s .args in
+    let l = p .loop in
+    let t = c .before .before .advance in
+    let m = c .before .before .before .before .before in
+    let g = goes-on (a .image .now) (a .state .now) (a .trace .now) (a .n) (s .pre .0) (l .k) _ (l .inv .1) (eqb-true _ _ (m .before .before .if1 .taken)) (sym (m .before .is-marked .ensures) ∙ m .if2 .taken) in (
+      omega arith,
+      took-next (a .image .now) (a .state .now) (a .trace .now) (a .n) (s .pre .0) (l .k) _ (l .inv .1) (omega arith) _ (t .kept .1 .0) (rw (← c .before .before .before .read-period .ensures .is) (t .ensures)),
+      l .inv .2 ∙ failing-next (goesOn (a .image .now) (a .state .now) (a .trace .now)) (l .k) (a .n) (omega arith) g,
+    )
+
+-- src/lib.rt:175:5
+trim-requires : tie.Need-trim-requires Inv-loop μ-loop
+trim-requires c κs =
+    let p = c .before .before in
+    let s = p .before .before .before .before in
+    let a = s .args in
+    let l = p .loop in
+    took-head (a .image .now) (a .state .now) (a .trace .now) (a .n) (s .pre .0) (l .k) _ (l .inv .1)
+
+-- src/lib.rt:166:1
+same-length : tie.Need-same-length Inv-loop μ-loop
+same-length c = c .before .before .trim .kept .0 ∙ c .before .before .before .before .before .loop .inv .1 .same-length
+
+-- src/lib.rt:166:1
+returns : tie.Need-returns Inv-loop μ-loop
+returns c =
+    let p = c .before .before .before .before .before in
+    let s = p .before .before .before .before in
+    let a = s .args in
+    let l = p .loop in
+    let g = goesOn (a .image .now) (a .state .now) (a .trace .now) in
+    record {
+      count = sym (l .inv .2
+          ∙ ⊎-elim
+          (λ w. failing-here g (l .k) (a .n) (w .0 .taken)
+          (stops-unmarked (a .image .now) (a .state .now) (a .trace .now) (a .n) (s .pre .0) (l .k) _ (l .inv .1) (eqb-true _ _ (w .2 .taken)) (sym (w .3 .ensures) ∙ w .4 .left)))
+          (⊎-elim
+          (λ w. failing-here g (l .k) (a .n) (w .0 .taken) (stops-decided (a .image .now) (a .state .now) (a .trace .now) (a .n) (s .pre .0) (l .k) _ (l .inv .1) (eqb-false _ _ (w .2 .left))))
+          (λ w. failing-end g (l .k) (a .n) (w .left)))
+          (c .before .before .before .before .loop-test .came));
+      leaves = c .before .before .trim .ensures ∙ l .inv .1 .stands;
+    }
+
+pub take-while-undecided-spec : {M : Type 1} → statement M
+take-while-undecided-spec =
+    tie.close
+    (tie.spec
+    Inv-loop
+    μ-loop
+    loop-holds
+    slice-read-if1
+    is-marked-requires
+    read-period-requires
+    advance-requires
+    add-k
+    loop-less
+    loop-again
+    trim-requires
+    same-length
+    returns)

@@ -1,0 +1,124 @@
+-- Where the code's loop stops is as far as decide reads, and the reply that follows is decide's. Document 02, "Stop reading once it is decided".
+use Prim.Native.Nat.{ℕ, zero, suc, _+_, _≤_, _<_}
+use native.Mathlib.Nat.{zero-add}
+use native.Mathlib.Omega.{arith}
+use mathlib.Core.Bool.{Bool, true, false, _&&_, and-eq-true-iff, false≢true}
+use mathlib.Core.List.{List, _∷_}
+use mathlib.Core.Logic.{⊎-elim}
+use mathlib.Core.Path.{_≡_, refl, ap, _∙_}
+use borrow.Author.Tests.{eqb-true}
+use lib.Dec.{eqb}
+use lib.ListN.{length, getD, take, replicate}
+use lib.Seq.{sets}
+use Rattle.records.specs.declared.Fault.the-variants.{BadPeriod}
+use Rattle.records.specs.declared.Test.the-variants.{Passed, Refused}
+use Rattle.records.specs.Refusals.{firstFailing}
+use Rattle.records.specs.Replies.{replyOf}
+use Rattle.records.proofs.Cases.{true-or-false}
+use Rattle.records.proofs.Refusals.{is-refused}
+use Rattle.records.proofs.Replies.{call-passed, call-refused}
+use Rattle.records.proofs.Searches.{failing-max, failing-below, failing-fails}
+use Rattle.periods.specs.Periods.{Period}
+use Rattle.periods.specs.Traces.{periodRecords, periodsOf, markedAt}
+use Rattle.periods.proofs.Traces.{length-periodsOf, marks-pass, marks-refused}
+use Rattle.layout.specs.Images.{rowCount}
+use Rattle.states.specs.Limits.{headBytes}
+use Rattle.states.specs.States.{State, stateOf, freshBytes}
+use Rattle.states.proofs.Fresh.{freshState, fresh-bytes, fresh-sound, fresh-read}
+use Rattle.states.proofs.States.{sound-passes}
+use Rattle.machine.specs.Premises.{Ready, goesOn, TakesWhile}
+use Rattle.machine.proofs.Steps.{later-read, later-answering}
+use Rattle.runner.specs.Reading.{stateAfterRecords, recordsRead}
+use Rattle.runner.specs.Refusals.{unreadTest, decideTest}
+use Rattle.runner.specs.Calls.{decideAnswer, decisionAnswer, decideReplyBytes, decide}
+use Rattle.runner.proofs.Refusals.{unread-passed}
+use Rattle.runner.proofs.Reading.{openAfter, read-on, read-exactly}
+
+-- the first n of m zeros
+pub zeros-part : (m n : ℕ) → n ≤ m → take {A = ℕ} n (replicate m 0) ≡ replicate n 0
+zeros-part m zero h = refl
+zeros-part zero (suc n) h = absurd (omega arith)
+zeros-part (suc m) (suc n) h = ap (λ (l : List ℕ). 0 ∷ l) (zeros-part m n (omega arith))
+
+second : (a b : Bool) → (a && b) ≡ false → a ≡ true → b ≡ false
+second true b e h = e
+second false b e h = absurd (false≢true h)
+
+module _ (image trace : List ℕ) (u : unreadTest image trace ≡ Passed) where
+  abbrev fresh : List ℕ
+  fresh = freshBytes (rowCount image)
+
+  abbrev total : ℕ
+  total = periodRecords trace
+
+  pub fresh-ready : Ready image fresh total
+  fresh-ready =
+      let b = unread-passed image trace u in
+      let n = rowCount image in
+      record {
+        good = b .0;
+        sound = rw (fresh-bytes n) (sound-passes n (freshState n) (fresh-sound n) (omega arith));
+        room = rw (fresh-read n) (omega (arith, b .2));
+      }
+
+  module _ (r : ℕ) (later : List ℕ) (t : TakesWhile image fresh trace total later r) where
+    abbrev taken : List Period
+    taken = periodsOf trace r
+
+    pub stops-within : r ≤ total
+    stops-within = rw (t .count) (rw zero-add at (failing-max (goesOn image fresh trace) 0 total))
+
+    went-on : (i : ℕ) → i < r → (openAfter image trace i ≡ true) × (markedAt trace i ≡ true)
+    unfolding goesOn stateAfterRecords
+    went-on i l = and-eq-true-iff (openAfter image trace i) (markedAt trace i) .0 (failing-below (goesOn image fresh trace) 0 total i (omega arith) (rw (t .count) at l))
+
+    -- at the end, or decided: so many are read, and all have the mark
+    pub stops-read : ¬ ((r < total) × (openAfter image trace r ≡ true)) → (recordsRead image trace ≡ r) × (decideTest image trace ≡ Passed)
+    unfolding decideTest
+    stops-read stop =
+        let here : r < total → openAfter image trace r ≡ false = λ l. ⊎-elim (λ o. absurd (stop (l, o))) (λ f. f) (true-or-false (openAfter image trace r)) in
+        let e = read-exactly image trace r stops-within (λ i j. went-on i j .0) here in
+        (e, rw (u, e) (marks-pass trace r (λ i l. went-on i l .1)))
+
+    -- undecided before the end: more is read, and the next record has another mark
+    bad-next : r < total → openAfter image trace r ≡ true → markedAt trace r ≡ false
+    unfolding goesOn stateAfterRecords
+    bad-next l o =
+        let f = firstFailing (goesOn image fresh trace) 0 total in
+        let below : f < 0 + total = omega (arith, t .count) in
+        second (openAfter image trace r) (markedAt trace r) (rw (← t .count) at (failing-fails (goesOn image fresh trace) 0 total below)) o
+
+    pub stops-refused : r < total → openAfter image trace r ≡ true → decideTest image trace ≡ Refused BadPeriod r
+    unfolding decideTest
+    stops-refused l o = rw u (marks-refused trace (recordsRead image trace) r (read-on image trace r l o) (λ i j. went-on i j .1) (bad-next l o))
+
+    few-taken : length taken ≤ total
+    few-taken = rw (length-periodsOf trace r) stops-within
+
+    pub left-long : headBytes ≤ length later
+    left-long = rw (t .leaves) (later-answering image fresh total fresh-ready taken few-taken .head)
+
+    left-state : stateOf later ≡ stateAfterRecords image trace r
+    unfolding stateAfterRecords
+    left-state = rw (t .leaves) (later-read image fresh total fresh-ready taken few-taken)
+
+    left-open : getD later 0 0 ≡ stateAfterRecords image trace r .outcome
+    unfolding stateOf
+    left-open = ap (λ (s : State). s .outcome) left-state
+
+    -- ---- the reply
+
+    module _ (area : List ℕ) (room : decideReplyBytes ≤ length area) where
+      pub replies-refused : r < total → eqb (getD later 0 0) 0 ≡ true
+          → sets area 0 (replyOf (Refused BadPeriod r) (decideAnswer 0 0 0 0)) ≡ decide image trace area .reply
+      unfolding decide
+      replies-refused l o =
+          let e = stops-refused l (rw left-open at o) in
+          rw (call-refused (decideTest image trace) _ (tt {0}) (tt {0}) area room (λ p. is-refused e p)) (rw e)
+
+      pub replies-read : ¬ ((r < total) × (getD later 0 0 ≡ 0))
+          → sets area 0 (replyOf Passed (decisionAnswer (stateOf later) r)) ≡ decide image trace area .reply
+      unfolding decide
+      replies-read stop =
+          let e = stops-read (λ p. stop (p .0, left-open ∙ eqb-true _ _ (p .1))) in
+          rw (call-passed (decideTest image trace) _ (tt {0}) (tt {0}) area room (e .1), e .0, left-state)

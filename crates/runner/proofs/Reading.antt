@@ -1,0 +1,108 @@
+-- How far decide reads. Document 02, "Stop reading once it is decided".
+use Prim.Native.Nat.{ℕ, zero, suc, _+_, _≤_, _<_}
+use native.Mathlib.Nat.{zero-add}
+use native.Mathlib.Numerals.{add-one}
+use native.Mathlib.Omega.{arith}
+use mathlib.Core.Bool.{Bool, true, false, cond, false≢true}
+use mathlib.Core.List.{List}
+use mathlib.Core.Logic.{⊎-elim}
+use mathlib.Core.Path.{_≡_, refl, sym, _∙_}
+use borrow.Author.Tests.{eqb-true, eqb-false}
+use Rattle.records.specs.Refusals.{firstFailing}
+use Rattle.records.proofs.Cases.{lt-or-le, true-or-false}
+use Rattle.records.proofs.Searches.{failing-max, failing-below, failing-fails, failing-is, all-pass}
+use Rattle.periods.specs.Traces.{periodRecords, periodAt, periodsOf}
+use Rattle.periods.proofs.Traces.{length-periodsOf}
+use Rattle.layout.specs.Images.{rowCount, imageOf}
+use Rattle.states.specs.States.{stateOf, freshBytes}
+use Rattle.states.proofs.Fresh.{fresh-read}
+use Rattle.machine.specs.Machine.{undecided, counted, afterPeriod, afterPeriods}
+use Rattle.machine.proofs.Machine.{decides-now, after-decided, after-snoc, periods-afterPeriods}
+use Rattle.runner.specs.Reading.{stateAfterRecords, recordsRead}
+
+module _ (image trace : List ℕ) where
+  abbrev pub openAfter : ℕ → Bool
+  openAfter k = undecided (stateAfterRecords image trace k)
+
+  pub few-read : recordsRead image trace ≤ periodRecords trace
+  unfolding recordsRead
+  few-read = rw zero-add at (failing-max openAfter 0 (periodRecords trace))
+
+  -- no record is read after the decision
+  pub open-before : (k : ℕ) → k < recordsRead image trace → openAfter k ≡ true
+  unfolding recordsRead
+  open-before k l = failing-below openAfter 0 (periodRecords trace) k (omega arith) l
+
+  next-state : (k : ℕ) → stateAfterRecords image trace (suc k) ≡ afterPeriod (imageOf image) (periodAt trace k) (stateAfterRecords image trace k)
+  unfolding stateAfterRecords periodsOf
+  next-state k = after-snoc (imageOf image) (stateOf (freshBytes (rowCount image))) (periodsOf trace k) (periodAt trace k)
+
+  open-first : openAfter 0 ≡ true
+  unfolding stateAfterRecords periodsOf afterPeriods
+  open-first = rw (fresh-read (rowCount image))
+
+  taken-after : (k : ℕ) → stateAfterRecords image trace k .periods ≡ k
+  unfolding stateAfterRecords
+  taken-after k =
+      periods-afterPeriods (imageOf image) (stateOf (freshBytes (rowCount image))) (periodsOf trace k)
+      ∙ rw (fresh-read (rowCount image), length-periodsOf trace k) (zero-add k)
+
+  -- a period after which the state is decided for the first time is the decision period
+  decided-now : (k : ℕ) → openAfter k ≡ true → openAfter (suc k) ≡ false → stateAfterRecords image trace (suc k) .decision ≡ suc k
+  decided-now k o d =
+      let s = stateAfterRecords image trace k in
+      rw (next-state k)
+      (decides-now (imageOf image) (periodAt trace k) s (eqb-true (s .outcome) 0 o) (rw (next-state k) at (eqb-false (stateAfterRecords image trace (suc k) .outcome) 0 d))
+      ∙ rw (taken-after k) (add-one k))
+
+  -- a state that is undecided was so before
+  open-earlier : (k : ℕ) → openAfter (suc k) ≡ true → openAfter k ≡ true
+  unfolding counted
+  open-earlier k o =
+      ⊎-elim (λ t. t)
+      (λ f. let s = stateAfterRecords image trace k in
+      let no = eqb-false (s .outcome) 0 f in
+      let is = eqb-true (stateAfterRecords image trace (suc k) .outcome) 0 o in
+      absurd (no (rw (next-state k, after-decided (imageOf image) (periodAt trace k) s no) at is)))
+      (true-or-false (openAfter k))
+
+  open-below : (k j : ℕ) → j ≤ k → openAfter k ≡ true → openAfter j ≡ true
+  open-below zero j l o = let e : j ≡ 0 = omega arith in rw e o
+  open-below (suc k) j l o =
+      ⊎-elim (λ (h : j < suc k). open-below k j (omega arith) (open-earlier k o)) (λ (h : suc k ≤ j). let e : j ≡ suc k = omega arith in rw e o) (lt-or-le j (suc k))
+
+  -- so a record is read where those before it leave the state undecided, and only there
+  pub read-on : (k : ℕ) → k < periodRecords trace → openAfter k ≡ true → k < recordsRead image trace
+  unfolding recordsRead
+  read-on k i o =
+      let f = firstFailing openAfter 0 (periodRecords trace) in
+      ⊎-elim (λ h. h)
+      (λ (h : f ≤ k).
+      let below : f < 0 + periodRecords trace = omega arith in
+      absurd (false≢true (sym (failing-fails openAfter 0 (periodRecords trace) below) ∙ open-below k f h o)))
+      (lt-or-le k f)
+
+  pub read-no-more : (k : ℕ) → openAfter k ≡ false → recordsRead image trace ≤ k
+  read-no-more k o = ⊎-elim (λ h. absurd (false≢true (sym o ∙ open-before k h))) (λ h. h) (lt-or-le k (recordsRead image trace))
+
+  -- it is as many as leave the state undecided up to there, and all or decided there
+  pub read-exactly : (r : ℕ) → r ≤ periodRecords trace → ((i : ℕ) → i < r → openAfter i ≡ true) → (r < periodRecords trace → openAfter r ≡ false) → recordsRead image trace ≡ r
+  unfolding recordsRead
+  read-exactly r h below here =
+      ⊎-elim
+      (λ (l : r < periodRecords trace). failing-is openAfter (periodRecords trace) r l below (here l))
+      (λ (l : periodRecords trace ≤ r). let e : periodRecords trace ≡ r = omega arith in rw e (all-pass openAfter r below))
+      (lt-or-le r (periodRecords trace))
+
+  -- "That number is the decision period, or the trace's record count when undecided."
+  pub read-is : let s = stateAfterRecords image trace (recordsRead image trace) in
+      recordsRead image trace ≡ cond (undecided s) (periodRecords trace) (s .decision)
+  read-is = of (recordsRead image trace) refl
+    where
+      of : (r : ℕ) → recordsRead image trace ≡ r → r ≡ cond (openAfter r) (periodRecords trace) (stateAfterRecords image trace r .decision)
+      of zero e = rw open-first (⊎-elim (λ (h : 0 < periodRecords trace). absurd (let l = read-on 0 h open-first in omega arith)) (λ h. omega arith) (lt-or-le 0 (periodRecords trace)))
+      of (suc k) e =
+          ⊎-elim
+          (λ t. rw t (⊎-elim (λ (h : suc k < periodRecords trace). absurd (let l = read-on (suc k) h t in omega arith)) (λ h. let f = few-read in omega arith) (lt-or-le (suc k) (periodRecords trace))))
+          (λ f. rw f (sym (decided-now k (open-before k (omega arith)) f)))
+          (true-or-false (openAfter (suc k)))

@@ -1,0 +1,129 @@
+-- What holds of decide's answers. Document 02, "Stop reading once it is decided".
+use Prim.Native.Nat.{ℕ, _≤_, _<_}
+use native.Mathlib.Omega.{arith}
+use mathlib.Core.Bool.{true, false}
+use mathlib.Core.List.{List}
+use mathlib.Core.Path.{_≡_, sym, ap, _∙_}
+use lib.ListN.{length}
+use Rattle.records.specs.declared.Fault.the-variants.{BadPeriod}
+use Rattle.records.specs.declared.Test.the-variants.{Passed, Refused}
+use Rattle.records.proofs.Refusals.{first-passed}
+use Rattle.records.proofs.Replies.{call-passed}
+use Rattle.periods.specs.Traces.{periodRecords, periodsOf, markedAt, marksTest, traceTest}
+use Rattle.periods.proofs.Traces.{length-periodsOf, marks-passed, marks-pass, marks-refused}
+use Rattle.periods.proofs.First.{first-count, first-length, first-marked, first-periods, first-same}
+use Rattle.layout.specs.Images.{rowCount, imageOf}
+use Rattle.states.specs.States.{stateOf, freshBytes}
+use Rattle.states.proofs.Refusals.{passes-count}
+use Rattle.machine.specs.Machine.{undecided, afterPeriods}
+use Rattle.machine.specs.Premises.{Ready}
+use Rattle.machine.proofs.Steps.{later-read}
+use Rattle.runner.specs.Reading.{stateAfterRecords, recordsRead}
+use Rattle.runner.specs.Refusals.{readyTest, runTest, unreadTest, decideTest}
+use Rattle.runner.specs.Calls.{stepReplyBytes, decideReplyBytes, run, decide}
+use Rattle.runner.specs.Stopping.{readFirst, SameAsRun, StartsAs}
+use Rattle.runner.proofs.Refusals.{unread-passed, unread-passes}
+use Rattle.runner.proofs.Reading.{few-read, open-before, read-on, read-no-more, read-exactly}
+use Rattle.runner.proofs.Loop.{fresh-ready}
+
+-- ---- refusal 11
+
+-- a record of another mark refuses exactly where those before it leave the state undecided
+module _ (image trace : List ℕ) (u : unreadTest image trace ≡ Passed) (k : ℕ) (i : k < periodRecords trace)
+    (m : (j : ℕ) → j < k → markedAt trace j ≡ true) (bad : markedAt trace k ≡ false) where
+  pub bad-mark-refused : undecided (stateAfterRecords image trace k) ≡ true → decideTest image trace ≡ Refused BadPeriod k
+  unfolding decideTest
+  bad-mark-refused o = rw u (marks-refused trace (recordsRead image trace) k (read-on image trace k i o) m bad)
+
+  pub bad-mark-unread : undecided (stateAfterRecords image trace k) ≡ false → decideTest image trace ≡ Passed
+  unfolding decideTest
+  bad-mark-unread o =
+      let l = read-no-more image trace k o in
+      rw u (marks-pass trace (recordsRead image trace) (λ j h. m j (omega arith)))
+
+-- ---- run over the records read
+
+-- what passed tests show
+module _ (image trace : List ℕ) (t : decideTest image trace ≡ Passed) where
+  unread : unreadTest image trace ≡ Passed
+  unfolding decideTest
+  unread = first-passed (unreadTest image trace) (marksTest trace (recordsRead image trace)) t .0
+
+  read-marked : (i : ℕ) → i < recordsRead image trace → markedAt trace i ≡ true
+  unfolding decideTest
+  read-marked = marks-passed trace (recordsRead image trace) (first-passed (unreadTest image trace) (marksTest trace (recordsRead image trace)) t .1)
+
+module _ (image trace area reply : List ℕ) (t : decideTest image trace ≡ Passed) (a : decideReplyBytes ≤ length area) (b : stepReplyBytes ≤ length reply) where
+  abbrev read : ℕ
+  read = recordsRead image trace
+
+  abbrev front : List ℕ
+  front = readFirst image trace
+
+  abbrev fresh : List ℕ
+  fresh = freshBytes (rowCount image)
+
+  as-many : periodRecords front ≡ read
+  as-many = first-count trace read (few-read image trace)
+
+  front-marked : (i : ℕ) → i < read → markedAt front i ≡ true
+  front-marked i l = first-marked trace read (few-read image trace) i l ∙ read-marked image trace t i l
+
+  ready : Ready image fresh (periodRecords trace)
+  ready = fresh-ready image trace (unread image trace t)
+
+  run-accepted : runTest image fresh front ≡ Passed
+  unfolding runTest readyTest traceTest
+  run-accepted =
+      rw (ready .good, ready .sound, first-length trace read (few-read image trace), as-many, marks-pass front read front-marked)
+      (passes-count (stateOf fresh .periods) read (omega (arith, ready .room, few-read image trace)))
+
+  left-by-run : stateOf (run image fresh front reply .buffers) ≡ stateAfterRecords image trace read
+  unfolding run stateAfterRecords
+  left-by-run =
+      let w = periodsOf trace read in
+      let e : length w ≡ read = length-periodsOf trace read in
+      rw (call-passed (runTest image fresh front) _ fresh _ reply b run-accepted, as-many, first-periods trace read (few-read image trace) read (omega arith))
+      (later-read image fresh (periodRecords trace) ready w (omega (arith, few-read image trace)))
+
+  pub same-as-run : SameAsRun image trace area reply
+  unfolding decide
+  same-as-run =
+      record {
+        as-many = as-many;
+        run-accepted = run-accepted;
+        same = rw (left-by-run, call-passed (decideTest image trace) _ (tt {0}) (tt {0}) area a t);
+      }
+
+-- ---- traces that go on differently after the decision
+
+module _ (image t u area : List ℕ) (p : decideTest image t ≡ Passed) (d : undecided (stateAfterRecords image t (recordsRead image t)) ≡ false) (s : StartsAs image t u) where
+  abbrev last : ℕ
+  last = recordsRead image t
+
+  u-long : last ≤ periodRecords u
+  u-long = first-same t u last (few-read image t) (s .starts)
+
+  same-marks : (i : ℕ) → i < last → markedAt u i ≡ markedAt t i
+  same-marks i l =
+      sym (first-marked u last u-long i l) ∙ ap (λ (x : List ℕ). markedAt x i) (s .starts) ∙ first-marked t last (few-read image t) i l
+
+  same-states : (j : ℕ) → j ≤ last → stateAfterRecords image u j ≡ stateAfterRecords image t j
+  unfolding stateAfterRecords
+  same-states j l =
+      ap (afterPeriods (imageOf image) (stateOf (freshBytes (rowCount image))))
+      (sym (first-periods u last u-long j l) ∙ ap (λ (x : List ℕ). periodsOf x j) (s .starts) ∙ first-periods t last (few-read image t) j l)
+
+  same-read : recordsRead image u ≡ last
+  same-read =
+      read-exactly image u last u-long (λ i l. rw (same-states i (omega arith)) (open-before image t i l)) (λ l. rw (same-states last (omega arith)) d)
+
+  accepted : decideTest image u ≡ Passed
+  unfolding decideTest
+  accepted =
+      rw (unread-passes image u (unread-passed image t (unread image t p) .0) (s .whole) (s .few), same-read)
+      (marks-pass u last (λ i l. same-marks i l ∙ read-marked image t p i l))
+
+  pub goes-on-alike : decide image u area ≡ decide image t area
+  unfolding decide
+  goes-on-alike = rw (accepted, p, same-read, same-states last (omega arith))
