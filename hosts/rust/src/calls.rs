@@ -1,13 +1,14 @@
-//! The four calls as the archive has them, on byte slices of any length.
+//! The five calls as the archive has them, on byte slices of any length.
 //!
 //! The result is 1, or 0 where the reply area is too short: then nothing is written. A refusal
 //! writes the reply alone. Every field is low byte first:
 //!
-//! | reply of | bytes 0 to 3 | 4 to 7 | 8 to 15 | 16 to 19 | 20 to 23 |
-//! |---|---|---|---|---|---|
-//! | compile | number | rows | place | | |
-//! | begin | number | 0 | place | | |
-//! | step, run | number | verdict | place | blame | decision period |
+//! | reply of | bytes 0 to 3 | 4 to 7 | 8 to 15 | 16 to 19 | 20 to 23 | 24 to 27 | 28 to 31 |
+//! |---|---|---|---|---|---|---|---|
+//! | compile | number | rows | place | | | | |
+//! | begin | number | 0 | place | | | | |
+//! | step, run | number | verdict | place | blame | decision period | | |
+//! | decide | number | outcome | place | blame | decision period | records read | 0 |
 //!
 //! That the areas of one call don't overlap, the borrow checker sees to.
 
@@ -47,6 +48,15 @@ mod archive {
             image_length: usize,
             state: *mut u8,
             state_length: usize,
+            trace: *const u8,
+            trace_length: usize,
+            reply: *mut u8,
+            reply_length: usize,
+        ) -> u32;
+
+        pub fn monitor_decide(
+            image: *const u8,
+            image_length: usize,
             trace: *const u8,
             trace_length: usize,
             reply: *mut u8,
@@ -113,6 +123,21 @@ pub fn run(image: &[u8], state: &mut [u8], trace: &[u8], reply: &mut [u8]) -> u3
             image.len(),
             state.as_mut_ptr(),
             state.len(),
+            trace.as_ptr(),
+            trace.len(),
+            reply.as_mut_ptr(),
+            reply.len(),
+        )
+    }
+}
+
+/// Reads a trace from its first record to the decision. Its reply has 32 bytes.
+pub fn decide(image: &[u8], trace: &[u8], reply: &mut [u8]) -> u32 {
+    // SAFETY: as in `compile`.
+    unsafe {
+        archive::monitor_decide(
+            image.as_ptr(),
+            image.len(),
             trace.as_ptr(),
             trace.len(),
             reply.as_mut_ptr(),
