@@ -1,4 +1,4 @@
-/* The plugin contract monitor's calls. libmonitor.a has all of them, librunner.a begin, step and run alone. */
+/* The plugin contract monitor's calls. libmonitor.a has all of them, librunner.a begin, step, run and decide alone. */
 /* docs/HOSTS.md is the page for a host's author; docs/FORMAT.md says what the bytes mean. */
 #ifndef MONITOR_H
 #define MONITOR_H
@@ -83,7 +83,7 @@ enum monitor_refusal {
     MONITOR_REFUSED_BAD_IMAGE = 9,      /* its length, a row or the end record */
     MONITOR_REFUSED_BAD_STATE = 10,     /* its length, or (step, run) not sound */
     MONITOR_REFUSED_BAD_PERIOD = 11,    /* a record's mark, or a length */
-    MONITOR_REFUSED_FULL_COUNT = 12     /* periods taken would pass 4,294,967,295 */
+    MONITOR_REFUSED_FULL_COUNT = 12     /* periods taken would pass 4,294,967,295, or decide's trace has more records */
 };
 
 enum monitor_verdict {
@@ -92,6 +92,13 @@ enum monitor_verdict {
     MONITOR_VERDICT_BROKEN = 2,
     MONITOR_VERDICT_MET_AFTER = 3,
     MONITOR_VERDICT_BROKEN_AFTER = 4
+};
+
+/* What decide gives; also a state's first byte. */
+enum monitor_outcome {
+    MONITOR_OUTCOME_UNDECIDED = 0,
+    MONITOR_OUTCOME_SATISFIED = 1,
+    MONITOR_OUTCOME_VIOLATED = 2
 };
 
 /* Replies. These structs fit the bytes of a reply where the machine has the low byte first, as x86-64 has: */
@@ -129,12 +136,23 @@ struct monitor_run_reply {
     uint32_t decision; /* the decision period, 0 for none */
 };
 
+/* 32 bytes. */
+struct monitor_decide_reply {
+    uint32_t number;
+    uint32_t outcome;
+    uint64_t place;
+    uint32_t blame;
+    uint32_t decision; /* the decision period, 0 for none */
+    uint32_t records;  /* how many were read: the decision period, or all of the trace where it is undecided */
+    uint32_t zero;
+};
+
 /* Each call takes areas that don't overlap, as pointer (not NULL) and length in bytes. */
 /* The result is 1, or 0 where the reply area is too short: then nothing is written. */
 /* A refusal writes the reply alone. Calls keep nothing between them, so different states may be stepped in different threads. */
 
 /* Writes the contract's image into the first MONITOR_IMAGE_BYTES(rows) bytes of the buffer, and no others. */
-/* Begin, step and run take just those bytes as the image. Needs up to 34 KB of stack. */
+/* The other calls take just those bytes as the image. Needs up to 34 KB of stack. */
 uint32_t monitor_compile(const uint8_t *contract, size_t contract_length,
                          uint8_t *image, size_t image_length,
                          uint8_t *reply, size_t reply_length);
@@ -155,6 +173,13 @@ uint32_t monitor_run(const uint8_t *image, size_t image_length,
                      uint8_t *state, size_t state_length,
                      const uint8_t *trace, size_t trace_length,
                      uint8_t *reply, size_t reply_length);
+
+/* Reads a trace of zero or more period records up to the one that decides. It needs no state: it starts from zeros, as begin */
+/* would leave them. Records after the decision are not looked at, so a wrong mark there is no refusal. Needs about 6 KB of */
+/* stack. */
+uint32_t monitor_decide(const uint8_t *image, size_t image_length,
+                        const uint8_t *trace, size_t trace_length,
+                        uint8_t *reply, size_t reply_length);
 
 #ifdef __cplusplus
 }

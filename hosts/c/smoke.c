@@ -1,5 +1,5 @@
-/* A host that only runs images, linked with librunner.a alone: an image by hand through begin, steps, run and refusals. */
-/* The header's structs are its reply areas. What it prints is held to the file smoke.expected. */
+/* A host that only runs images, linked with librunner.a alone: an image by hand through begin, steps, run, decide and */
+/* refusals. The header's structs are its reply areas. What it prints is held to the file smoke.expected. */
 #include "testing.h"
 
 /* ---- the header's structs and numbers, once more as documents 01 and 02 and the calls' replies have them */
@@ -32,6 +32,15 @@ FIELD(monitor_run_reply, place, 8, 8);
 FIELD(monitor_run_reply, blame, 16, 4);
 FIELD(monitor_run_reply, decision, 20, 4);
 SIZE(monitor_run_reply, 24);
+
+FIELD(monitor_decide_reply, number, 0, 4);
+FIELD(monitor_decide_reply, outcome, 4, 4);
+FIELD(monitor_decide_reply, place, 8, 8);
+FIELD(monitor_decide_reply, blame, 16, 4);
+FIELD(monitor_decide_reply, decision, 20, 4);
+FIELD(monitor_decide_reply, records, 24, 4);
+FIELD(monitor_decide_reply, zero, 28, 4);
+SIZE(monitor_decide_reply, 32);
 
 #define KIND(name, number) _Static_assert(MONITOR_KIND_##name == (number), #name)
 KIND(DUTY, 1);
@@ -75,6 +84,11 @@ VERDICT(BROKEN, 2);
 VERDICT(MET_AFTER, 3);
 VERDICT(BROKEN_AFTER, 4);
 
+#define OUTCOME(name, number) _Static_assert(MONITOR_OUTCOME_##name == (number), #name)
+OUTCOME(UNDECIDED, 0);
+OUTCOME(SATISFIED, 1);
+OUTCOME(VIOLATED, 2);
+
 #define PARTY(name, number) _Static_assert(MONITOR_PARTY_##name == (number), #name)
 PARTY(NONE, 0);
 PARTY(1, 1);
@@ -107,7 +121,7 @@ static const uint8_t records[] = {
 enum { STATE_BYTES = MONITOR_HEAD_BYTES + 3 };
 static uint8_t stepped[STATE_BYTES], other[STATE_BYTES], before[STATE_BYTES];
 
-/* Ends a line; the reply in it must be the one that document 01 gives. */
+/* Ends a line; the reply in it must be the one that documents 01 and 02 give. */
 static void end_line(int good)
 {
     printf("\n");
@@ -134,6 +148,17 @@ static void run(const char *label, uint8_t *values, size_t length, struct monito
     uint32_t result = monitor_run(rows, sizeof rows, values, STATE_BYTES, records, length, (uint8_t *)&r, sizeof r);
     printf("%s:", label);
     PUT(result, r.number, r.verdict, r.place, r.blame, r.decision);
+    end_line(result == 1 && memcmp(&r, &want, sizeof r) == 0);
+}
+
+static void decide(const char *label, size_t rows_length, size_t length, struct monitor_decide_reply want)
+{
+    struct monitor_decide_reply r;
+
+    memset(&r, 0xff, sizeof r);
+    uint32_t result = monitor_decide(rows, rows_length, records, length, (uint8_t *)&r, sizeof r);
+    printf("%s:", label);
+    PUT(result, r.number, r.outcome, r.place, r.blame, r.decision, r.records, r.zero);
     end_line(result == 1 && memcmp(&r, &want, sizeof r) == 0);
 }
 
@@ -175,9 +200,25 @@ static void runs(void)
     run("run of no record", stepped, 0, want);
 }
 
+/* Without a state. Of the four records the third decides. */
+static void decides(void)
+{
+    static const struct monitor_decide_reply nothing = {.outcome = MONITOR_OUTCOME_UNDECIDED};
+    static const struct monitor_decide_reply open = {.outcome = MONITOR_OUTCOME_UNDECIDED, .records = 2};
+    static const struct monitor_decide_reply violated = {.outcome = MONITOR_OUTCOME_VIOLATED, .blame = MONITOR_PARTY_1,
+                                                         .decision = 3, .records = 3};
+
+    decide("decide", sizeof rows, sizeof records, violated);
+    decide("decide of 3 records", sizeof rows, 3 * MONITOR_PERIOD_BYTES, violated);
+    decide("decide of 2 records", sizeof rows, 2 * MONITOR_PERIOD_BYTES, open);
+    decide("decide of no record", sizeof rows, 0, nothing);
+}
+
 static void refusals(void)
 {
     static const struct monitor_run_reply bad_period = {.number = MONITOR_REFUSED_BAD_PERIOD};
+    static const struct monitor_decide_reply bad_trace = {.number = MONITOR_REFUSED_BAD_PERIOD};
+    static const struct monitor_decide_reply no_image = {.number = MONITOR_REFUSED_BAD_IMAGE};
     static const struct monitor_step_reply bad_image = {.number = MONITOR_REFUSED_BAD_IMAGE};
     static const struct monitor_step_reply bad_state = {.number = MONITOR_REFUSED_BAD_STATE};
 
@@ -187,16 +228,22 @@ static void refusals(void)
     memset(other, 3, sizeof other);
     memcpy(before, other, sizeof other);
     step("step on an unsound state", sizeof rows, other, records, bad_state);
+    decide("decide of 19 bytes", sizeof rows, 19, bad_trace);
+    decide("decide with a short image", sizeof rows - 1, 19, no_image);
 }
 
-static void short_area(void)
+static void short_areas(void)
 {
     struct monitor_step_reply r;
+    struct monitor_decide_reply d;
 
     memset(&r, 0xff, sizeof r);
     uint32_t result = monitor_step(rows, sizeof rows, stepped, sizeof stepped, records, MONITOR_PERIOD_BYTES, (uint8_t *)&r, 23);
     check("23 bytes are too short for a reply", result == 0 && r.number == 0xffffffff && r.decision == 0xffffffff);
     check("the unsound state is kept", memcmp(other, before, sizeof other) == 0);
+    memset(&d, 0xff, sizeof d);
+    result = monitor_decide(rows, sizeof rows, records, sizeof records, (uint8_t *)&d, 31);
+    check("31 bytes are too short for decide's", result == 0 && d.number == 0xffffffff && d.zero == 0xffffffff);
 }
 
 int main(void)
@@ -204,7 +251,8 @@ int main(void)
     begins();
     steps();
     runs();
+    decides();
     refusals();
-    short_area();
+    short_areas();
     return faults != 0;
 }
