@@ -35,6 +35,7 @@ try_host() {
 # The runner stands without the compiler.
 try_host smoke "$runner"
 try_host samples "$monitor"
+try_host decide "$monitor"
 try_host reading "$monitor"
 try_host compile "$monitor"
 try_host verdicts "$monitor"

@@ -1,6 +1,6 @@
-/* Compile at its edges: refusals, buffers and reply areas; and the contract of "Watch" through all four calls. */
-/* Document 01, "Calls", "Replies that refuse" and "Watch"; document 02, "Duties with a deadline" and "Duties that both parties */
-/* own". What it prints is held to the file compile.expected. */
+/* Compile at its edges: refusals, buffers and reply areas; and the contract of "Watch" through all five calls. */
+/* Document 01, "Calls", "Replies that refuse" and "Watch"; document 02, "Duties with a deadline", "Duties that both parties */
+/* own" and "Stop reading once it is decided". What it prints is held to the file compile.expected. */
 #include "testing.h"
 
 _Static_assert(MONITOR_BUFFER_BYTES(1, 0) == 776, "776 bytes take one record that is no deadline");
@@ -27,7 +27,7 @@ static const struct bytes watched =
 static const struct bytes periods =
     BYTES(MONITOR_PERIOD(1, 1), MONITOR_PERIOD(0, 0), MONITOR_PERIOD(2, 0), MONITOR_PERIOD(1, 1));
 
-/* ---- the macros, and "Watch" by all four calls */
+/* ---- the macros, and "Watch" by all five calls */
 
 /* The macros' bytes, also where a mask has a high byte. */
 static void records(void)
@@ -69,6 +69,10 @@ static void watch(void)
     struct monitor_run_reply r = take_run(periods);
     printf("run: %s %u %u\n", verdict_name(r.verdict), (unsigned)r.blame, (unsigned)r.decision);
     check("the run ends in the steps' state", memcmp(state.all, stepped.all, sizeof state.all) == 0);
+    copy(&trace, periods);
+    printf("decide:");
+    put_decided(lend(DECIDE, sizeof(struct monitor_decide_reply)));
+    printf("\n");
     check("the image is as compile left it", memcmp(image.all, compiled.all, sizeof image.all) == 0);
 }
 

@@ -4,7 +4,6 @@
 
 /* ---- bytes of images, states and traces */
 
-#define TWO(n) (n) & 255, (n) >> 8 & 255
 #define FOUR(n) TWO(n), TWO((n) >> 16)
 #define NINE(v) v, v, v, v, v, v, v, v, v
 #define TEN(v) NINE(v), v
@@ -12,11 +11,6 @@
 #define TWELVE(v) ELEVEN(v), v
 #define THIRTEEN(v) TWELVE(v), v
 
-/* A row, an end record, and a period record with both parties' attempts. */
-#define ROW(kind, x, y) 'T', 'R', kind, 0, TWO(x), TWO(y)
-#define END(s, v1, v2) 'T', 'E', TWO(s), TWO(v1), TWO(v2)
-#define PERIOD(first, second) 'T', 'P', TWO(first), TWO(second)
-#define NOBODY PERIOD(0, 0)
 #define ONE_RECORD BYTES(NOBODY)
 
 /* Two rows: party 1 tries action 0, party 2 tries action 1. S is row 0, V1 and V2 are row 1. */
@@ -24,9 +18,6 @@
 #define SECOND_ROW ROW(2, 2, 1)
 #define SMALL_END END(0, 1, 1)
 #define SMALL BYTES(FIRST_ROW, SECOND_ROW, SMALL_END)
-
-/* Row 0 of kind 3. */
-#define BAD_IMAGE BYTES(ROW(3, 0, 0), END(0, 0, 0))
 
 /* States of two rows, and the full count. */
 #define STATE(outcome, blame, periods, decision, first, second) \

@@ -60,6 +60,16 @@ struct bytes {
 #define BYTES(...) {(const uint8_t[]){__VA_ARGS__}, sizeof((const uint8_t[]){__VA_ARGS__})}
 #define NO_BYTES {(const uint8_t *)"", 0}
 
+/* A two-byte field; a row, an end record, and a period record with both parties' attempts. */
+#define TWO(n) (n) & 255, (n) >> 8 & 255
+#define ROW(kind, x, y) 'T', 'R', kind, 0, TWO(x), TWO(y)
+#define END(s, v1, v2) 'T', 'E', TWO(s), TWO(v1), TWO(v2)
+#define PERIOD(first, second) 'T', 'P', TWO(first), TWO(second)
+#define NOBODY PERIOD(0, 0)
+
+/* Row 0 of kind 3. */
+#define BAD_IMAGE BYTES(ROW(3, 0, 0), END(0, 0, 0))
+
 /* ---- areas that are lent, each between guard bytes */
 
 enum {
@@ -171,6 +181,20 @@ static inline struct monitor_run_reply run_reply(void)
     return (struct monitor_run_reply){four(r), four(r + 4), eight(r + 8), four(r + 16), four(r + 20)};
 }
 
+static inline struct monitor_decide_reply decide_reply(void)
+{
+    const uint8_t *r = start(&reply);
+    return (struct monitor_decide_reply){four(r), four(r + 4), eight(r + 8), four(r + 16), four(r + 20), four(r + 24),
+                                         four(r + 28)};
+}
+
+/* A decide's result and its reply's fields. */
+static inline void put_decided(uint32_t result)
+{
+    struct monitor_decide_reply r = decide_reply();
+    PUT(result, r.number, r.outcome, r.place, r.blame, r.decision, r.records, r.zero);
+}
+
 /* Whether a run ended as that last step did. */
 static inline int agree(struct monitor_step_reply s, struct monitor_run_reply r)
 {
@@ -211,7 +235,7 @@ static inline uint32_t compile(size_t buffer_length, size_t reply_length)
     return result;
 }
 
-enum call { BEGIN, STEP, RUN };
+enum call { BEGIN, STEP, RUN, DECIDE };
 
 static inline uint32_t lend(enum call call, size_t reply_length)
 {
@@ -233,10 +257,14 @@ static inline uint32_t lend(enum call call, size_t reply_length)
         result = monitor_run(start(&image), image.length, start(&state), state.length, start(&trace), trace.length,
                              start(&reply), reply.length);
         break;
+    case DECIDE:
+        result = monitor_decide(start(&image), image.length, start(&trace), trace.length, start(&reply), reply.length);
+        break;
     }
     check_kept(&image, &image_before);
     check_kept(&trace, &trace_before);
-    check_guards(&state);
+    if (call != DECIDE)
+        check_guards(&state);
     check_guards(&reply);
     return result;
 }
