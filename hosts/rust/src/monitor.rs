@@ -67,11 +67,7 @@ impl Monitor {
     /// # Errors
     /// Refusal 12, if more than 4,294,967,295 periods would be taken.
     pub fn run(&mut self, periods: &[Period]) -> Result<RunReply, Refusal> {
-        let trace: Vec<u8> = periods
-            .iter()
-            .flat_map(|period| period.to_bytes())
-            .collect();
-        self.run_bytes(&trace)
+        self.run_bytes(Period::trace(periods))
     }
 
     /// Takes a trace, any number of period records as they stand, all of them or none.

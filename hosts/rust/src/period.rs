@@ -1,5 +1,8 @@
 //! Periods: what each party tries in one.
 
+use core::fmt;
+use core::slice;
+
 use crate::{Action, Party};
 
 /// The attempts of both parties in one period.
@@ -18,11 +21,10 @@ use crate::{Action, Party};
 /// assert_eq!(period, Period::from_masks(0b11, 0b01));
 /// assert!(period.succeeds(SAVE) && !period.succeeds(LOAD));
 /// ```
-#[derive(Clone, Copy, Debug, Default, PartialEq, Eq, Hash)]
-pub struct Period {
-    one: u16,
-    two: u16,
-}
+// It is kept as its record, so that a list of periods is a trace as it stands.
+#[derive(Clone, Copy, PartialEq, Eq, Hash)]
+#[repr(transparent)]
+pub struct Period([u8; Period::BYTES]);
 
 impl Period {
     /// The bytes of a period record.
@@ -31,7 +33,9 @@ impl Period {
     /// The period of these masks, party 1's first: bit a is set when the party tries action a.
     #[must_use]
     pub const fn from_masks(one: u16, two: u16) -> Period {
-        Period { one, two }
+        let [one, one_high] = one.to_le_bytes();
+        let [two, two_high] = two.to_le_bytes();
+        Period([0x54, 0x50, one, one_high, two, two_high])
     }
 
     /// The period in which party 1 tries the actions of the first list, and party 2 those of the
@@ -44,19 +48,21 @@ impl Period {
 
     /// Adds an attempt.
     pub fn attempt(&mut self, party: Party, action: Action) {
-        match party {
-            Party::One => self.one |= action.bit(),
-            Party::Two => self.two |= action.bit(),
-        }
+        let (one, two) = (self.mask(Party::One), self.mask(Party::Two));
+        *self = match party {
+            Party::One => Period::from_masks(one | action.bit(), two),
+            Party::Two => Period::from_masks(one, two | action.bit()),
+        };
     }
 
     /// The mask of a party's attempts.
     #[must_use]
     pub const fn mask(self, party: Party) -> u16 {
-        match party {
-            Party::One => self.one,
-            Party::Two => self.two,
-        }
+        let [_, _, one, one_high, two, two_high] = self.0;
+        u16::from_le_bytes(match party {
+            Party::One => [one, one_high],
+            Party::Two => [two, two_high],
+        })
     }
 
     /// Whether the party tries the action.
@@ -74,8 +80,30 @@ impl Period {
     /// The period as a record of a trace.
     #[must_use]
     pub const fn to_bytes(self) -> [u8; Period::BYTES] {
-        let [one, one_high] = self.one.to_le_bytes();
-        let [two, two_high] = self.two.to_le_bytes();
-        [0x54, 0x50, one, one_high, two, two_high]
+        self.0
+    }
+
+    /// The periods' records one after the other, as they lie in memory.
+    #[allow(unsafe_code)]
+    pub(crate) fn trace(periods: &[Period]) -> &[u8] {
+        // SAFETY: a period is just its record's bytes (`repr(transparent)`), so the list is that
+        // many bytes in a row, and they are borrowed for as long as the list.
+        unsafe { slice::from_raw_parts(periods.as_ptr().cast(), size_of_val(periods)) }
+    }
+}
+
+impl Default for Period {
+    /// The period in which nobody tries anything.
+    fn default() -> Period {
+        Period::from_masks(0, 0)
+    }
+}
+
+impl fmt::Debug for Period {
+    fn fmt(&self, f: &mut fmt::Formatter<'_>) -> fmt::Result {
+        f.debug_struct("Period")
+            .field("one", &self.mask(Party::One))
+            .field("two", &self.mask(Party::Two))
+            .finish()
     }
 }
