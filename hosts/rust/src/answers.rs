@@ -1,18 +1,20 @@
-//! The four calls with a reply area of the right length, and what the reply says.
+//! The five calls with a reply area of the right length, and what the reply says.
 //!
 //! Four things are proved of the calls and taken for granted here, by a panic where they fail: the
 //! result is 1 where the reply has room; a number other than 0 is one of the refusals 1 to 12;
-//! verdict and blame of an accepted call are numbers of verdicts and blames; a state that begin,
-//! step or run accepted is left sound.
+//! verdict, outcome and blame of an accepted call are numbers of verdicts, outcomes and blames; a
+//! state that begin, step or run accepted is left sound.
 
 use core::num::NonZeroU32;
 
-use crate::{calls, Blame, Fault, Refusal, Reply, RunReply, Verdict};
+use crate::{calls, Blame, DecideReply, Fault, Outcome, Refusal, Reply, RunReply, Verdict};
 
 /// The bytes of compile's and begin's reply.
 const SHORT_REPLY: usize = 16;
 /// The bytes of step's and run's reply.
 const LONG_REPLY: usize = 24;
+/// The bytes of decide's reply.
+const DECIDE_REPLY: usize = 32;
 
 /// A four-byte field, low byte first.
 fn u32_at(bytes: &[u8], at: usize) -> u32 {
@@ -49,6 +51,18 @@ pub fn run(image: &[u8], state: &mut [u8], trace: &[u8]) -> Result<RunReply, Ref
     })
 }
 
+pub fn decide(image: &[u8], trace: &[u8]) -> Result<DecideReply, Refusal> {
+    let mut reply = [0; DECIDE_REPLY];
+    let result = calls::decide(image, trace, &mut reply);
+    accepted(result, &reply)?;
+    Ok(DecideReply {
+        outcome: outcome(u32_at(&reply, 4)),
+        blame: blame(u32_at(&reply, 16)),
+        decision: NonZeroU32::new(u32_at(&reply, 20)),
+        records: u32_at(&reply, 24),
+    })
+}
+
 /// How many periods a state has taken.
 pub fn periods(state: &[u8]) -> u32 {
     u32_at(state, 2)
@@ -58,13 +72,12 @@ pub fn periods(state: &[u8]) -> u32 {
 /// second the blame; the decision period starts at byte 6.
 pub fn shown(state: &[u8]) -> Reply {
     let decision = u32_at(state, 6);
-    let verdict = match (state[0], decision == periods(state)) {
-        (0, _) => Verdict::Open,
-        (1, true) => Verdict::Met,
-        (1, false) => Verdict::MetAfter,
-        (2, true) => Verdict::Broken,
-        (2, false) => Verdict::BrokenAfter,
-        _ => unreachable!("an outcome is 0 to 2"),
+    let verdict = match (outcome(u32::from(state[0])), decision == periods(state)) {
+        (Outcome::Undecided, _) => Verdict::Open,
+        (Outcome::Satisfied, true) => Verdict::Met,
+        (Outcome::Satisfied, false) => Verdict::MetAfter,
+        (Outcome::Violated, true) => Verdict::Broken,
+        (Outcome::Violated, false) => Verdict::BrokenAfter,
     };
     reply(verdict, u32::from(state[1]), decision)
 }
@@ -87,13 +100,21 @@ fn answer(area: &[u8; LONG_REPLY]) -> Reply {
 }
 
 /// Blame and decision period are 0 for none.
-fn reply(verdict: Verdict, blame: u32, decision: u32) -> Reply {
+fn reply(verdict: Verdict, blame_number: u32, decision: u32) -> Reply {
     Reply {
         verdict,
-        blame: match blame {
-            0 => None,
-            number => Some(Blame::from_number(number).expect("a blame is 0 to 3")),
-        },
+        blame: blame(blame_number),
         decision: NonZeroU32::new(decision),
+    }
+}
+
+fn outcome(number: u32) -> Outcome {
+    Outcome::from_number(number).expect("an outcome is 0 to 2")
+}
+
+fn blame(number: u32) -> Option<Blame> {
+    match number {
+        0 => None,
+        number => Some(Blame::from_number(number).expect("a blame is 0 to 3")),
     }
 }

@@ -4,7 +4,7 @@ use alloc::sync::Arc;
 use alloc::vec;
 use core::fmt;
 
-use crate::{answers, Contract, Record, Refusal, Window};
+use crate::{answers, Contract, DecideReply, Period, Record, Refusal, Window};
 
 /// The bytes of a row, and of the end record.
 const ROW_BYTES: usize = 8;
@@ -38,6 +38,44 @@ impl Image {
         let image = Image(bytes.as_ref().into());
         answers::begin(image.as_bytes(), &mut vec![0; image.state_bytes()])?;
         Ok(image)
+    }
+
+    /// Decides a list of periods: reads it up to the period that decides, or to its end. It needs
+    /// no monitor; it starts as one that has just begun.
+    ///
+    /// ```
+    /// use monitor::{Action, Blame, Clause, Contract, Image, Outcome, Party, Period, Refusal};
+    ///
+    /// const SAVE: Action = Action::new(0).unwrap();
+    ///
+    /// fn main() -> Result<(), Refusal> {
+    ///     let image = Image::compile(Contract::from(Clause::duty(Party::One, SAVE).repeat()))?;
+    ///     let saved = Period::from_actions(&[SAVE], &[SAVE]);
+    ///     let refused = Period::from_actions(&[SAVE], &[]);
+    ///
+    ///     let decided = image.decide(&[saved, refused, saved, saved])?;
+    ///     assert_eq!(decided.outcome, Outcome::Violated);
+    ///     assert_eq!(decided.blame, Some(Blame::Two));
+    ///     assert_eq!(decided.decision.map(|period| period.get()), Some(2));
+    ///     assert_eq!(decided.records, 2);
+    ///     Ok(())
+    /// }
+    /// ```
+    ///
+    /// # Errors
+    /// Refusal 12, if there are more than 4,294,967,295 periods.
+    pub fn decide(&self, periods: &[Period]) -> Result<DecideReply, Refusal> {
+        self.decide_bytes(Period::trace(periods))
+    }
+
+    /// Decides a trace, any number of period records as they stand. Records after the one that
+    /// decides aren't looked at, so a wrong mark there is no fault.
+    ///
+    /// # Errors
+    /// Refusal 11, if the length isn't that of a list of records, or a record that is read has a
+    /// wrong mark; 12 as [`decide`](Image::decide).
+    pub fn decide_bytes(&self, trace: &[u8]) -> Result<DecideReply, Refusal> {
+        answers::decide(self.as_bytes(), trace)
     }
 
     /// The image's bytes, 8 × (rows + 1).

@@ -1,11 +1,11 @@
-//! The plugin contract monitor for hosts in Rust: a safe wrapper over its four calls.
+//! The plugin contract monitor for hosts in Rust: a safe wrapper over its five calls.
 //!
 //! A contract binds two parties, say a plugin and the host that runs it. In each period (say a
 //! recalculation) each party tries some actions; an action succeeds when both try it. The monitor
 //! is given both parties' attempts and says whether the contract is open, met or broken, since
 //! which period, and who is to blame. `docs/FORMAT.md` says what contracts, periods, images and
-//! states are; it says what "document 01" says, which these pages cite, and of deadlines and joint
-//! duties document 02.
+//! states are; it says what "document 01" says, which these pages cite, and of deadlines, joint
+//! duties and decide document 02.
 //!
 //! A host builds a [`Clause`] and makes a [`Contract`] from it, compiles that to an [`Image`] once,
 //! begins a [`Monitor`] for each spreadsheet under the contract, and steps each of them with
@@ -58,8 +58,25 @@
 //! # }
 //! ```
 //!
+//! [`Image::decide`] decides a list of periods without a monitor, and [`Image::decide_bytes`] a
+//! stored trace, their bytes. Both read no further than the period that decides:
+//!
+//! ```
+//! # use monitor::{Action, Clause, Contract, Image, Party, Period, Refusal};
+//! # fn main() -> Result<(), Refusal> {
+//! # const VALUES: Action = Action::new(0).unwrap();
+//! # let image = Image::compile(Contract::from(Clause::duty(Party::One, VALUES).repeat()))?;
+//! # let (kept, missed) = (Period::from_masks(1, 1), Period::default());
+//! # let stored_trace = [kept, missed, kept].map(Period::to_bytes).concat();
+//! let decided = image.decide_bytes(&stored_trace)?;
+//! println!("{} after {} periods", decided.outcome, decided.records);
+//! # assert_eq!((decided.outcome, decided.records), (monitor::Outcome::Violated, 2));
+//! # Ok(())
+//! # }
+//! ```
+//!
 //! Buffers have the right size by construction: only bytes that come from elsewhere can be refused
-//! for their length. [`calls`] has the four calls themselves, on byte slices. The crate needs no
+//! for their length. [`calls`] has the five calls themselves, on byte slices. The crate needs no
 //! `std`, only `alloc`; the archive is x86-64 code.
 
 #![no_std]
@@ -84,5 +101,5 @@ pub use crate::image::Image;
 pub use crate::monitor::Monitor;
 pub use crate::period::Period;
 pub use crate::refusal::{Fault, Refusal};
-pub use crate::reply::{Blame, Reply, RunReply, Verdict};
+pub use crate::reply::{Blame, DecideReply, Outcome, Reply, RunReply, Verdict};
 pub use crate::tree::{Clause, Expression};

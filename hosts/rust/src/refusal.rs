@@ -35,7 +35,8 @@ pub enum Fault {
     /// A period record's mark is wrong, and the place is its number; or the length of what was
     /// given is wrong, place 0.
     BadPeriod = 11,
-    /// Periods taken would pass 4,294,967,295. Place: the first record too many.
+    /// Periods taken would pass 4,294,967,295, or a trace to decide has more records. Place: the
+    /// first record too many.
     FullCount = 12,
 }
 

@@ -1,4 +1,4 @@
-//! What step and run answer.
+//! What step, run and decide answer.
 
 use core::fmt;
 use core::num::NonZeroU32;
@@ -53,6 +53,53 @@ impl Verdict {
 }
 
 impl fmt::Display for Verdict {
+    fn fmt(&self, f: &mut fmt::Formatter<'_>) -> fmt::Result {
+        f.pad(self.name())
+    }
+}
+
+/// What a trace makes of a contract.
+#[derive(Clone, Copy, Debug, PartialEq, Eq, Hash)]
+#[repr(u32)]
+pub enum Outcome {
+    /// No period of the trace decides.
+    Undecided = 0,
+    /// Satisfied in a period of it.
+    Satisfied = 1,
+    /// Violated in a period of it.
+    Violated = 2,
+}
+
+impl Outcome {
+    /// The outcome of this number, if it is at most 2.
+    #[must_use]
+    pub const fn from_number(number: u32) -> Option<Outcome> {
+        Some(match number {
+            0 => Outcome::Undecided,
+            1 => Outcome::Satisfied,
+            2 => Outcome::Violated,
+            _ => return None,
+        })
+    }
+
+    /// 0 to 2.
+    #[must_use]
+    pub const fn number(self) -> u32 {
+        self as u32
+    }
+
+    /// The outcome's name in document 01.
+    #[must_use]
+    pub const fn name(self) -> &'static str {
+        match self {
+            Outcome::Undecided => "undecided",
+            Outcome::Satisfied => "satisfied",
+            Outcome::Violated => "violated",
+        }
+    }
+}
+
+impl fmt::Display for Outcome {
     fn fmt(&self, f: &mut fmt::Formatter<'_>) -> fmt::Result {
         f.pad(self.name())
     }
@@ -116,4 +163,18 @@ pub struct Reply {
 pub struct RunReply {
     /// The answer after the periods taken so far.
     pub reply: Reply,
+}
+
+/// What decide gives. Further fields may come.
+#[derive(Clone, Copy, Debug, PartialEq, Eq, Hash)]
+#[non_exhaustive]
+pub struct DecideReply {
+    /// What the trace makes of the contract.
+    pub outcome: Outcome,
+    /// Who is to blame; `None` unless the contract is violated.
+    pub blame: Option<Blame>,
+    /// The period that decided, counted from 1; `None` if none did.
+    pub decision: Option<NonZeroU32>,
+    /// How many records were read: up to the one that decided, or all.
+    pub records: u32,
 }

@@ -3,8 +3,8 @@
 use std::num::NonZeroU32;
 
 use monitor::{
-    Action, Blame, Clause, Contract, Expression, Image, Monitor, Owner, Party, Period, Record,
-    Refusal, Reply, RunReply, Verdict, Window,
+    Action, Blame, Clause, Contract, DecideReply, Expression, Image, Monitor, Owner, Party, Period,
+    Record, Refusal, Reply, RunReply, Verdict, Window,
 };
 
 mod common;
@@ -227,7 +227,7 @@ fn every_type_crosses_threads() {
     crosses::<Image>();
     crosses::<Monitor>();
     crosses::<(Clause, Expression, Record, Contract, Owner, Period, Window)>();
-    crosses::<(Reply, RunReply, Refusal)>();
+    crosses::<(Reply, RunReply, DecideReply, Refusal)>();
 }
 
 #[test]

@@ -1,11 +1,11 @@
 //! Document 01's worked examples, joint duties and deadlines, as trees and as records, through
-//! compile, begin, step and run.
+//! compile, begin, step, run and decide.
 
 use std::num::NonZeroU32;
 
 use monitor::{
-    Action, Blame, Clause, Contract, Expression, Image, Monitor, Owner, Party, Period, Record,
-    Reply, Verdict, Window,
+    Action, Blame, Clause, Contract, Expression, Image, Monitor, Outcome, Owner, Party, Period,
+    Record, Reply, Verdict, Window,
 };
 use Party::{One, Two};
 use Record::*;
@@ -64,7 +64,7 @@ fn image(tree: Clause, records: &[Record]) -> Image {
     Image::compile(contract).unwrap()
 }
 
-/// Holds the last of the steps over a trace, and the run of it, to the reply.
+/// Holds the last of the steps over a trace, the run of it and what decides it to the reply.
 #[track_caller]
 fn hold(image: &Image, trace: &str, want: Reply) {
     let periods = periods(trace);
@@ -80,6 +80,22 @@ fn hold(image: &Image, trace: &str, want: Reply) {
     let mut run = Monitor::begin(image);
     assert_eq!(run.run(&periods).unwrap().reply, want, "run over {trace:?}");
     assert_eq!(run, stepped);
+
+    let decided = image.decide(&periods).unwrap();
+    let outcome = match want.verdict {
+        Verdict::Open => Outcome::Undecided,
+        Verdict::Met | Verdict::MetAfter => Outcome::Satisfied,
+        Verdict::Broken | Verdict::BrokenAfter => Outcome::Violated,
+    };
+    assert_eq!(decided.outcome, outcome, "decide over {trace:?}");
+    assert_eq!(
+        (decided.blame, decided.decision),
+        (want.blame, want.decision)
+    );
+    let read = want
+        .decision
+        .map_or(periods.len(), |period| period.get() as usize);
+    assert_eq!(decided.records as usize, read, "decide over {trace:?}");
 }
 
 /// Holds two clauses to the same replies on random traces of two actions: the last replies.

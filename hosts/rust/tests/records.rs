@@ -1,6 +1,8 @@
 //! The bytes of records, and the numbers and names of answers.
 
-use monitor::{Action, Blame, Contract, Fault, Owner, Party, Period, Record, Verdict, Window};
+use monitor::{
+    Action, Blame, Contract, Fault, Outcome, Owner, Party, Period, Record, Verdict, Window,
+};
 
 const A: Action = Action::new(0).unwrap();
 const B: Action = Action::new(1).unwrap();
@@ -85,6 +87,7 @@ fn a_period_is_two_masks() {
     assert_eq!(period.to_bytes(), [0x54, 0x50, 0x01, 0x80, 0x34, 0x12]);
     assert_eq!(period.mask(Party::One), 0x8001);
     assert_eq!(period.mask(Party::Two), 0x1234);
+    assert_eq!(format!("{period:?}"), "Period { one: 32769, two: 4660 }");
     assert_eq!(
         Period::default().to_bytes(),
         [0x54, 0x50, 0x00, 0x00, 0x00, 0x00]
@@ -112,6 +115,17 @@ fn verdicts_have_document_01s_numbers_and_names() {
         assert_eq!(verdict.to_string(), name);
     }
     assert_eq!(Verdict::from_number(5), None);
+}
+
+#[test]
+fn outcomes_have_document_01s_numbers_and_names() {
+    let names = ["undecided", "satisfied", "violated"];
+    for (number, name) in (0..).zip(names) {
+        let outcome = Outcome::from_number(number).unwrap();
+        assert_eq!(outcome.number(), number);
+        assert_eq!(outcome.to_string(), name);
+    }
+    assert_eq!(Outcome::from_number(3), None);
 }
 
 #[test]

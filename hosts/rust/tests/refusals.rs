@@ -1,7 +1,8 @@
 //! The table of refusals in documents 01 and 02: the small input of each, and a few more.
 
 use monitor::{
-    calls, Action, Contract, Fault, Image, Monitor, Owner, Party, Period, Record, Refusal, Window,
+    calls, Action, Blame, Contract, Fault, Image, Monitor, Owner, Party, Period, Record, Refusal,
+    Window,
 };
 
 const A: Action = Action::new(0).unwrap();
@@ -131,6 +132,10 @@ fn areas_too_short_for_a_reply() {
         0
     );
     assert_eq!((image, reply), ([0xee; 776], [0xee; 15]));
+
+    let mut reply = [0xee; 31];
+    assert_eq!(calls::decide(&BY_HAND, &[], &mut reply), 0);
+    assert_eq!(reply, [0xee; 31]);
 }
 
 #[test]
@@ -187,6 +192,32 @@ fn periods() {
     monitor.step_bytes(&good).unwrap();
     monitor.run_bytes(&[good, good].concat()).unwrap();
     assert_eq!(monitor.periods(), 3);
+}
+
+#[test]
+fn traces_to_decide() {
+    let image = by_hand();
+    let good = Period::from_masks(1, 1).to_bytes();
+    let missed = Period::from_masks(0, 1).to_bytes();
+    let bad = [0x54, 0x43, 0, 0, 1, 0];
+
+    hold(image.decide_bytes(&[0; 7]), 11, 0);
+    hold(image.decide_bytes(&[&missed[..], &[0x54]].concat()), 11, 0);
+    hold(
+        image.decide_bytes(&[&good[..], &bad, &[0x54]].concat()),
+        11,
+        0,
+    );
+    hold(image.decide_bytes(&[good, good, bad, good].concat()), 11, 2);
+    hold(image.decide_bytes(&[good, bad, missed].concat()), 11, 1);
+    let decided = image.decide_bytes(&[good, missed, bad].concat()).unwrap();
+    assert_eq!((decided.records, decided.blame), (2, Some(Blame::One)));
+
+    // An image of wrong length, before a trace of wrong length.
+    let mut reply = [0xee; 33];
+    assert_eq!(calls::decide(&BY_HAND[1..], &[0; 7], &mut reply), 1);
+    assert_eq!(reply[..32], [&[9][..], &[0; 31]].concat());
+    assert_eq!(reply[32], 0xee);
 }
 
 #[test]
