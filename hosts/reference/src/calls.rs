@@ -1,16 +1,21 @@
-//! What begin, step and run leave in the areas that they are lent.
+//! What begin, step, run and decide leave in the areas that they are lent.
 //!
 //! The result is 1, or 0 if the reply area "is too short for the reply": then "the call writes
 //! nothing anywhere". After a refusal "every lent buffer but the reply's area is unchanged".
 
 use crate::image;
-use crate::records::{read_trace, refused, Period, Refusal, PERIOD_MARK, RECORD_BYTES};
+use crate::records::{
+    count_records, read_record, read_trace, refused, Period, Refusal, PERIOD_MARK, RECORD_BYTES,
+};
 use crate::state::{check_length, State};
 
 /// Bytes of the reply of compile and begin: number, a four-byte field, place.
 pub const SHORT_REPLY: usize = 16;
 /// Bytes of the reply of step and run: number, verdict, place, blame, decision period.
 pub const LONG_REPLY: usize = 24;
+/// Bytes of the reply of decide: number, outcome, place, blame, decision period, records read, and
+/// a four-byte zero.
+pub const DECIDE_REPLY: usize = 32;
 
 /// The reply of compile: number, rows, place. Begin's has a zero in place of the rows.
 pub fn short_reply(answer: Result<u32, Refusal>) -> [u8; SHORT_REPLY] {
@@ -44,6 +49,18 @@ pub fn long_reply(answer: &Result<State, Refusal>) -> [u8; LONG_REPLY] {
     reply
 }
 
+/// The reply of decide: "outcome, blame, decision period and the number of period records it read".
+pub fn decide_reply(answer: &Result<State, Refusal>) -> [u8; DECIDE_REPLY] {
+    let mut reply = [0; DECIDE_REPLY];
+    // But for the verdict, what run replies stands in the same places.
+    reply[..LONG_REPLY].copy_from_slice(&long_reply(answer));
+    if let Ok(state) = answer {
+        reply[4..8].copy_from_slice(&u32::from(state.outcome).to_le_bytes());
+        reply[24..28].copy_from_slice(&state.periods.to_le_bytes());
+    }
+    reply
+}
+
 /// "Begin sets a state to zeros."
 pub fn begin(image: &[u8], state: &mut [u8], reply: &mut [u8]) -> u32 {
     if reply.len() < SHORT_REPLY {
@@ -66,6 +83,42 @@ pub fn step(image: &[u8], state: &mut [u8], period: &[u8], reply: &mut [u8]) -> 
 /// would."
 pub fn run(image: &[u8], state: &mut [u8], trace: &[u8], reply: &mut [u8]) -> u32 {
     take(image, state, || read_trace(trace), reply)
+}
+
+/// "A new call takes an image and a trace": decide.
+pub fn decide(image: &[u8], trace: &[u8], reply: &mut [u8]) -> u32 {
+    if reply.len() < DECIDE_REPLY {
+        return 0;
+    }
+    let answer = read_to_decision(image, trace);
+    reply[..DECIDE_REPLY].copy_from_slice(&decide_reply(&answer));
+    1
+}
+
+/// The state at the decision, or at the trace's end when undecided, or the first of refusals 9, 11
+/// and 12. The periods taken are the records read.
+fn read_to_decision(image: &[u8], trace: &[u8]) -> Result<State, Refusal> {
+    let image = image::read(image)?;
+    check_trace_length(trace.len())?;
+    let mut state = State::fresh(&image);
+    for (number, record) in trace.chunks(RECORD_BYTES).enumerate() {
+        // "Records after the decision aren't looked at."
+        if state.outcome != 0 {
+            break;
+        }
+        state.step(&image, read_record(record, number)?);
+    }
+    Ok(state)
+}
+
+/// "After 9, length is still tested first. A trace of more than 4,294,967,295 records meets 12
+/// next", with the "first record too many" as its place.
+pub fn check_trace_length(length: usize) -> Result<(), Refusal> {
+    let most = u32::MAX as usize;
+    if count_records(length)? > most {
+        return refused(12, most);
+    }
+    Ok(())
 }
 
 /// The one period of a step, or refusal 11: "wrong mark (its number), or a length that isn't 6 in

@@ -1,5 +1,6 @@
 //! The plugin contract monitor a second time, from document 01 and document 02's "Duties with a
-//! deadline" and "Duties that both parties own", and not from its code, to compare the monitor with.
+//! deadline", "Duties that both parties own" and "Stop reading once it is decided", and not from its
+//! code, to compare the monitor with.
 //!
 //! Quotations in the comments are these documents' words. The meaning of a contract is here twice:
 //! [`definition`] decides whole lists of periods as the text says it, slowly; [`monitor`] goes from

@@ -115,18 +115,29 @@ impl Period {
     }
 }
 
-/// The periods of a trace, or refusal 11: "a length that isn't a multiple of 6 in run (0)", or a
-/// "period record of wrong mark (its number)"; "length precedes marks".
-pub fn read_trace(trace: &[u8]) -> Result<Vec<Period>, Refusal> {
-    if !trace.len().is_multiple_of(RECORD_BYTES) {
+/// How many records a trace of that length has, or refusal 11: "a length that isn't a multiple of 6
+/// in run (0)".
+pub fn count_records(length: usize) -> Result<usize, Refusal> {
+    if !length.is_multiple_of(RECORD_BYTES) {
         return refused(11, 0);
     }
-    let mut periods = Vec::with_capacity(trace.len() / RECORD_BYTES);
+    Ok(length / RECORD_BYTES)
+}
+
+/// The period of a trace's record of that number, or refusal 11: "period record of wrong mark (its
+/// number)".
+pub fn read_record(record: &[u8], number: usize) -> Result<Period, Refusal> {
+    if record[..2] != PERIOD_MARK {
+        return refused(11, number);
+    }
+    Ok(Period::of_record(record))
+}
+
+/// The periods of a trace, or refusal 11: "length precedes marks".
+pub fn read_trace(trace: &[u8]) -> Result<Vec<Period>, Refusal> {
+    let mut periods = Vec::with_capacity(count_records(trace.len())?);
     for (number, record) in trace.chunks(RECORD_BYTES).enumerate() {
-        if record[..2] != PERIOD_MARK {
-            return refused(11, number);
-        }
-        periods.push(Period::of_record(record));
+        periods.push(read_record(record, number)?);
     }
     Ok(periods)
 }

@@ -19,6 +19,17 @@ pub struct State {
 }
 
 impl State {
+    /// A "fresh state": all is 0.
+    pub fn fresh(image: &Image) -> State {
+        State {
+            outcome: 0,
+            blame: 0,
+            periods: 0,
+            decision: 0,
+            values: vec![0; image.rows.len()],
+        }
+    }
+
     /// The state of these bytes, or refusal 10: "state length wrong, or (step, run) state not
     /// sound; 0".
     pub fn read(bytes: &[u8], image: &Image) -> Result<State, Refusal> {

@@ -237,30 +237,6 @@ fn buffers_of_contracts_with_deadlines() {
     takes_from(&most, 32264);
 }
 
-fn row(kind: u8, x: u16, y: u16) -> Vec<u8> {
-    let (x, y) = (x.to_le_bytes(), y.to_le_bytes());
-    vec![0x54, 0x52, kind, 0, x[0], x[1], y[0], y[1]]
-}
-
-fn end(s: u16, v1: u16, v2: u16) -> Vec<u8> {
-    let (s, v1, v2) = (s.to_le_bytes(), v1.to_le_bytes(), v2.to_le_bytes());
-    vec![0x54, 0x45, s[0], s[1], v1[0], v1[1], v2[0], v2[1]]
-}
-
-/// Duty 1 a, by hand.
-fn duty_image() -> Vec<u8> {
-    let rows = [
-        row(2, 1, 0),
-        row(2, 2, 0),
-        row(4, 0, 1),
-        row(3, 0, 0),
-        row(3, 1, 0),
-        row(4, 0, 4),
-        end(2, 3, 5),
-    ];
-    rows.concat()
-}
-
 fn image_refused(bytes: &[u8], place: u64) {
     assert_eq!(
         image::read(bytes).unwrap_err(),

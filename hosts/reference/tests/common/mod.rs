@@ -23,6 +23,37 @@ pub fn contract(records: &[(u8, u8, u8)]) -> Vec<u8> {
         .collect()
 }
 
+/// A row of an image.
+pub fn row(kind: u8, x: u16, y: u16) -> Vec<u8> {
+    let (x, y) = (x.to_le_bytes(), y.to_le_bytes());
+    vec![0x54, 0x52, kind, 0, x[0], x[1], y[0], y[1]]
+}
+
+/// The end record of an image.
+pub fn end(s: u16, v1: u16, v2: u16) -> Vec<u8> {
+    let (s, v1, v2) = (s.to_le_bytes(), v1.to_le_bytes(), v2.to_le_bytes());
+    vec![0x54, 0x45, s[0], s[1], v1[0], v1[1], v2[0], v2[1]]
+}
+
+/// The rows of duty 1 a, by hand: row 2 satisfies it, row 3 blames party 1, row 5 party 2. Row 4 is
+/// true when party 2 doesn't try.
+pub fn duty_rows() -> Vec<u8> {
+    let rows = [
+        row(2, 1, 0),
+        row(2, 2, 0),
+        row(4, 0, 1),
+        row(3, 0, 0),
+        row(3, 1, 0),
+        row(4, 0, 4),
+    ];
+    rows.concat()
+}
+
+/// Duty 1 a, by hand.
+pub fn duty_image() -> Vec<u8> {
+    [duty_rows(), end(2, 3, 5)].concat()
+}
+
 /// The periods of a text such as "a/-, ab/b": "party 1 before the slash; - is no attempt".
 pub fn periods(text: &str) -> Vec<Period> {
     text.split(", ")
