@@ -1,6 +1,6 @@
 //! Where `MONITOR_BEFORE` names a folder with an earlier archive, links copies of it and of today's,
-//! in which the four calls have other names and nothing else has a name that the linker sees. There
-//! are four copies of each, since a loop's place in memory changes its time: the code of each lies
+//! in which the calls have other names and nothing else has a name that the linker sees. There are
+//! four copies of each, since a loop's place in memory changes its time: the code of each lies
 //! 16 bytes further on in a line of 64 bytes.
 
 #[path = "src/archives.rs"]
@@ -13,28 +13,50 @@ use std::fs;
 use std::path::{Path, PathBuf};
 use std::process::Command;
 
-const CALLS: [&str; 4] = ["compile", "begin", "step", "run"];
+const CALLS: [&str; 5] = ["compile", "begin", "step", "run", "decide"];
 const PLACES: usize = 4;
+
+/// The earlier archive, or today's.
+struct Side {
+    name: &'static str,
+    archives: Vec<PathBuf>,
+    /// The calls that it has: an earlier one may lack decide.
+    calls: Vec<&'static str>,
+}
 
 fn main() {
     println!("cargo:rustc-check-cfg=cfg(earlier)");
+    println!("cargo:rustc-check-cfg=cfg(earlier_decide)");
     println!("cargo:rerun-if-env-changed=MONITOR_BEFORE");
     println!("cargo:rerun-if-env-changed=MONITOR_ARCHIVES");
     let Some(folder) = variable("MONITOR_BEFORE") else {
         return;
     };
-    let before = found("MONITOR_BEFORE", folder);
+    let before = side("before", "MONITOR_BEFORE", folder);
     // Where the crate `monitor` looks too.
     let folder = variable("MONITOR_ARCHIVES").unwrap_or_else(|| "../../target".into());
-    let now = found("MONITOR_ARCHIVES", folder);
-    link(&before, &now);
+    let now = side("now", "MONITOR_ARCHIVES", folder);
     println!("cargo:rustc-cfg=earlier");
-    println!("cargo:rustc-env=ARCHIVES_BEFORE={}", list(&before));
-    println!("cargo:rustc-env=ARCHIVES_NOW={}", list(&now));
+    if before.calls.contains(&"decide") {
+        println!("cargo:rustc-cfg=earlier_decide");
+    }
+    println!("cargo:rustc-env=ARCHIVES_BEFORE={}", list(&before.archives));
+    println!("cargo:rustc-env=ARCHIVES_NOW={}", list(&now.archives));
+    link(&before, &now);
 }
 
 fn variable(name: &str) -> Option<OsString> {
     env::var_os(name).filter(|value| !value.is_empty())
+}
+
+fn side(name: &'static str, variable: &str, folder: OsString) -> Side {
+    let archives = found(variable, folder);
+    let calls = calls_of(&archives);
+    Side {
+        name,
+        archives,
+        calls,
+    }
 }
 
 /// The archives in a folder. A relative one starts at this crate's, where this program is run.
@@ -58,8 +80,25 @@ fn list(archives: &[PathBuf]) -> String {
     names.join(", ")
 }
 
+/// The calls that the archives define.
+fn calls_of(archives: &[PathBuf]) -> Vec<&'static str> {
+    let mut nm = Command::new("nm");
+    nm.args(["--defined-only", "--extern-only", "--format=posix"]);
+    let symbols = match nm.args(archives).output() {
+        Ok(output) if output.status.success() => output.stdout,
+        came => panic!("{nm:?}: {came:?}"),
+    };
+    let symbols = String::from_utf8_lossy(&symbols);
+    let names: Vec<&str> = symbols
+        .lines()
+        .filter_map(|line| line.split(' ').next()?.strip_prefix("monitor_"))
+        .collect();
+    let is_defined = |call: &&str| names.contains(call);
+    CALLS.into_iter().filter(is_defined).collect()
+}
+
 /// Writes the copies into one archive and has it linked.
-fn link(before: &[PathBuf], now: &[PathBuf]) {
+fn link(before: &Side, now: &Side) {
     let out = PathBuf::from(env::var_os("OUT_DIR").expect("cargo names a folder"));
     let copies = out.join("libmonitor_copies.a");
     if copies.exists() {
@@ -67,14 +106,14 @@ fn link(before: &[PathBuf], now: &[PathBuf]) {
     }
     let mut objects = Vec::new();
     for place in 0..PLACES {
-        for (side, archives) in [("before", before), ("now", now)] {
-            objects.push(copy(&out, side, place, archives));
+        for side in [before, now] {
+            objects.push(copy(&out, side, place));
         }
     }
     run(Command::new("ar").arg("crs").arg(copies).args(objects));
     println!("cargo:rustc-link-search=native={}", out.display());
     println!("cargo:rustc-link-lib=static=monitor_copies");
-    let [before, now] = ["before", "now"].map(|side| joined(&out, side, 0));
+    let [before, now] = [before, now].map(|side| joined(&out, side, 0));
     let bytes = |object| fs::read(object).expect("an object is read");
     println!(
         "cargo:rustc-env=ARCHIVES_ALIKE={}",
@@ -83,13 +122,14 @@ fn link(before: &[PathBuf], now: &[PathBuf]) {
 }
 
 /// Where the object of a copy is, before the calls are renamed.
-fn joined(out: &Path, side: &str, place: usize) -> PathBuf {
-    out.join(format!("{side}_{place}_joined.o"))
+fn joined(out: &Path, side: &Side, place: usize) -> PathBuf {
+    out.join(format!("{}_{place}_joined.o", side.name))
 }
 
 /// One object of all that the calls need, in which they are named `before_0_run` and so on.
-fn copy(out: &Path, side: &str, place: usize, archives: &[PathBuf]) -> PathBuf {
-    let name = format!("{side}_{place}");
+fn copy(out: &Path, side: &Side, place: usize) -> PathBuf {
+    let name = format!("{}_{place}", side.name);
+    let calls = || side.calls.iter();
     let joined = joined(out, side, place);
     let [script, renamed] = ["ld", "o"].map(|end| out.join(format!("{name}.{end}")));
     let moved = 16 * place;
@@ -99,14 +139,14 @@ fn copy(out: &Path, side: &str, place: usize, archives: &[PathBuf]) -> PathBuf {
     run(Command::new("ld")
         .args(["-r", "-T"])
         .arg(&script)
-        .args(CALLS.map(|call| format!("--undefined=monitor_{call}")))
+        .args(calls().map(|call| format!("--undefined=monitor_{call}")))
         .arg("--start-group")
-        .args(archives)
+        .args(&side.archives)
         .args(["--end-group", "-o"])
         .arg(&joined));
     run(Command::new("objcopy")
-        .args(CALLS.map(|call| format!("--redefine-sym=monitor_{call}={name}_{call}")))
-        .args(CALLS.map(|call| format!("--keep-global-symbol={name}_{call}")))
+        .args(calls().map(|call| format!("--redefine-sym=monitor_{call}={name}_{call}")))
+        .args(calls().map(|call| format!("--keep-global-symbol={name}_{call}")))
         .args([&joined, &renamed]));
     renamed
 }

@@ -1,4 +1,4 @@
-//! The four calls of each archive.
+//! The calls of each archive.
 
 type Read = *const u8;
 type Written = *mut u8;
@@ -6,6 +6,8 @@ type Written = *mut u8;
 type Short = unsafe extern "C" fn(Read, usize, Written, usize, Written, usize) -> u32;
 /// Step and run.
 type Long = unsafe extern "C" fn(Read, usize, Written, usize, Read, usize, Written, usize) -> u32;
+/// Decide.
+type Deciding = unsafe extern "C" fn(Read, usize, Read, usize, Written, usize) -> u32;
 
 /// An archive's calls, on byte slices as in `monitor::calls`.
 #[derive(Clone, Copy)]
@@ -14,11 +16,13 @@ pub struct Archive {
     pub begin: Short,
     pub step: Long,
     pub run: Long,
+    /// An earlier archive may lack it.
+    pub decide: Option<Deciding>,
 }
 
 /// The archive whose calls have these names.
 macro_rules! archive {
-    ($compile:ident $begin:ident $step:ident $run:ident) => {{
+    ($compile:ident $begin:ident $step:ident $run:ident $($decide:ident)?) => {{
         extern "C" {
             fn $compile(a: Read, b: usize, c: Written, d: usize, e: Written, f: usize) -> u32;
             fn $begin(a: Read, b: usize, c: Written, d: usize, e: Written, f: usize) -> u32;
@@ -42,14 +46,31 @@ macro_rules! archive {
                 g: Written,
                 h: usize,
             ) -> u32;
+            $(fn $decide(a: Read, b: usize, c: Read, d: usize, e: Written, f: usize) -> u32;)?
         }
+        let decides: &[Deciding] = &[$($decide)?];
         Archive {
             compile: $compile,
             begin: $begin,
             step: $step,
             run: $run,
+            decide: decides.first().copied(),
         }
     }};
+}
+
+/// An archive that has decide just where the earlier one has it.
+#[cfg(all(earlier, earlier_decide))]
+macro_rules! earlier {
+    ($($name:ident)*) => {
+        archive!($($name)*)
+    };
+}
+#[cfg(all(earlier, not(earlier_decide)))]
+macro_rules! earlier {
+    ($compile:ident $begin:ident $step:ident $run:ident $decide:ident) => {
+        archive!($compile $begin $step $run)
+    };
 }
 
 /// In how many places the code of each archive is linked to be timed.
@@ -81,19 +102,19 @@ pub fn sides() -> Option<Sides> {
     let before = Copies {
         files: env!("ARCHIVES_BEFORE"),
         places: [
-            archive!(before_0_compile before_0_begin before_0_step before_0_run),
-            archive!(before_1_compile before_1_begin before_1_step before_1_run),
-            archive!(before_2_compile before_2_begin before_2_step before_2_run),
-            archive!(before_3_compile before_3_begin before_3_step before_3_run),
+            earlier!(before_0_compile before_0_begin before_0_step before_0_run before_0_decide),
+            earlier!(before_1_compile before_1_begin before_1_step before_1_run before_1_decide),
+            earlier!(before_2_compile before_2_begin before_2_step before_2_run before_2_decide),
+            earlier!(before_3_compile before_3_begin before_3_step before_3_run before_3_decide),
         ],
     };
     let now = Copies {
         files: env!("ARCHIVES_NOW"),
         places: [
-            archive!(now_0_compile now_0_begin now_0_step now_0_run),
-            archive!(now_1_compile now_1_begin now_1_step now_1_run),
-            archive!(now_2_compile now_2_begin now_2_step now_2_run),
-            archive!(now_3_compile now_3_begin now_3_step now_3_run),
+            archive!(now_0_compile now_0_begin now_0_step now_0_run now_0_decide),
+            archive!(now_1_compile now_1_begin now_1_step now_1_run now_1_decide),
+            archive!(now_2_compile now_2_begin now_2_step now_2_run now_2_decide),
+            archive!(now_3_compile now_3_begin now_3_step now_3_run now_3_decide),
         ],
     };
     Some(Sides {
@@ -122,7 +143,7 @@ fn apart(archives: &[Archive]) -> bool {
 impl Archive {
     /// Today's archive, as hosts link it.
     pub fn of_hosts() -> Archive {
-        archive!(monitor_compile monitor_begin monitor_step monitor_run)
+        archive!(monitor_compile monitor_begin monitor_step monitor_run monitor_decide)
     }
 
     pub fn compile(&self, contract: &[u8], image: &mut [u8], reply: &mut [u8]) -> u32 {
@@ -145,14 +166,34 @@ impl Archive {
         unsafe { long(self.run, image, state, trace, reply) }
     }
 
+    /// The result, if the archive has the call.
+    pub fn decide(&self, image: &[u8], trace: &[u8], reply: &mut [u8]) -> Option<u32> {
+        let decide = self.decide?;
+        // SAFETY: as in `compile`. Each pointer and length are those of a slice that lives through
+        // the call.
+        let result = unsafe {
+            decide(
+                image.as_ptr(),
+                image.len(),
+                trace.as_ptr(),
+                trace.len(),
+                reply.as_mut_ptr(),
+                reply.len(),
+            )
+        };
+        Some(result)
+    }
+
     /// Where the code of each call begins.
-    fn addresses(&self) -> [usize; 4] {
-        [
+    fn addresses(&self) -> impl Iterator<Item = usize> {
+        let always = [
             self.compile as usize,
             self.begin as usize,
             self.step as usize,
             self.run as usize,
-        ]
+        ];
+        let decide = self.decide.map(|decide| decide as usize);
+        always.into_iter().chain(decide)
     }
 }
 

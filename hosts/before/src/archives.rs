@@ -2,7 +2,7 @@
 
 use std::path::{Path, PathBuf};
 
-/// One archive of all four calls, or one of compile and one of the others.
+/// One archive of all calls, or one of compile and one of the others.
 const FORMS: [&[&str]; 2] = [&["libmonitor.a"], &["libcompiler.a", "librunner.a"]];
 
 /// The archives of the first form that the folder has whole.

@@ -3,10 +3,10 @@
 //!
 //! The earlier archive is linked beside today's where `MONITOR_BEFORE` names its folder at the build.
 //! The first form makes every call of `compare`'s cases with both archives on equal copies of what
-//! is lent; all must be the same at the call's end. Case number i is that of the seed S + i, so
-//! `before --seed S --cases 1` repeats one case. The second form times both archives on the
-//! benchmark's inputs, but for those that the earlier one refuses; the third measures the stack that
-//! the calls use.
+//! is lent, but for decide where the earlier one lacks it; all must be the same at the call's end.
+//! Case number i is that of the seed S + i, so `before --seed S --cases 1` repeats one case. The
+//! second form times both archives on the benchmark's inputs, but for those that the earlier one
+//! refuses; the third measures the stack that the calls use.
 
 #![deny(unsafe_code)]
 #![warn(clippy::undocumented_unsafe_blocks)]
@@ -94,6 +94,9 @@ fn print_sides(sides: &Sides) {
     println!("now:    {}", sides.now.files);
     if sides.alike {
         println!("Both hold the same code.");
+    }
+    if sides.before.places[0].decide.is_none() {
+        println!("The earlier archive has no decide, so that call isn't compared.");
     }
 }
 

@@ -121,6 +121,15 @@ pub fn run(archive: &Archive, image: &[u8], state: &mut [u8], trace: &[u8]) -> O
     accepted(unsafe { call.stack() }, &reply)
 }
 
+/// As `compile`; none where the archive lacks the call too.
+pub fn decide(archive: &Archive, image: &[u8], trace: &[u8]) -> Option<usize> {
+    let mut reply = [0xff; 32];
+    let areas = [read(image), read(trace), written(&mut reply)];
+    let call = Call::new(archive.decide? as *const (), &areas);
+    // SAFETY: as in `compile`.
+    accepted(unsafe { call.stack() }, &reply)
+}
+
 /// The bytes of a call, if it was accepted.
 fn accepted(bytes: usize, reply: &[u8]) -> Option<usize> {
     (reply[..4] == [0; 4]).then_some(bytes)

@@ -19,14 +19,16 @@ pub struct Tally {
     pub begins: u64,
     pub steps: u64,
     pub runs: u64,
+    /// None where the earlier archive lacks decide.
+    pub decides: u64,
 }
 
 impl Display for Tally {
     fn fmt(&self, to: &mut Formatter) -> fmt::Result {
         write!(
             to,
-            "{} cases with {} compiles ({} taken), {} begins, {} steps, {} runs",
-            self.cases, self.compiles, self.taken, self.begins, self.steps, self.runs
+            "{} cases with {} compiles ({} taken), {} begins, {} steps, {} runs, {} decides",
+            self.cases, self.compiles, self.taken, self.begins, self.steps, self.runs, self.decides
         )
     }
 }
@@ -149,6 +151,7 @@ impl Calls<'_> {
                 tally.runs += 1;
                 self.take(&name("run"), Archive::run, trace, *reply)
             }
+            Call::Decide { trace, reply } => self.decide(&name("decide"), trace, *reply, tally),
         }
     }
 
@@ -196,6 +199,32 @@ impl Calls<'_> {
         ];
         same(name, results, &[&reply, &self.state, &self.image, &periods])
     }
+
+    /// Decide, which is compared where both archives have it.
+    fn decide(
+        &mut self,
+        name: &str,
+        trace: &[u8],
+        reply: usize,
+        tally: &mut Tally,
+    ) -> Result<(), Difference> {
+        let trace = Lent::new("trace", trace, &mut self.random);
+        let mut reply = Lent::random("reply area", reply, &mut self.random);
+        let before = self.pair.before.decide(
+            self.image.reference(),
+            trace.reference(),
+            reply.reference_mut(),
+        );
+        let now = self
+            .pair
+            .now
+            .decide(self.image.product(), trace.product(), reply.product_mut());
+        let (Some(before), Some(now)) = (before, now) else {
+            return Ok(());
+        };
+        tally.decides += 1;
+        same(name, [before, now], &[&reply, &self.image, &trace])
+    }
 }
 
 /// That both archives gave the same result and left the same bytes.
@@ -233,9 +262,21 @@ mod tests {
         }
         assert_eq!(tally.cases, 1000);
         assert!(0 < tally.taken && tally.taken < tally.compiles);
-        assert!([tally.begins, tally.steps, tally.runs]
+        assert!([tally.begins, tally.steps, tally.runs, tally.decides]
             .iter()
             .all(|n| *n > 300));
+    }
+
+    #[test]
+    fn a_decide_that_the_earlier_archive_lacks_is_not_compared() {
+        for (now, call) in spoiled::<RESULT>() {
+            let mut pair = pair(now);
+            pair.before.decide = None;
+            let mut tally = Tally::default();
+            let differs =
+                (0..1000).any(|seed| pair.check(&Case::of_seed(seed), &mut tally).is_err());
+            assert_eq!((differs, tally.decides), (call != "decide", 0), "{call}");
+        }
     }
 
     #[test]

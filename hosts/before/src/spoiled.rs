@@ -1,6 +1,7 @@
 //! Today's archive with one fault, for tests.
 
 use crate::archive::Archive;
+use std::ptr;
 
 /// The result is another one.
 pub const RESULT: u8 = 0;
@@ -9,20 +10,18 @@ pub const OUTPUT: u8 = 1;
 /// The last byte of the reply area is another one.
 pub const REPLY: u8 = 2;
 
-/// An archive with the fault in each call, and the call's name.
-pub fn spoiled<const FAULT: u8>() -> [(Archive, &'static str); 4] {
-    let mut archives = [Archive::of_hosts(); 4];
+/// An archive with the fault in each call that can have it, and the call's name.
+pub fn spoiled<const FAULT: u8>() -> Vec<(Archive, &'static str)> {
+    let mut archives = [Archive::of_hosts(); 5];
     archives[0].compile = compile::<FAULT>;
     archives[1].begin = begin::<FAULT>;
     archives[2].step = step::<FAULT>;
     archives[3].run = run::<FAULT>;
-    let [one, two, three, four] = archives;
-    [
-        (one, "compile"),
-        (two, "begin"),
-        (three, "step"),
-        (four, "run"),
-    ]
+    archives[4].decide = Some(decide::<FAULT>);
+    let calls = ["compile", "begin", "step", "run", "decide"];
+    // Decide writes nothing but its reply.
+    let faulty = if FAULT == OUTPUT { 4 } else { 5 };
+    archives.into_iter().zip(calls).take(faulty).collect()
 }
 
 /// Today's archive, but compile and begin refuse whatever they are given.
@@ -151,4 +150,24 @@ unsafe extern "C" fn run<const FAULT: u8>(
         reply_length,
     );
     spoil::<FAULT>(result, state, state_length, reply, reply_length)
+}
+
+unsafe extern "C" fn decide<const FAULT: u8>(
+    image: *const u8,
+    image_length: usize,
+    trace: *const u8,
+    trace_length: usize,
+    reply: *mut u8,
+    reply_length: usize,
+) -> u32 {
+    let decide = Archive::of_hosts().decide.expect("today's archive has it");
+    let result = decide(
+        image,
+        image_length,
+        trace,
+        trace_length,
+        reply,
+        reply_length,
+    );
+    spoil::<FAULT>(result, ptr::null_mut(), 0, reply, reply_length)
 }

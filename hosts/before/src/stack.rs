@@ -12,7 +12,7 @@ use monitor::{Action, Contract, Party, Record};
 pub fn measure(sides: &Sides) {
     println!(
         "Bytes of stack that a call uses, its return address among them, on a stack painted beforehand;\n\
-         - where the archive refuses the input.\n"
+         - where the archive refuses the input or lacks the call.\n"
     );
     line(["call", "input", "before", "now"]);
     let archives = [sides.before.places[0], Archive::of_hosts()];
@@ -24,7 +24,7 @@ pub fn measure(sides: &Sides) {
     for input in [&inputs[0], &inputs[inputs.len() - 1]] {
         let name = format!("{} rows", product::rows_of(&input.image));
         let bytes = archives.map(|archive| of_calls(&archive, input));
-        for (number, call) in ["begin", "step", "run"].into_iter().enumerate() {
+        for (number, call) in ["begin", "step", "run", "decide"].into_iter().enumerate() {
             row(call, &name, bytes.map(|bytes| bytes[number]));
         }
     }
@@ -43,14 +43,15 @@ fn of_compile(archive: &Archive, contract: &[u8]) -> Option<usize> {
     painted::compile(archive, contract, &mut vec![0; LONGEST_IMAGE])
 }
 
-/// The bytes of begin, step and run.
-fn of_calls(archive: &Archive, input: &Input) -> [Option<usize>; 3] {
+/// The bytes of begin, step, run and decide.
+fn of_calls(archive: &Archive, input: &Input) -> [Option<usize>; 4] {
     let Input { image, trace, .. } = input;
     let mut state = product::begin(image);
     [
         painted::begin(archive, image, &mut state),
         painted::step(archive, image, &mut state, &trace[..PERIOD]),
         painted::run(archive, image, &mut state, trace),
+        painted::decide(archive, image, trace),
     ]
 }
 
@@ -129,9 +130,14 @@ mod tests {
     }
 
     #[test]
-    fn what_is_refused_is_not_measured() {
+    fn what_is_refused_or_lacking_is_not_measured() {
         let image = &steps::inputs(&Plan::new(true))[0];
         assert_eq!(of_compile(&refusing(), &contracts()[0].1), None);
         assert_eq!(of_calls(&refusing(), image)[0], None);
+        let without = Archive {
+            decide: None,
+            ..Archive::of_hosts()
+        };
+        assert_eq!(of_calls(&without, image)[3], None);
     }
 }

@@ -4,9 +4,11 @@ use crate::contracts;
 use crate::images;
 use crate::random::Random;
 use crate::traces;
+use reference::calls::{decide, DECIDE_REPLY};
 use reference::contract::{least_buffer, read, sum_of_windows};
 use reference::image::MAX_BYTES;
-use reference::Period;
+use reference::records::four_bytes;
+use reference::{Monitor, Period};
 
 #[derive(Clone, Copy, Debug, PartialEq, Eq)]
 pub enum Family {
@@ -39,12 +41,14 @@ pub enum Start {
     },
 }
 
-/// A call on the image and the state, with a reply area of that length.
+/// A call on the image and the state, or on the image alone (decide), with a reply area of that
+/// length.
 #[derive(Clone)]
 pub enum Call {
     Begin { reply: usize },
     Step { period: Vec<u8>, reply: usize },
     Run { trace: Vec<u8>, reply: usize },
+    Decide { trace: Vec<u8>, reply: usize },
 }
 
 #[derive(Clone)]
@@ -98,7 +102,7 @@ fn any_room(random: &mut Random, least: usize) -> usize {
 
 type Parts = (Family, Start, Vec<Call>);
 
-/// A contract that is taken, with steps and runs.
+/// A contract that is taken, with steps, runs and decides.
 fn contract_case(random: &mut Random) -> Parts {
     let bytes = contracts::good(random);
     let least = least_buffer(&bytes);
@@ -125,6 +129,8 @@ fn contract_case(random: &mut Random) -> Parts {
         // Without begin the state holds any bytes.
         calls.remove(0);
     }
+    let decision = decision_of_contract(&bytes, &periods);
+    add_decides(random, &periods, decision, &mut calls);
     (
         Family::Contracts,
         Start::Contract {
@@ -197,6 +203,39 @@ fn refused_call(random: &mut Random, rest: &[Period]) -> Call {
     }
 }
 
+/// Puts decides on these periods among the calls; the decision is their decision period.
+fn add_decides(random: &mut Random, periods: &[Period], decision: usize, calls: &mut Vec<Call>) {
+    for _ in 0..random.between(1, 3) {
+        let trace = traces::to_decide(random, periods, decision);
+        let reply = if random.percent(20) {
+            any_room(random, DECIDE_REPLY)
+        } else {
+            room(random, DECIDE_REPLY)
+        };
+        let at = random.below(calls.len() + 1);
+        calls.insert(at, Call::Decide { trace, reply });
+    }
+}
+
+/// The decision period of a contract on these periods; 0 for none, or if the contract isn't taken.
+fn decision_of_contract(contract: &[u8], periods: &[Period]) -> usize {
+    let Ok(clause) = read(contract) else {
+        return 0;
+    };
+    let mut monitor = Monitor::new(&clause);
+    for period in periods {
+        monitor.step(period.one, period.two);
+    }
+    monitor.decision_period()
+}
+
+/// The decision period of an image on these periods; 0 for none, or if the image isn't good.
+fn decision_of_image(image: &[u8], periods: &[Period]) -> usize {
+    let mut reply = [0; DECIDE_REPLY];
+    decide(image, &traces::bytes(periods), &mut reply);
+    four_bytes(&reply, 20) as usize
+}
+
 /// A contract with faults, with a buffer of a length around the least one.
 fn damaged_contract_case(random: &mut Random) -> Parts {
     let bytes = if random.percent(15) {
@@ -223,6 +262,8 @@ fn damaged_contract_case(random: &mut Random) -> Parts {
     }];
     let periods = traces::any(random, 3);
     take(random, &periods, &mut calls);
+    let decision = decision_of_contract(&bytes, &periods);
+    add_decides(random, &periods, decision, &mut calls);
     (
         Family::DamagedContracts,
         Start::Contract {
@@ -251,6 +292,8 @@ fn image_case(random: &mut Random) -> Parts {
             },
         );
     }
+    let decision = decision_of_image(&bytes, &periods);
+    add_decides(random, &periods, decision, &mut calls);
     (Family::Images, Start::Image { bytes, state }, calls)
 }
 
@@ -278,12 +321,13 @@ fn damaged_image_case(random: &mut Random) -> Parts {
     let mut calls = Vec::new();
     for _ in 0..random.between(1, 3) {
         let length = random.below(16);
-        let mut trace = traces::bytes(&traces::any(random, length));
+        let periods = traces::any(random, length);
+        let mut trace = traces::bytes(&periods);
         if trace_fault {
             traces::damage(random, &mut trace);
         }
         let reply = any_room(random, 24);
-        calls.push(match random.below(5) {
+        calls.push(match random.below(7) {
             0 => Call::Begin {
                 reply: any_room(random, 16),
             },
@@ -291,7 +335,17 @@ fn damaged_image_case(random: &mut Random) -> Parts {
                 period: step_record(random, trace_fault),
                 reply,
             },
-            _ => Call::Run { trace, reply },
+            3 | 4 => Call::Run { trace, reply },
+            _ => {
+                if trace_fault {
+                    let decision = decision_of_image(&bytes, &periods);
+                    trace = traces::to_decide(random, &periods, decision);
+                }
+                Call::Decide {
+                    trace,
+                    reply: any_room(random, DECIDE_REPLY),
+                }
+            }
         });
     }
     (Family::DamagedImages, Start::Image { bytes, state }, calls)
@@ -302,5 +356,61 @@ fn step_record(random: &mut Random, fault: bool) -> Vec<u8> {
         traces::bad_period(random)
     } else {
         traces::bytes(&traces::any(random, 1))
+    }
+}
+
+#[cfg(test)]
+mod tests {
+    use super::*;
+    use reference::records::read_trace;
+
+    const QUIET: Period = Period { one: 0, two: 0 };
+    const BOTH: Period = Period { one: 1, two: 1 };
+
+    #[test]
+    fn every_family_has_decides_of_every_sort() {
+        // Without room, empty, good, with a bad length, with a bad mark.
+        let mut counts = [[0; 5]; FAMILIES.len()];
+        for case in (0..3000).map(Case::of_seed) {
+            for call in &case.calls {
+                let Call::Decide { trace, reply } = call else {
+                    continue;
+                };
+                let sort = match read_trace(trace) {
+                    _ if *reply < DECIDE_REPLY => 0,
+                    Ok(periods) if periods.is_empty() => 1,
+                    Ok(_) => 2,
+                    Err(_) if !trace.len().is_multiple_of(6) => 3,
+                    Err(_) => 4,
+                };
+                counts[case.family as usize][sort] += 1;
+            }
+        }
+        let all = counts.as_flattened();
+        assert!(all.iter().all(|count| *count > 10), "{counts:?}");
+    }
+
+    #[test]
+    fn decisions_are_found() {
+        let duty = [0x54, 0x43, 1, 1, 0, 0];
+        let repeated = [duty, [0x54, 0x43, 7, 0, 0, 0]].concat();
+        assert_eq!(decision_of_contract(&duty, &[QUIET, BOTH]), 1);
+        assert_eq!(
+            decision_of_contract(&repeated, &[BOTH, BOTH, QUIET, BOTH]),
+            3
+        );
+        assert_eq!(decision_of_contract(&repeated, &[BOTH; 9]), 0);
+        assert_eq!(decision_of_contract(&duty[..5], &[QUIET]), 0);
+
+        // Satisfied when party 1 tries action 0.
+        let image = [
+            [0x54, 0x52, 2, 0, 1, 0, 0, 0],
+            [0x54, 0x52, 0, 0, 0, 0, 0, 0],
+            [0x54, 0x45, 0, 0, 1, 0, 1, 0],
+        ];
+        let image = image.concat();
+        assert_eq!(decision_of_image(&image, &[QUIET, QUIET, BOTH, QUIET]), 3);
+        assert_eq!(decision_of_image(&image, &[QUIET; 9]), 0);
+        assert_eq!(decision_of_image(&image[1..], &[BOTH]), 0);
     }
 }

@@ -2,13 +2,15 @@
 
 use crate::cases::{Call, Case, Start};
 use crate::guard::Lent;
+use crate::images::rows_of;
 use crate::random::Random;
 use crate::report::{Difference, Tally};
 use monitor::calls as product;
-use reference::calls::{self, short_reply, LONG_REPLY, SHORT_REPLY};
+use reference::calls::{self, short_reply, DECIDE_REPLY, LONG_REPLY, SHORT_REPLY};
 use reference::contract::{compile, least_buffer, max_rows};
-use reference::records::{four_bytes, RECORD_BYTES};
-use reference::{image, Clause, Monitor, Period};
+use reference::records::{four_bytes, PERIOD_MARK, RECORD_BYTES};
+use reference::state::HEAD_BYTES;
+use reference::{image, Clause, Decision, Monitor, Period};
 use std::rc::Rc;
 
 /// Runs the case; an error is the first difference.
@@ -160,6 +162,9 @@ impl Calls {
                 Call::Run { trace, reply } => {
                     self.run(&format!("call {number}, run"), trace, *reply, tally)?;
                 }
+                Call::Decide { trace, reply } => {
+                    self.decide(&format!("call {number}, decide"), trace, *reply, tally)?;
+                }
             }
         }
         if let Some(meaning) = &self.meaning {
@@ -250,6 +255,51 @@ impl Calls {
         Ok(())
     }
 
+    fn decide(
+        &mut self,
+        call: &str,
+        trace: &[u8],
+        reply: usize,
+        tally: &mut Tally,
+    ) -> Result<(), Difference> {
+        let trace = Lent::new("trace", trace, &mut self.random);
+        let mut reply = Lent::random("reply area", reply, &mut self.random);
+        let came = product::decide(self.image.product(), trace.product(), reply.product_mut());
+        let expected = calls::decide(
+            self.image.reference(),
+            trace.reference(),
+            reply.reference_mut(),
+        );
+        results(call, expected, came)?;
+        trace.compare(call)?;
+        self.compare(call, &reply)?;
+        if expected == 1 {
+            if let Some((number, decision)) = self.first_bad_mark(trace.reference()) {
+                tally.bad_mark(number, decision);
+            }
+        }
+        if tally.result("decide", expected, reply.reference()) {
+            tally.decide(four_bytes(reply.product(), 4));
+            self.decided(call, trace.reference(), reply.product())?;
+            self.same_as_run(call, trace.reference(), reply.product())?;
+        }
+        Ok(())
+    }
+
+    /// The number of the first record with a bad mark, and the decision period of the trace with
+    /// good marks, if image and length are good.
+    fn first_bad_mark(&self, trace: &[u8]) -> Option<(usize, usize)> {
+        let mut good = trace.to_vec();
+        for record in good.chunks_exact_mut(RECORD_BYTES) {
+            record[..2].copy_from_slice(&PERIOD_MARK);
+        }
+        let at = trace.iter().zip(&good).position(|(was, is)| was != is)?;
+        let mut reply = [0; DECIDE_REPLY];
+        calls::decide(self.image.reference(), &good, &mut reply);
+        let decision = four_bytes(&reply, 20) as usize;
+        (four_bytes(&reply, 0) == 0).then_some((at / RECORD_BYTES, decision))
+    }
+
     fn compare(&self, call: &str, reply: &Lent) -> Result<(), Difference> {
         reply.compare(call)?;
         self.state.compare(call)?;
@@ -280,6 +330,46 @@ impl Calls {
         let came = [4, 16, 20].map(|at| four_bytes(reply, at));
         let what = "the contract's verdict, blame and decision period";
         Difference::unless_same(call, what, &expected, &came)
+    }
+
+    /// An accepted decide: its reply tells the meaning of the trace up to the decision.
+    fn decided(&self, call: &str, trace: &[u8], reply: &[u8]) -> Result<(), Difference> {
+        let Some(clause) = &self.clause else {
+            return Ok(());
+        };
+        let mut meaning = Monitor::new(clause);
+        for record in trace.chunks(RECORD_BYTES) {
+            if meaning.decision() != Decision::Undecided {
+                break;
+            }
+            let period = Period::of_record(record);
+            meaning.step(period.one, period.two);
+        }
+        let expected = [
+            meaning.decision().outcome().into(),
+            meaning.blame().into(),
+            meaning.decision_period() as u32,
+            meaning.periods() as u32,
+        ];
+        let came = [4, 16, 20, 24].map(|at| four_bytes(reply, at));
+        let what = "the contract's outcome, blame, decision period and records read";
+        Difference::unless_same(call, what, &expected, &came)
+    }
+
+    /// "On a fresh state, run over just the records read leaves the same outcome, blame and
+    /// decision."
+    fn same_as_run(&self, call: &str, trace: &[u8], reply: &[u8]) -> Result<(), Difference> {
+        let image = self.image.product();
+        let read = four_bytes(reply, 24) as usize;
+        let read = &trace[..trace.len().min(read * RECORD_BYTES)];
+        let mut state = vec![0xff; HEAD_BYTES + rows_of(image)];
+        product::begin(image, &mut state, &mut [0; SHORT_REPLY]);
+        product::run(image, &mut state, read, &mut [0; LONG_REPLY]);
+        let ran = [state[0].into(), state[1].into(), four_bytes(&state, 6)];
+        let decided = [4, 16, 20].map(|at| four_bytes(reply, at));
+        let what = "outcome, blame and decision of a run over the records read";
+        Difference::unless_same(call, what, &ran, &decided)
+            .map_err(|difference| difference.between(&["run", "decide"]))
     }
 
     /// A run "ends as that many steps would".
@@ -348,13 +438,17 @@ mod tests {
             trace: [QUIET, QUIET].concat(),
             reply: 24,
         };
+        let decide = Call::Decide {
+            trace: [QUIET, QUIET].concat(),
+            reply: 32,
+        };
         let tally = &mut Tally::default();
-        for call in [step, run] {
+        for call in [step, run, decide] {
             let list = [Call::Begin { reply: 16 }, call];
             calls(&DUTY).check(&list, tally).unwrap();
             for other in [BAN, JOINT_DUTY] {
                 let difference = calls(&other).check(&list, tally).unwrap_err();
-                assert!(difference.to_string().contains("the contract's verdict"));
+                assert!(difference.to_string().contains("the contract's "));
             }
         }
     }
@@ -388,6 +482,52 @@ mod tests {
         assert!(same(&[], &reply).is_err(), "another state");
         reply[4] ^= 1;
         assert!(same(&QUIET, &reply).is_err(), "another reply");
+    }
+
+    #[test]
+    fn another_reply_of_decide_is_a_difference() {
+        let tally = &mut Tally::default();
+        let mut calls = calls(&DUTY);
+        calls.decide("decide", &QUIET, 32, tally).unwrap();
+        // A row of no kind: the product refuses.
+        calls.image.product_mut()[2] = 7;
+        let difference = calls.decide("decide", &QUIET, 32, tally).unwrap_err();
+        assert!(difference.to_string().contains("of the reply area"));
+    }
+
+    #[test]
+    fn a_decide_unlike_its_run_is_a_difference() {
+        let calls = calls(&DUTY);
+        let trace = [QUIET, QUIET].concat();
+        let mut reply = [0; DECIDE_REPLY];
+        product::decide(calls.image.product(), &trace, &mut reply);
+        calls.same_as_run("decide", &trace, &reply).unwrap();
+        for (at, what) in [
+            (4, "outcome"),
+            (16, "blame"),
+            (20, "decision period"),
+            (24, "records read"),
+        ] {
+            let mut other = reply;
+            other[at] ^= 1;
+            let same = calls.same_as_run("decide", &trace, &other);
+            assert!(same.is_err(), "another {what}");
+        }
+    }
+
+    #[test]
+    fn the_first_bad_mark_is_found() {
+        const BAD: [u8; 6] = [0x54, 0x43, 0, 0, 0, 0];
+        let calls = calls(&DUTY);
+        let found = |trace: &[u8]| calls.first_bad_mark(trace);
+        assert_eq!(found(&[]), None);
+        assert_eq!(found(&QUIET), None);
+        assert_eq!(found(&BAD), Some((0, 1)));
+        assert_eq!(
+            found(&[QUIET, QUIET, BAD, QUIET, BAD].concat()),
+            Some((2, 1))
+        );
+        assert_eq!(found(&[QUIET, BAD].concat()[..11]), None, "a bad length");
     }
 
     #[test]

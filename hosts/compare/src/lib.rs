@@ -1,4 +1,4 @@
-//! Random inputs of the four calls and of `watch`, and the comparison of the monitor with the
+//! Random inputs of the five calls and of `watch`, and the comparison of the monitor with the
 //! reference on them.
 
 #![forbid(unsafe_code)]

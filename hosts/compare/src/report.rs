@@ -2,7 +2,8 @@
 
 use crate::cases::{Call, Case, Start, FAMILIES};
 use reference::contract::{sum_of_windows, KINDS};
-use reference::{Decision, Monitor};
+use reference::Monitor;
+use std::cmp::Ordering;
 use std::collections::BTreeMap;
 use std::fmt::{self, Debug, Display, Formatter};
 
@@ -109,6 +110,10 @@ pub fn print_case(case: &Case) {
                 println!("call {number}: run, reply area of {reply}");
                 print_lines("  trace", trace, 6);
             }
+            Call::Decide { trace, reply } => {
+                println!("call {number}: decide, reply area of {reply}");
+                print_lines("  trace", trace, 6);
+            }
         }
     }
 }
@@ -125,6 +130,11 @@ pub struct Tally {
     /// By call and number; 99 stands for a reply area without room.
     replies: BTreeMap<(&'static str, u32), usize>,
     verdicts: [usize; 5],
+    /// Accepted decides by outcome: undecided, satisfied, violated.
+    decides: [usize; 3],
+    /// Traces of decide by where their first bad mark stands: before the deciding record, at it,
+    /// after it, where none decides.
+    bad_marks: [usize; 4],
     /// Contracts undecided, satisfied and violated at the end of their periods.
     outcomes: [usize; 3],
     blames: [usize; 3],
@@ -177,6 +187,23 @@ impl Tally {
         self.verdicts[verdict as usize] += 1;
     }
 
+    pub fn decide(&mut self, outcome: u32) {
+        self.decides[outcome as usize] += 1;
+    }
+
+    /// Counts a trace of decide whose first bad mark is that of the record of this number; the
+    /// decision period is that of the trace with good marks.
+    pub fn bad_mark(&mut self, number: usize, decision: usize) {
+        let deciding = decision.checked_sub(1);
+        let stands = match deciding.map(|deciding| number.cmp(&deciding)) {
+            Some(Ordering::Less) => 0,
+            Some(Ordering::Equal) => 1,
+            Some(Ordering::Greater) => 2,
+            None => 3,
+        };
+        self.bad_marks[stands] += 1;
+    }
+
     pub fn compiled(&mut self, contract: &[u8], rows: usize) {
         self.records[bucket(contract.len() / 6, [1, 8, 32, 63])] += 1;
         self.max_rows = self.max_rows.max(rows);
@@ -196,11 +223,7 @@ impl Tally {
     }
 
     pub fn decided(&mut self, meaning: &Monitor) {
-        let outcome = match meaning.decision() {
-            Decision::Undecided => 0,
-            Decision::Satisfied { .. } => 1,
-            Decision::Violated { .. } => 2,
-        };
+        let outcome = usize::from(meaning.decision().outcome());
         self.outcomes[outcome] += 1;
         if meaning.blame() > 0 {
             self.blames[meaning.blame() as usize - 1] += 1;
@@ -212,7 +235,7 @@ impl Tally {
 
     fn print(&self, name: &str) {
         println!("{name}: {} cases", self.cases);
-        for call in ["compile", "begin", "step", "run", "watch"] {
+        for call in ["compile", "begin", "step", "run", "decide", "watch"] {
             let counts: Vec<String> = self
                 .replies
                 .iter()
@@ -230,6 +253,14 @@ impl Tally {
         let verdicts = ["open", "met", "broken", "met-after", "broken-after"];
         print_counts("verdicts", &verdicts, &self.verdicts);
         let outcomes = ["undecided", "satisfied", "violated"];
+        print_counts("accepted decides", &outcomes, &self.decides);
+        let stands = [
+            "before the deciding record",
+            "at it",
+            "after it",
+            "none decides",
+        ];
+        print_counts("decides, by first bad mark", &stands, &self.bad_marks);
         print_counts("contracts at the end", &outcomes, &self.outcomes);
         print_counts("blames", &["1:", "2:", "3:"], &self.blames);
         let periods = ["1:", "2 to 4:", "5 to 16:", "17 to 64:", "later:"];
@@ -289,6 +320,17 @@ impl Summary {
 #[cfg(test)]
 mod tests {
     use super::*;
+
+    #[test]
+    fn bad_marks_are_counted_by_where_they_stand() {
+        let mut tally = Tally::default();
+        // Decided by record 2, and not at all.
+        for number in [0, 1, 2, 3, 4, 5] {
+            tally.bad_mark(number, 3);
+            tally.bad_mark(number, 0);
+        }
+        assert_eq!(tally.bad_marks, [2, 1, 3, 6]);
+    }
 
     #[test]
     fn different_values_are_a_difference() {

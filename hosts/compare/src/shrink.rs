@@ -296,21 +296,22 @@ fn call_bytes(call: &mut Call) -> Option<&mut Vec<u8>> {
     match call {
         Call::Begin { .. } => None,
         Call::Step { period, .. } => Some(period),
-        Call::Run { trace, .. } => Some(trace),
+        Call::Run { trace, .. } | Call::Decide { trace, .. } => Some(trace),
     }
 }
 
 /// Fewer records and an ample reply area.
 fn shrink_call(s: &mut Shrinker<Case>, call: usize) {
-    if let Call::Run { .. } = s.now.calls[call] {
+    if let Call::Run { .. } | Call::Decide { .. } = s.now.calls[call] {
         drop_parts(s, 6, move |case| {
-            call_bytes(&mut case.calls[call]).expect("a run has a trace")
+            call_bytes(&mut case.calls[call]).expect("the call has a trace")
         });
     }
     let mut candidate = s.now.clone();
     let (reply, ample) = match &mut candidate.calls[call] {
         Call::Begin { reply } => (reply, 16),
         Call::Step { reply, .. } | Call::Run { reply, .. } => (reply, 24),
+        Call::Decide { reply, .. } => (reply, 32),
     };
     if *reply != ample {
         *reply = ample;
@@ -400,6 +401,19 @@ mod tests {
         // Where only a joint duty differs.
         let mut smaller = case(found, &mut |case| has(case, is_joint));
         assert_eq!(byte_lists(&mut smaller), [&[0, 0, 1, 3, 0, 0]]);
+    }
+
+    #[test]
+    fn a_decide_gets_small() {
+        let smaller = smaller(|case| {
+            let long = |trace: &[u8]| trace.len() >= 12 && trace.len().is_multiple_of(6);
+            let decides = |call: &Call| matches!(call, Call::Decide { trace, .. } if long(trace));
+            case.calls.iter().any(decides)
+        });
+        let [Call::Decide { trace, reply }] = &smaller.calls[..] else {
+            panic!("a lone decide");
+        };
+        assert_eq!((trace.as_slice(), *reply), (&[0; 12][..], 32));
     }
 
     #[test]

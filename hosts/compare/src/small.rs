@@ -1,8 +1,10 @@
 //! Every small contract, with windows that short lists outlast, on every short list of periods,
-//! through the Rust wrapper.
+//! through the Rust wrapper, and decide on each list that is just decided or stays undecided.
 
-use monitor::{Blame, Image, Monitor, Period};
-use reference::{contract, Decision};
+use monitor::{calls, Blame, Image, Monitor, Period};
+use reference::calls::DECIDE_REPLY;
+use reference::records::four_bytes;
+use reference::{contract, Decision, Verdict};
 use std::num::NonZeroU32;
 
 /// How long the lists are: after the decision only one period more is looked at.
@@ -86,21 +88,30 @@ fn one_more(shorter: &[Spelled]) -> Spelled {
     }
 }
 
-/// Follows every list of `left` periods more, and counts the steps.
+/// How many calls were made.
+#[derive(Default)]
+struct Made {
+    steps: u64,
+    decides: u64,
+}
+
+/// Follows every list of `left` periods more after those of the trace.
 fn follow(
     product: &Monitor,
     meant: &reference::Monitor,
+    trace: &[u8],
     left: usize,
-    steps: &mut u64,
+    made: &mut Made,
 ) -> Result<(), String> {
     if left == 0 {
         return Ok(());
     }
     for (one, two) in [(0, 0), (0, 1), (1, 0), (1, 1)] {
         let (mut product, mut meant) = (product.clone(), meant.clone());
+        let next = Period::from_masks(one, two);
         meant.step(one, two);
-        let came = product.step(Period::from_masks(one, two));
-        *steps += 1;
+        let came = product.step(next);
+        made.steps += 1;
         let expected = (
             meant.verdict().number(),
             u32::from(meant.blame()),
@@ -115,21 +126,53 @@ fn follow(
         if !same {
             return Err(format!("{period}: expected {expected:?}, came {came:?}"));
         }
+        let trace = [trace, &next.to_bytes()].concat();
         let left = match meant.decision() {
             Decision::Undecided => left - 1,
             _ => (left - 1).min(1),
         };
-        follow(&product, &meant, left, steps).map_err(|rest| format!("{period} {rest}"))?;
+        if let (Verdict::Met | Verdict::Broken, _) | (Verdict::Open, 0) = (meant.verdict(), left) {
+            decide(product.image(), &meant, &trace, made)
+                .map_err(|differs| format!("{period}: {differs}"))?;
+        }
+        follow(&product, &meant, &trace, left, made).map_err(|rest| format!("{period} {rest}"))?;
+    }
+    Ok(())
+}
+
+/// Compares decide; a decided list goes on with what is no period record.
+fn decide(
+    image: &Image,
+    meant: &reference::Monitor,
+    trace: &[u8],
+    made: &mut Made,
+) -> Result<(), String> {
+    let mut trace = trace.to_vec();
+    if meant.decision() != Decision::Undecided {
+        trace.extend([0; 6]);
+    }
+    let mut reply = [0xff; DECIDE_REPLY];
+    let result = calls::decide(image.as_bytes(), &trace, &mut reply);
+    made.decides += 1;
+    let came = [0, 4, 8, 12, 16, 20, 24, 28].map(|at| four_bytes(&reply, at));
+    let [outcome, blame] = [meant.decision().outcome(), meant.blame()].map(u32::from);
+    let [decision, read] = [meant.decision_period(), meant.periods()].map(|count| count as u32);
+    let expected = [0, outcome, 0, 0, blame, decision, read, 0];
+    if (result, came) != (1, expected) {
+        return Err(format!(
+            "expected {expected:?} of decide, came {result}, {came:?}"
+        ));
     }
     Ok(())
 }
 
 /// Compares one contract.
-fn check(bytes: &[u8], steps: &mut u64) -> Result<(), String> {
+fn check(bytes: &[u8], made: &mut Made) -> Result<(), String> {
     match (contract::read(bytes), Image::compile(bytes)) {
         (Ok(clause), Ok(image)) => {
             let meant = reference::Monitor::new(&clause);
-            follow(&Monitor::begin(&image), &meant, PERIODS, steps)
+            decide(&image, &meant, &[], made)?;
+            follow(&Monitor::begin(&image), &meant, &[], PERIODS, made)
         }
         (Err(expected), Err(came))
             if (u64::from(expected.number), expected.place)
@@ -148,7 +191,7 @@ fn check(bytes: &[u8], steps: &mut u64) -> Result<(), String> {
 /// Compares every contract of at most so many records; false after a difference, which is printed.
 pub fn compare(records: usize) -> bool {
     let mut spelled = Vec::new();
-    let (mut contracts, mut steps) = (0, 0);
+    let (mut contracts, mut made) = (0, Made::default());
     for n in 1..=records {
         let next = if n == 1 {
             one_record()
@@ -157,7 +200,7 @@ pub fn compare(records: usize) -> bool {
         };
         for bytes in &next.clauses {
             contracts += 1;
-            if let Err(difference) = check(bytes, &mut steps) {
+            if let Err(difference) = check(bytes, &mut made) {
                 println!("contract {bytes:02x?}: {difference}");
                 return false;
             }
@@ -166,7 +209,8 @@ pub fn compare(records: usize) -> bool {
     }
     println!(
         "every contract of at most {records} records on one action, with windows of {WINDOWS:?}: \
-         {contracts}, {steps} steps"
+         {contracts}, {} steps, {} decides",
+        made.steps, made.decides
     );
     true
 }

@@ -2,6 +2,7 @@
 
 use crate::random::Random;
 use reference::{Clause, Decision, Monitor, Period};
+use std::ops::Range;
 
 /// A period on the first `actions` actions, mostly; attempts coincide often.
 pub fn period(random: &mut Random, actions: usize) -> Period {
@@ -82,14 +83,22 @@ pub fn length(random: &mut Random) -> usize {
 pub fn bad_period(random: &mut Random) -> Vec<u8> {
     let mut record = period(random, 4).record().to_vec();
     match random.below(6) {
-        0 => record[0] = random.byte(),
-        1 => record[1] = random.pick(&[0x43, 0x45, 0x52, 0x51, 0x4f, 0]),
+        0 | 1 => spoil_mark(random, &mut record),
         2 => record.truncate(random.below(6)),
         3 => record.extend(random.bytes(1)),
         4 => record.extend(period(random, 4).record()),
         _ => record = random.bytes(6),
     }
     record
+}
+
+/// A record with a bad mark, mostly.
+fn spoil_mark(random: &mut Random, record: &mut [u8]) {
+    if random.percent(50) {
+        record[0] = random.byte();
+    } else {
+        record[1] = random.pick(&[0x43, 0x45, 0x52, 0x51, 0x4f, 0]);
+    }
 }
 
 /// A trace with a bad mark or a bad length, mostly.
@@ -109,10 +118,105 @@ pub fn damage(random: &mut Random, trace: &mut Vec<u8>) {
     }
 }
 
+/// A trace for decide: these periods or the first of them, often with bad marks before the deciding
+/// record, at it or after it, and at times with a bad length. The decision is the periods' decision
+/// period, 0 for none.
+pub fn to_decide(random: &mut Random, periods: &[Period], decision: usize) -> Vec<u8> {
+    let kept = match random.below(8) {
+        0 => decision.saturating_sub(1),
+        1 => decision,
+        2 => random.below(periods.len() + 1),
+        _ => periods.len(),
+    };
+    let mut trace = bytes(&periods[..kept]);
+    match random.below(10) {
+        0..=2 => {}
+        3 => damage(random, &mut trace),
+        _ => spoil_marks(random, &mut trace, decision),
+    }
+    if random.percent(5) {
+        trace.extend(random.some_bytes(1, 5));
+    }
+    trace
+}
+
+/// A bad mark before the deciding record, at it or after it, or anywhere if there is none; at times
+/// with random bytes from the next record on.
+fn spoil_marks(random: &mut Random, trace: &mut [u8], decision: usize) {
+    let records = trace.len() / 6;
+    let deciding = if (1..=records).contains(&decision) {
+        decision - 1..decision
+    } else {
+        records..records
+    };
+    let parts = [0..deciding.start, deciding.clone(), deciding.end..records];
+    let parts: Vec<Range<usize>> = parts.into_iter().filter(|part| !part.is_empty()).collect();
+    if parts.is_empty() {
+        return;
+    }
+    let part = &parts[random.below(parts.len())];
+    let (record, later) = trace[random.between(part.start, part.end - 1) * 6..].split_at_mut(6);
+    spoil_mark(random, record);
+    if random.percent(25) {
+        later.copy_from_slice(&random.bytes(later.len()));
+    }
+}
+
 #[cfg(test)]
 mod tests {
     use super::*;
+    use reference::records::read_trace;
     use reference::{Owner, Party};
+
+    const QUIET: Period = Period { one: 0, two: 0 };
+
+    /// How many traces to decide ten quiet periods, with that decision period, have their first bad
+    /// mark before the deciding record, at it, after it, and none; and how many have a bad length.
+    fn traces_to_decide(decision: usize) -> [usize; 5] {
+        let periods = [QUIET; 10];
+        let mut counts = [0; 5];
+        for seed in 0..1000 {
+            let trace = to_decide(&mut Random::new(seed), &periods, decision);
+            let kind = match read_trace(&trace) {
+                Err(_) if !trace.len().is_multiple_of(6) => 4,
+                Err(refusal) => match refusal.place as usize + 1 {
+                    number if number < decision => 0,
+                    number if number == decision => 1,
+                    _ => 2,
+                },
+                Ok(_) => 3,
+            };
+            counts[kind] += 1;
+        }
+        counts
+    }
+
+    #[test]
+    fn bad_marks_stand_before_at_and_after_the_deciding_record() {
+        let often = |counts: &[usize]| counts.iter().all(|count| *count > 30);
+        for decision in 2..10 {
+            let counts = traces_to_decide(decision);
+            assert!(often(&counts), "{decision} {counts:?}");
+        }
+        // No record is before the first.
+        let counts = traces_to_decide(1);
+        assert!(often(&counts[1..]), "{counts:?}");
+    }
+
+    #[test]
+    fn traces_to_decide_end_before_at_and_after_the_deciding_record() {
+        let periods = [QUIET; 10];
+        let mut lengths = [0; 13];
+        for seed in 0..1000 {
+            let trace = to_decide(&mut Random::new(seed), &periods, 4);
+            lengths[trace.len() / 6] += 1;
+        }
+        assert!(lengths[..11].iter().all(|count| *count > 5), "{lengths:?}");
+        assert!(
+            [3, 4, 10].iter().all(|length| lengths[*length] > 100),
+            "{lengths:?}"
+        );
+    }
 
     #[test]
     fn a_joint_duty_is_met_and_broken_with_every_blame() {

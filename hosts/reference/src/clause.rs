@@ -96,6 +96,15 @@ impl Decision {
         }
     }
 
+    /// "Outcome (0 undecided, 1 satisfied, 2 violated)."
+    pub fn outcome(self) -> u8 {
+        match self {
+            Decision::Undecided => 0,
+            Decision::Satisfied { .. } => 1,
+            Decision::Violated { .. } => 2,
+        }
+    }
+
     /// "The decision period is 0 while it is undecided."
     pub fn period(self) -> usize {
         match self {
