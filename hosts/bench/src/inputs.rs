@@ -71,6 +71,14 @@ pub fn open(random: &mut Random, clause: &Clause, kept: Period, periods: usize) 
     bytes(&drawn)
 }
 
+/// Periods that leave a repaired duty open, two without any attempt, which violate it, then any.
+pub fn violated(random: &mut Random, open: Vec<u8>, periods: usize) -> Vec<u8> {
+    let mut trace = open;
+    trace.extend(bytes(&[Period::default(); 2]));
+    trace.extend(any(random, periods));
+    trace
+}
+
 /// A period that leaves the monitor open, and the monitor after it.
 fn open_period(random: &mut Random, monitor: &Monitor, kept: Period) -> (Period, Monitor) {
     let (one, two) = masks(kept);

@@ -23,9 +23,7 @@ pub fn measure(plan: &Plan) {
     let image = product::image_of(&contract.bytes);
     let open = inputs::open(random, &contract.clause(), contract.kept, most);
     measure_trace(plan, "stays open", &image, &open);
-    // Two periods without any attempt violate a repaired duty.
-    let mut decided = [0x54, 0x50, 0, 0, 0, 0].repeat(2);
-    decided.extend(inputs::any(random, most));
+    let decided = inputs::violated(random, Vec::new(), most);
     measure_trace(plan, "decided at 2", &image, &decided);
 }
 

@@ -34,19 +34,10 @@ pub fn measure(plan: &Plan) {
         measure_contract(plan, &contract, &trace);
     }
     for contract in [contracts::repaired_duty(), contracts::repairs()] {
-        let trace = decided_early(plan, random, &contract);
+        let open = inputs::open(random, &contract.clause(), contract.kept, 10);
+        let trace = inputs::violated(random, open, plan.size(1_000_000, 30));
         measure_contract(plan, &contract, &trace);
     }
-}
-
-/// Ten open periods, two without any attempt, which violate a repaired duty, then any.
-fn decided_early(plan: &Plan, random: &mut Random, contract: &Open) -> Vec<u8> {
-    let mut trace = inputs::open(random, &contract.clause(), contract.kept, 10);
-    for _ in 0..2 {
-        trace.extend(Period { one: 0, two: 0 }.record());
-    }
-    trace.extend(inputs::any(random, plan.size(1_000_000, 30)));
-    trace
 }
 
 fn measure_contract(plan: &Plan, contract: &Open, trace: &[u8]) {
