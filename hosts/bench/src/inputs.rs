@@ -4,7 +4,7 @@ use crate::product::ROW;
 use monitor::Period;
 use reference::{Clause, Decision, Monitor};
 
-/// An image, and a trace that doesn't decide.
+/// An image and a trace.
 pub struct Input {
     pub name: String,
     pub image: Vec<u8>,
@@ -116,7 +116,15 @@ pub fn mixed_image(random: &mut Random, rows: usize) -> Vec<u8> {
         };
         push_row(&mut image, kind, x, y);
     }
-    image.extend([0x54, 0x45, 0, 0, 0, 0, 0, 0]);
+    push_end(&mut image);
+    image
+}
+
+/// The smallest image: one row, which is true in period 1, and S, V1 and V2 are that row.
+pub fn smallest_image() -> Vec<u8> {
+    let mut image = Vec::with_capacity(2 * ROW);
+    push_row(&mut image, 1, 0, 0);
+    push_end(&mut image);
     image
 }
 
@@ -124,6 +132,11 @@ fn push_row(image: &mut Vec<u8>, kind: u8, x: usize, y: usize) {
     image.extend([0x54, 0x52, kind, 0]);
     image.extend((x as u16).to_le_bytes());
     image.extend((y as u16).to_le_bytes());
+}
+
+/// S, V1 and V2 are row 0.
+fn push_end(image: &mut Vec<u8>) {
+    image.extend([0x54, 0x45, 0, 0, 0, 0, 0, 0]);
 }
 
 /// A lower row: mostly a near one, sometimes any.
@@ -136,14 +149,24 @@ fn lower(random: &mut Random, k: usize) -> usize {
 }
 
 /// The image with S, V1 and V2 set to a false row, so that it never decides.
-pub fn without_decision(mut image: Vec<u8>) -> Vec<u8> {
-    let never = image
+pub fn without_decision(image: Vec<u8>) -> Vec<u8> {
+    deciding_by(image, 0)
+}
+
+/// The image with S, V1 and V2 set to a row that is true in period 1, which so decides.
+pub fn decided_at_once(image: Vec<u8>) -> Vec<u8> {
+    deciding_by(image, 1)
+}
+
+/// The image with S, V1 and V2 set to its first row of a kind.
+fn deciding_by(mut image: Vec<u8>, kind: u8) -> Vec<u8> {
+    let row = image
         .chunks_exact(ROW)
-        .position(|row| row[..3] == [0x54, 0x52, 0])
-        .expect("the image has a false row");
+        .position(|row| row[..3] == [0x54, 0x52, kind])
+        .expect("the image has a row of the kind");
     let end = image.len() - ROW;
     for field in image[end + 2..].chunks_exact_mut(2) {
-        field.copy_from_slice(&(never as u16).to_le_bytes());
+        field.copy_from_slice(&(row as u16).to_le_bytes());
     }
     image
 }

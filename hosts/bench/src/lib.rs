@@ -7,6 +7,7 @@
 pub mod compile;
 pub mod contracts;
 pub mod deadlines;
+pub mod decide;
 mod inputs;
 pub mod periods;
 #[allow(unsafe_code)]

@@ -2,14 +2,14 @@
 //!
 //! In one run it times `run` against row machines without checks and against the reference's tree
 //! monitor, `step` against `run`, compile and run against their input's length, deadlines against
-//! their window, and, where a path is given, the program `watch`. Whatever is timed together is also
-//! checked to agree. With `--check` all sizes are tiny, nothing is printed but the last line, and no
-//! time counts.
+//! their window, `decide` against `run`, and, where a path is given, the program `watch`. Whatever is
+//! timed together is also checked to agree. With `--check` all sizes are tiny, nothing is printed but
+//! the last line, and no time counts.
 
 #![forbid(unsafe_code)]
 
 use bench::timing::Plan;
-use bench::{compile, deadlines, periods, rows, steps, tree, watch};
+use bench::{compile, deadlines, decide, periods, rows, steps, tree, watch};
 use std::env;
 use std::path::PathBuf;
 use std::process::ExitCode;
@@ -39,20 +39,21 @@ fn options() -> Option<Options> {
 
 fn measure_all(plan: &Plan, options: &Options) {
     plan.say(&plan.method());
-    let sections: [fn(&Plan); 6] = [
+    let sections: [fn(&Plan); 7] = [
         rows::measure,
         tree::measure,
         steps::measure,
         compile::measure,
         periods::measure,
         deadlines::measure,
+        decide::measure,
     ];
     for section in sections {
         section(plan);
     }
     match &options.watch {
         Some(program) => watch::measure(plan, program),
-        None => plan.say("\n7. `watch`: not measured, no path is given"),
+        None => plan.say("\n8. `watch`: not measured, no path is given"),
     }
 }
 

@@ -1,4 +1,4 @@
-//! The four calls on input that they accept.
+//! The five calls on input that they accept.
 
 use monitor::calls;
 
@@ -21,8 +21,17 @@ pub struct Answer {
     pub decision: u32,
 }
 
-fn field(reply: &[u8], at: usize) -> u32 {
-    u32::from_le_bytes(reply[at..at + 4].try_into().expect("four bytes"))
+/// Outcome, blame, decision period and records read of decide's accepted reply.
+#[derive(Clone, Copy, Debug, Default, PartialEq, Eq)]
+pub struct Decided {
+    pub outcome: u32,
+    pub blame: u32,
+    pub decision: u32,
+    pub records: u32,
+}
+
+fn field(bytes: &[u8], at: usize) -> u32 {
+    u32::from_le_bytes(bytes[at..at + 4].try_into().expect("four bytes"))
 }
 
 /// Writes the contract's image; its number of rows.
@@ -76,4 +85,28 @@ pub fn run(image: &[u8], state: &mut [u8], trace: &[u8]) -> Answer {
     let mut reply = [0; 24];
     let result = calls::run(image, state, trace, &mut reply);
     answer(result, &reply)
+}
+
+/// One call of decide.
+pub fn decide(image: &[u8], trace: &[u8]) -> Decided {
+    let mut reply = [0; 32];
+    let result = calls::decide(image, trace, &mut reply);
+    assert_eq!((result, field(&reply, 0)), (1, 0), "decide refuses");
+    Decided {
+        outcome: field(&reply, 4),
+        blame: field(&reply, 16),
+        decision: field(&reply, 20),
+        records: field(&reply, 24),
+    }
+}
+
+/// What decide has to give on a trace that leaves a begun state like this.
+pub fn decided_by(state: &[u8]) -> Decided {
+    let (taken, decision) = (field(state, 2), field(state, 6));
+    Decided {
+        outcome: state[0].into(),
+        blame: state[1].into(),
+        decision,
+        records: if decision == 0 { taken } else { decision },
+    }
 }

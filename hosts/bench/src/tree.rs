@@ -59,7 +59,7 @@ fn measure_contract(plan: &Plan, contract: &Open, trace: &[u8]) {
             &contract.name,
             &contract.records.to_string(),
             &product::rows_of(&image).to_string(),
-            &decided(ours),
+            &decided(ours.decision),
             &times[0].per(periods),
             &times[1].per(periods),
             &times[0].ratio(&times[1]),
@@ -80,8 +80,9 @@ fn by_tree(clause: &Clause, trace: &[u8]) -> Answer {
     }
 }
 
-fn decided(answer: Answer) -> String {
-    match answer.decision {
+/// The decision period in print.
+pub fn decided(decision: u32) -> String {
+    match decision {
         0 => "never".into(),
         period => format!("at {period}"),
     }
