@@ -28,7 +28,7 @@ use Rattle.runner.proofs.Loop.{fresh-ready}
 
 -- ---- refusal 11
 
--- a record of another mark refuses exactly where those before it leave the state undecided
+-- the first record of another mark refuses exactly where those before it leave the state undecided
 module _ (image trace : List ℕ) (u : unreadTest image trace ≡ Passed) (k : ℕ) (i : k < periodRecords trace)
     (m : (j : ℕ) → j < k → markedAt trace j ≡ true) (bad : markedAt trace k ≡ false) where
   pub bad-mark-refused : undecided (stateAfterRecords image trace k) ≡ true → decideTest image trace ≡ Refused BadPeriod k

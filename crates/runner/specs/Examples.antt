@@ -119,7 +119,7 @@ decided image trace = decide image trace (area 33)
 abbrev pub replies : List ℕ → After Unit
 replies reply = record { result = 1; buffers = tt; reply = reply ++ (0xff ∷ []) }
 
--- rows: false; true in period 1; true in period 2; both parties try action 0
+-- rows: false; true in period 1; true in period 2; party 1 tries action 0; party 2 does; both do
 abbrev pub decidingBy : (S V1 V2 : ℕ) → List ℕ
 decidingBy s v w = row 0 0 0 ++ row 1 0 0 ++ row 6 1 0 ++ row 2 1 0 ++ row 2 2 0 ++ row 4 3 4 ++ end s v w
 
@@ -135,7 +135,7 @@ pub record DecideVectors : Type 0 where
   -- "That number is the decision period": at the last record, and with more behind it
   pub violated : map (decided goodImage) (brokenAt2 ∷ (brokenAt2 ++ periodRecord 1 1 ++ periodRecord 0 0) ∷ (periodRecord 0 0 ++ brokenAt2 ++ periodRecord 0 0) ∷ [])
       ≡ replies (decideReply 0 2 0 1 2 2) ∷ replies (decideReply 0 2 0 1 2 2) ∷ replies (decideReply 0 2 0 1 3 3) ∷ []
-  -- satisfied in period 1; violated in period 2 with blame 2 and with both; both at once is violated; satisfied by what both try in period 3
+  -- satisfied in period 1; violated in period 2 with blame 2 and with 3; satisfied and violated at once is violated; satisfied by what both try in period 3
   pub each-outcome :
       map (λ (image : List ℕ). decided image (periodRecord 0 1 ++ periodRecord 1 0 ++ periodRecord 1 1 ++ periodRecord 0 0))
       (decidingBy 1 0 0 ∷ decidingBy 0 0 2 ∷ decidingBy 0 2 2 ∷ decidingBy 1 1 0 ∷ decidingBy 5 0 0 ∷ [])
@@ -148,7 +148,7 @@ pub record DecideVectors : Type 0 where
   -- "Records after the decision aren't looked at, so a bad mark there is no refusal in this call."
   pub bad-after : map (decided goodImage) ((brokenAt2 ++ otherRecord) ∷ (brokenAt2 ++ periodRecord 0 0 ++ otherRecord) ∷ [])
       ≡ replicate 2 (replies (decideReply 0 2 0 1 2 2))
-  -- before it: record 0, record 1 of three; and where nothing decides, the first of two
+  -- before it: record 0, record 1 of three, the first of two
   pub bad-before :
       map (decided goodImage)
       ((otherRecord ++ periodRecord 0 0) ∷ (periodRecord 0 0 ++ otherRecord ++ periodRecord 0 0) ∷ (periodRecord 0 0 ++ otherRecord ++ otherRecord) ∷ [])

@@ -1,5 +1,5 @@
--- `machine::take_while_undecided` meets its contract: after k turns the state stands for what the first k periods leave, and none of the
--- first k records is the last.
+-- `machine::take_while_undecided` meets its contract: after k turns the state stands for what the first k periods leave, and each of the
+-- first k records was to be taken.
 use Prim.Native.Nat.{_-_, _≤_}
 use native.Mathlib.Omega.{arith}
 use native.Mathlib.Nat.{sub-zero}
@@ -21,14 +21,12 @@ Inv-loop image state₀ trace n k₀ state k =
 abbrev μ-loop : tie.MeasureT-loop
 μ-loop image state₀ trace n k₀ state k = n - k
 
--- src/lib.rt:171:5
 loop-holds : tie.Need-loop-holds Inv-loop μ-loop
 loop-holds c =
     let a = c .before .before .before .args in
     let bytes : AllBytes (a .state .now) = record { below = λ i. c .before .slice-known .given i .fits } in
     (omega arith, took-none (a .image .now) (a .state .now) (a .trace .now) (a .n) (c .before .before .before .pre .0) bytes, rw sub-zero)
 
--- src/lib.rt:171:20
 slice-read-if1 : tie.Need-slice-read-if1 Inv-loop μ-loop
 slice-read-if1 c =
     let p = c .before .before in
@@ -37,15 +35,12 @@ slice-read-if1 c =
     let l = p .loop in
     omega (arith, took-head (a .image .now) (a .state .now) (a .trace .now) (a .n) (s .pre .0) (l .k) _ (l .inv .1))
 
--- src/lib.rt:171:37
 is-marked-requires : tie.Need-is-marked-requires Inv-loop μ-loop
 is-marked-requires c κs = omega (arith, c .before .before .before .before .before .before .before .pre .1)
 
--- src/lib.rt:172:31
 read-period-requires : tie.Need-read-period-requires Inv-loop μ-loop
 read-period-requires c κs = omega (arith, c .before .before .before .before .before .before .before .before .before .before .pre .1)
 
--- src/lib.rt:172:9
 advance-requires : tie.Need-advance-requires Inv-loop μ-loop
 advance-requires c κs =
     let p = c .before .before .before .before .before .before .before in
@@ -54,15 +49,12 @@ advance-requires c κs =
     let l = p .loop in
     took-working (a .image .now) (a .state .now) (a .trace .now) (a .n) (s .pre .0) (l .k) _ (l .inv .1) (omega arith)
 
--- src/lib.rt:173:9
 add-k : tie.Need-add-k Inv-loop μ-loop
 add-k c = omega arith
 
--- src/lib.rt:171:5
 loop-less : tie.Need-loop-less Inv-loop μ-loop
 loop-less c = omega arith
 
--- src/lib.rt:171:5
 loop-again : tie.Need-loop-again Inv-loop μ-loop
 loop-again c =
     let p = c .before .before .before .before .before .before .before .before .before .before in
@@ -77,7 +69,6 @@ loop-again c =
       l .inv .2 ∙ failing-next (goesOn (a .image .now) (a .state .now) (a .trace .now)) (l .k) (a .n) (omega arith) g,
     )
 
--- src/lib.rt:175:5
 trim-requires : tie.Need-trim-requires Inv-loop μ-loop
 trim-requires c κs =
     let p = c .before .before in
@@ -86,11 +77,9 @@ trim-requires c κs =
     let l = p .loop in
     took-head (a .image .now) (a .state .now) (a .trace .now) (a .n) (s .pre .0) (l .k) _ (l .inv .1)
 
--- src/lib.rt:166:1
 same-length : tie.Need-same-length Inv-loop μ-loop
 same-length c = c .before .before .trim .kept .0 ∙ c .before .before .before .before .before .loop .inv .1 .same-length
 
--- src/lib.rt:166:1
 returns : tie.Need-returns Inv-loop μ-loop
 returns c =
     let p = c .before .before .before .before .before in
