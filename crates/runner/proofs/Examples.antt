@@ -2,7 +2,7 @@
 use Prim.Native.Nat.{_+_}
 use native.Mathlib.Omega.{arith}
 use mathlib.Core.Path.{refl}
-use borrow.Author.Tests.{lt-leb}
+use borrow.Author.Tests.{le-leb, lt-leb}
 use Rattle.records.specs.Fields.{value, bytes, field}
 use Rattle.records.specs.Marks.{marked}
 use Rattle.records.specs.Refusals.{firstFailing}
@@ -57,10 +57,13 @@ call-vectors = (
     each-outcome = refl;
     bad-after = refl;
     bad-before = refl;
+    bad-undecided = refl;
     bad-deciding = refl;
     bad-length = refl;
     length-first = λ trace e. rw e;
     too-many = λ trace e n. rw (e, lt-leb (0 + periodRecords trace) 4294967295 (omega arith));
+    not-too-many = λ trace e n. rw (e, le-leb (0 + periodRecords trace) 4294967295 (omega arith));
+    image-first = λ trace. refl;
     bad-images = refl;
     short-area = refl;
     full-area = refl;

@@ -1,9 +1,9 @@
 -- Vectors of begin, step, run and decide. What is expected stands in bytes alone, from the text of documents 01 and 02.
-use Prim.Native.Nat.{ℕ, _<_}
+use Prim.Native.Nat.{ℕ, _≤_, _<_}
 use mathlib.Core.List.{List, [], _∷_, _++_, map}
 use mathlib.Core.Path.{_≡_}
 use lib.ListN.{replicate}
-use Rattle.records.specs.declared.Fault.the-variants.{BadPeriod, FullCount}
+use Rattle.records.specs.declared.Fault.the-variants.{BadImage, BadPeriod, FullCount}
 use Rattle.records.specs.declared.Test.the-variants.{Passed, Refused}
 use Rattle.records.specs.Replies.{After}
 use Rattle.records.specs.Examples.{area, head, leaves}
@@ -11,7 +11,7 @@ use Rattle.periods.specs.Examples.{periodRecord, otherRecord}
 use Rattle.periods.specs.Traces.{periodRecords, traceLengthTest}
 use Rattle.layout.specs.Examples.{row, end}
 use Rattle.states.specs.Examples.{state}
-use Rattle.runner.specs.Refusals.{decideTest}
+use Rattle.runner.specs.Refusals.{unreadTest, decideTest}
 use Rattle.runner.specs.Calls.{begin, step, run, decide}
 use Rattle.runner.specs.StepCalls.{StepCall, stateAfter, acceptedCount}
 
@@ -153,6 +153,9 @@ pub record DecideVectors : Type 0 where
       map (decided goodImage)
       ((otherRecord ++ periodRecord 0 0) ∷ (periodRecord 0 0 ++ otherRecord ++ periodRecord 0 0) ∷ (periodRecord 0 0 ++ otherRecord ++ otherRecord) ∷ [])
       ≡ replies (decideReply 11 0 0 0 0 0) ∷ replies (decideReply 11 0 1 0 0 0) ∷ replies (decideReply 11 0 1 0 0 0) ∷ []
+  -- where nothing decides: record 0, the last of two, the first of two
+  pub bad-undecided : map (decided (decidingBy 0 0 0)) (otherRecord ∷ (periodRecord 1 1 ++ otherRecord) ∷ (periodRecord 1 1 ++ otherRecord ++ otherRecord) ∷ [])
+      ≡ replies (decideReply 11 0 0 0 0 0) ∷ replies (decideReply 11 0 1 0 0 0) ∷ replies (decideReply 11 0 1 0 0 0) ∷ []
   -- at it: the record that would decide
   pub bad-deciding : decided goodImage (periodRecord 1 0 ++ otherRecord) ∷ decided (decidingBy 1 0 0) otherRecord ∷ []
       ≡ replies (decideReply 11 0 1 0 0 0) ∷ replies (decideReply 11 0 0 0 0 0) ∷ []
@@ -164,7 +167,10 @@ pub record DecideVectors : Type 0 where
   -- "A trace of more than 4,294,967,295 records meets 12 next.", at the first record too many, whatever marks and periods it has
   pub too-many : (trace : List ℕ) → traceLengthTest trace ≡ Passed → 4294967295 < periodRecords trace
       → decideTest goodImage trace ≡ Refused FullCount 4294967295
-  -- 9 before it, at row 0, row 1 and the end record after two rows
+  -- no more than so many don't meet it
+  pub not-too-many : (trace : List ℕ) → traceLengthTest trace ≡ Passed → periodRecords trace ≤ 4294967295 → unreadTest goodImage trace ≡ Passed
+  -- 9 before all of these, whatever the trace; at row 0, row 1 and the end record after two rows
+  pub image-first : (trace : List ℕ) → decideTest badImage trace ≡ Refused BadImage 0
   pub bad-images :
       map (λ (image : List ℕ). decided image sevenBytes)
       (badImage ∷ (row 0 0 0 ++ row 7 0 0 ++ end 0 0 0) ∷ (row 0 0 0 ++ row 0 0 0 ++ end 2 0 0) ∷ [])
