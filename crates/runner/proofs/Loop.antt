@@ -20,7 +20,7 @@ use Rattle.records.proofs.Replies.{call-passed, call-refused}
 use Rattle.records.proofs.Searches.{failing-max, failing-below, failing-fails}
 use Rattle.periods.specs.Periods.{Period}
 use Rattle.periods.specs.Traces.{periodRecords, periodsOf, markedAt}
-use Rattle.periods.proofs.Traces.{length-periodsOf, marks-pass, marks-refused}
+use Rattle.periods.proofs.Traces.{length-periodsOf, marks-pass}
 use Rattle.layout.specs.Images.{rowCount}
 use Rattle.states.specs.Limits.{headBytes}
 use Rattle.states.specs.States.{State, stateOf, freshBytes}
@@ -32,7 +32,7 @@ use Rattle.runner.specs.Reading.{stateAfterRecords, recordsRead}
 use Rattle.runner.specs.Refusals.{unreadTest, decideTest}
 use Rattle.runner.specs.Calls.{decideAnswer, decisionAnswer, decideReplyBytes, decide}
 use Rattle.runner.proofs.Refusals.{unread-passed}
-use Rattle.runner.proofs.Reading.{openAfter, read-on, read-exactly}
+use Rattle.runner.proofs.Reading.{openAfter, read-exactly, bad-mark-refused}
 
 -- the first n of m zeros
 pub zeros-part : (m n : ℕ) → n ≤ m → take {A = ℕ} n (replicate m 0) ≡ replicate n 0
@@ -88,10 +88,6 @@ module _ (image trace : List ℕ) (u : unreadTest image trace ≡ Passed) where
         let below : f < 0 + total = omega (arith, t .count) in
         second (openAfter image trace r) (markedAt trace r) (rw (← t .count) at (failing-fails (goesOn image fresh trace) 0 total below)) o
 
-    pub stops-refused : r < total → openAfter image trace r ≡ true → decideTest image trace ≡ Refused BadPeriod r
-    unfolding decideTest
-    stops-refused l o = rw u (marks-refused trace (recordsRead image trace) r (read-on image trace r l o) (λ i j. went-on i j .1) (bad-next l o))
-
     few-taken : length taken ≤ total
     few-taken = rw (length-periodsOf trace r) stops-within
 
@@ -113,7 +109,8 @@ module _ (image trace : List ℕ) (u : unreadTest image trace ≡ Passed) where
           → sets area 0 (replyOf (Refused BadPeriod r) (decideAnswer 0 0 0 0)) ≡ decide image trace area .reply
       unfolding decide
       replies-refused l o =
-          let e = stops-refused l (rw left-open at o) in
+          let is = rw left-open at o in
+          let e = bad-mark-refused image trace u r l (λ i j. went-on i j .1) (bad-next l is) is in
           rw (call-refused (decideTest image trace) _ (tt {0}) (tt {0}) area room (λ p. is-refused e p)) (rw e)
 
       pub replies-read : ¬ ((r < total) × (getD later 0 0 ≡ 0))

@@ -8,17 +8,20 @@ use mathlib.Core.List.{List}
 use mathlib.Core.Logic.{⊎-elim}
 use mathlib.Core.Path.{_≡_, refl, sym, _∙_}
 use borrow.Author.Tests.{eqb-true, eqb-false}
+use Rattle.records.specs.declared.Fault.the-variants.{BadPeriod}
+use Rattle.records.specs.declared.Test.the-variants.{Passed, Refused}
 use Rattle.records.specs.Refusals.{firstFailing}
 use Rattle.records.proofs.Cases.{lt-or-le, true-or-false}
 use Rattle.records.proofs.Searches.{failing-max, failing-below, failing-fails, failing-is, all-pass}
-use Rattle.periods.specs.Traces.{periodRecords, periodAt, periodsOf}
-use Rattle.periods.proofs.Traces.{length-periodsOf}
+use Rattle.periods.specs.Traces.{periodRecords, periodAt, periodsOf, markedAt}
+use Rattle.periods.proofs.Traces.{length-periodsOf, periods-split, marks-pass, marks-refused}
 use Rattle.layout.specs.Images.{rowCount, imageOf}
 use Rattle.states.specs.States.{stateOf, freshBytes}
 use Rattle.states.proofs.Fresh.{fresh-read}
-use Rattle.machine.specs.Machine.{undecided, counted, afterPeriod, afterPeriods}
-use Rattle.machine.proofs.Machine.{decides-now, after-decided, after-snoc, periods-afterPeriods}
+use Rattle.machine.specs.Machine.{undecided, afterPeriod, afterPeriods}
+use Rattle.machine.proofs.Machine.{decides-now, after-append, after-snoc, periods-afterPeriods, stays-decided}
 use Rattle.runner.specs.Reading.{stateAfterRecords, recordsRead}
+use Rattle.runner.specs.Refusals.{unreadTest, decideTest}
 
 module _ (image trace : List ℕ) where
   abbrev pub openAfter : ℕ → Bool
@@ -56,20 +59,17 @@ module _ (image trace : List ℕ) where
       ∙ rw (taken-after k) (add-one k))
 
   -- a state that is undecided was so before
-  open-earlier : (k : ℕ) → openAfter (suc k) ≡ true → openAfter k ≡ true
-  unfolding counted
-  open-earlier k o =
-      ⊎-elim (λ t. t)
-      (λ f. let s = stateAfterRecords image trace k in
-      let no = eqb-false (s .outcome) 0 f in
-      let is = eqb-true (stateAfterRecords image trace (suc k) .outcome) 0 o in
-      absurd (no (rw (next-state k, after-decided (imageOf image) (periodAt trace k) s no) at is)))
-      (true-or-false (openAfter k))
-
   open-below : (k j : ℕ) → j ≤ k → openAfter k ≡ true → openAfter j ≡ true
-  open-below zero j l o = let e : j ≡ 0 = omega arith in rw e o
-  open-below (suc k) j l o =
-      ⊎-elim (λ (h : j < suc k). open-below k j (omega arith) (open-earlier k o)) (λ (h : suc k ≤ j). let e : j ≡ suc k = omega arith in rw e o) (lt-or-le j (suc k))
+  unfolding stateAfterRecords
+  open-below k j l o =
+      ⊎-elim (λ t. t)
+      (λ f. let s = stateAfterRecords image trace j in
+      let no = eqb-false (s .outcome) 0 f in
+      let v = periods-split trace j k l in
+      let same = stays-decided (imageOf image) s (v .0) no in
+      let is = eqb-true (stateAfterRecords image trace k .outcome) 0 o in
+      absurd (no (sym (same .outcome-same) ∙ rw (v .1, after-append (imageOf image) (stateOf (freshBytes (rowCount image))) (periodsOf trace j) (v .0)) at is)))
+      (true-or-false (openAfter j))
 
   -- so a record is read where those before it leave the state undecided, and only there
   pub read-on : (k : ℕ) → k < periodRecords trace → openAfter k ≡ true → k < recordsRead image trace
@@ -106,3 +106,18 @@ module _ (image trace : List ℕ) where
           (λ t. rw t (⊎-elim (λ (h : suc k < periodRecords trace). absurd (let l = read-on (suc k) h t in omega arith)) (λ h. let f = few-read in omega arith) (lt-or-le (suc k) (periodRecords trace))))
           (λ f. rw f (sym (decided-now k (open-before k (omega arith)) f)))
           (true-or-false (openAfter (suc k)))
+
+-- ---- refusal 11
+
+-- the first record of another mark refuses exactly where those before it leave the state undecided
+module _ (image trace : List ℕ) (u : unreadTest image trace ≡ Passed) (k : ℕ) (i : k < periodRecords trace)
+    (m : (j : ℕ) → j < k → markedAt trace j ≡ true) (bad : markedAt trace k ≡ false) where
+  pub bad-mark-refused : undecided (stateAfterRecords image trace k) ≡ true → decideTest image trace ≡ Refused BadPeriod k
+  unfolding decideTest
+  bad-mark-refused o = rw u (marks-refused trace (recordsRead image trace) k (read-on image trace k i o) m bad)
+
+  pub bad-mark-unread : undecided (stateAfterRecords image trace k) ≡ false → decideTest image trace ≡ Passed
+  unfolding decideTest
+  bad-mark-unread o =
+      let l = read-no-more image trace k o in
+      rw u (marks-pass trace (recordsRead image trace) (λ j h. m j (omega arith)))

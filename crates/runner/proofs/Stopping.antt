@@ -5,12 +5,11 @@ use mathlib.Core.Bool.{true, false}
 use mathlib.Core.List.{List}
 use mathlib.Core.Path.{_≡_, sym, ap, _∙_}
 use lib.ListN.{length}
-use Rattle.records.specs.declared.Fault.the-variants.{BadPeriod}
-use Rattle.records.specs.declared.Test.the-variants.{Passed, Refused}
+use Rattle.records.specs.declared.Test.the-variants.{Passed}
 use Rattle.records.proofs.Refusals.{first-passed}
 use Rattle.records.proofs.Replies.{call-passed}
 use Rattle.periods.specs.Traces.{periodRecords, periodsOf, markedAt, marksTest, traceTest}
-use Rattle.periods.proofs.Traces.{length-periodsOf, marks-passed, marks-pass, marks-refused}
+use Rattle.periods.proofs.Traces.{length-periodsOf, marks-passed, marks-pass}
 use Rattle.periods.proofs.First.{first-count, first-length, first-marked, first-periods, first-same}
 use Rattle.layout.specs.Images.{rowCount, imageOf}
 use Rattle.states.specs.States.{stateOf, freshBytes}
@@ -23,23 +22,8 @@ use Rattle.runner.specs.Refusals.{readyTest, runTest, unreadTest, decide
 use Rattle.runner.specs.Calls.{stepReplyBytes, decideReplyBytes, run, decide}
 use Rattle.runner.specs.Stopping.{readFirst, SameAsRun, StartsAs}
 use Rattle.runner.proofs.Refusals.{unread-passed, unread-passes}
-use Rattle.runner.proofs.Reading.{few-read, open-before, read-on, read-no-more, read-exactly}
+use Rattle.runner.proofs.Reading.{few-read, open-before, read-exactly}
 use Rattle.runner.proofs.Loop.{fresh-ready}
-
--- ---- refusal 11
-
--- the first record of another mark refuses exactly where those before it leave the state undecided
-module _ (image trace : List ℕ) (u : unreadTest image trace ≡ Passed) (k : ℕ) (i : k < periodRecords trace)
-    (m : (j : ℕ) → j < k → markedAt trace j ≡ true) (bad : markedAt trace k ≡ false) where
-  pub bad-mark-refused : undecided (stateAfterRecords image trace k) ≡ true → decideTest image trace ≡ Refused BadPeriod k
-  unfolding decideTest
-  bad-mark-refused o = rw u (marks-refused trace (recordsRead image trace) k (read-on image trace k i o) m bad)
-
-  pub bad-mark-unread : undecided (stateAfterRecords image trace k) ≡ false → decideTest image trace ≡ Passed
-  unfolding decideTest
-  bad-mark-unread o =
-      let l = read-no-more image trace k o in
-      rw u (marks-pass trace (recordsRead image trace) (λ j h. m j (omega arith)))
 
 -- ---- run over the records read
 
