@@ -8,6 +8,12 @@ use Rattle.records.specs.Verdicts.{Verdict, «open», met, broken, met-after, b
 use Rattle.periods.specs.Periods.{Period}
 use Rattle.contract.specs.Meaning.{partiesNumber, Clause, Decision, undecided, satisfied, violated, meaning}
 
+-- the outcome: 0 undecided, 1 satisfied, 2 violated
+abbrev pub outcome : Decision → ℕ
+outcome undecided = 0
+outcome (satisfied k) = 1
+outcome (violated k b) = 2
+
 -- the decision period, 0 while undecided
 abbrev pub decisionPeriod : Decision → ℕ
 decisionPeriod undecided = 0

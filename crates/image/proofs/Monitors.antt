@@ -14,11 +14,11 @@ use Rattle.records.specs.declared.Test.the-variants.{Passed}
 use Rattle.records.specs.Refusals.{require}
 use Rattle.records.proofs.Cases.{lt-or-le, true-or-false}
 use Rattle.records.proofs.Refusals.{first-passed, require-passed, passed-not}
-use Rattle.records.specs.Replies.{unwritten, written, headSize}
-use Rattle.records.proofs.Replies.{call-no-room, call-passed, call-refused}
+use Rattle.records.specs.Replies.{unwritten, written, call, headSize}
+use Rattle.records.proofs.Replies.{call-no-room, call-refused}
 use Rattle.periods.specs.Periods.{Period}
 use Rattle.periods.specs.Traces.{periodRecords, periodAt, periodsOf, periodTest}
-use Rattle.periods.proofs.Traces.{length-periodsOf, periods-split}
+use Rattle.periods.proofs.Traces.{periods-split}
 use Rattle.layout.specs.Images.{rowCount, imageOf}
 use Rattle.states.specs.Limits.{headBytes, maxPeriods}
 use Rattle.states.specs.States.{State, stateOf, stateBytes, freshBytes}
@@ -28,8 +28,8 @@ use Rattle.states.specs.Verdicts as Shown
 use Rattle.machine.specs.Machine.{afterPeriod, afterPeriods}
 use Rattle.machine.proofs.Machine.{after-snoc, periods-afterPeriods}
 use Rattle.runner.specs.Reading.{stateAfterRecords, recordsRead}
-use Rattle.runner.specs.Refusals.{readyTest, stepTest, decideTest}
-use Rattle.runner.specs.Calls.{stepReplyBytes, stepAnswer, answer, decideReplyBytes, begin, step, decide}
+use Rattle.runner.specs.Refusals.{readyTest, stepTest, unreadTest, decideTest}
+use Rattle.runner.specs.Calls.{stepReplyBytes, stepAnswer, answer, begin, step, decide}
 use Rattle.runner.specs.StepCalls as StepCalls
 use Rattle.runner.specs.StepCalls.{StepCall, stateAfterCall, stateAfter}
 use Rattle.runner.proofs.Refusals.{begin-passes}
@@ -42,8 +42,8 @@ use Rattle.reader.specs.Spelling.{Spells}
 use Rattle.reader.specs.Reader.{taken, read}
 use Rattle.reader.proofs.Reader.{taken-spells}
 use Rattle.image.specs.Images.{imageFor}
-use Rattle.image.specs.Rightness.{recordsFor, Shows, RightFor}
-use Rattle.image.specs.Monitors.{callTest, accepts, periodsAfter, meantAnswer, AnswersCall, AnswersCalls, meantDecision, AnswersTrace, Monitors}
+use Rattle.image.specs.Rightness.{Shows, RightFor}
+use Rattle.image.specs.Monitors.{callTest, accepts, periodsAfter, meantAnswer, AnswersCall, AnswersCalls, recordsFor, meantRecords, traceTestFor, meantDecision, Monitors}
 use Rattle.image.proofs.Images.{right-for}
 
 -- ---- a state that shows a decision answers with it
@@ -195,19 +195,15 @@ module _ (c : Clause) (image : List ℕ) (right : RightFor c image) where
         rw (v .1) (sym (stands c g (periodsOf trace last) (v .0) decided)))
         (true-or-false (openAfter image trace last))
 
-    records-meant : EmptyFree c → recordsFor (meaning c all) (length all) ≡ last
+    records-meant : EmptyFree c → meantRecords c trace ≡ last
     records-meant g =
-        rw (length-periodsOf trace (periodRecords trace))
-        (records-shown (meaning c all) (stateAfterRecords image trace last) (periodRecords trace) (rw (read-alone g) at (shows-read last)) ∙ sym (read-is image trace))
+        records-shown (meaning c all) (stateAfterRecords image trace last) (periodRecords trace) (rw (read-alone g) at (shows-read last)) ∙ sym (read-is image trace)
 
-    answers-trace : EmptyFree c → (reply : List ℕ) → decideTest image trace ≡ Passed → decideReplyBytes ≤ length reply → AnswersTrace c image trace reply
-    unfolding decide meantDecision
-    answers-trace g reply t r =
+    answers-trace : EmptyFree c → (reply : List ℕ) → decide image trace reply ≡ call (traceTestFor c trace) (meantDecision c trace) tt tt reply
+    unfolding decide decideTest unreadTest traceTestFor meantDecision
+    answers-trace g reply =
         let h = rw (read-alone g) at (shows-read last) in
-        record {
-          answer = call-passed (decideTest image trace) _ (tt {0}) (tt {0}) reply r t ∙ rw (records-meant g, h .outcome-is, h .blame-is, h .decision-is);
-          read-alone = read-alone g;
-        }
+        rw (right .good, records-meant g, h .outcome-is, h .blame-is, h .decision-is)
 
   pub right-monitors : (contract : List ℕ) → Spells contract c → Monitors contract image
   right-monitors contract s =

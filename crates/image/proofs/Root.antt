@@ -16,14 +16,14 @@ use Rattle.states.proofs.Fresh.{freshState}
 use Rattle.machine.specs.Machine.{byteOf, isTrue, value, newValues, valuesAfter, outcomeOf, blameOf, computed, counted, afterPeriod, afterPeriods}
 use Rattle.machine.proofs.Machine.{isTrue-byteOf, after-undecided, after-decided}
 use Rattle.contract.specs.Meaning.{Parties, only, bothParties, partiesNumber, Clause, Decision, undecided, satisfied, violated, meaning, EmptyFree}
-use Rattle.contract.specs.Verdicts.{decisionPeriod, blame}
+use Rattle.contract.specs.Verdicts.{outcome, decisionPeriod, blame}
 use Rattle.contract.proofs.Meaning.{decision-within, within-none}
 use Rattle.contract.proofs.Verdicts.{stands}
 use Rattle.reader.specs.Limits.{maxRecords}
 use Rattle.reader.specs.Spelling.{records, InRange}
 use Rattle.image.specs.Widths.{firstRow, laterRow, fixedRows}
 use Rattle.image.specs.Images.{rowsFor, image}
-use Rattle.image.specs.Rightness.{outcome, Shows}
+use Rattle.image.specs.Rightness.{Shows}
 use Rattle.image.proofs.Signals.{Signal, at, isFirst, _≐_, Obeys, isMet, blames, isBroken, Says}
 use Rattle.image.proofs.RowLaws.{values, signal, obeys}
 use Rattle.image.proofs.Goodness.{writable}

@@ -18,11 +18,12 @@ use Rattle.runner.specs.Calls.{begin, step, decide}
 use Rattle.runner.specs.Examples.{reply, decideReply}
 use Rattle.contract.specs.Expressions.{any, tries, idle, succeeds, fails, atom, seq, or, star}
 use Rattle.contract.specs.Meaning.{only, Clause, Decision, undecided, satisfied, violated, deadline, both, then, repair, repeat, when, until}
+use Rattle.contract.specs.Verdicts.{outcome}
 use Rattle.contract.specs.Examples.{a, b, duty, joint, ban, power, a/a, a/-, -/a, -/-, b/a, b/b, b/-}
 use Rattle.reader.specs.Examples.{six, sixWith, joined}
 use Rattle.image.specs.Limits.{allowedFor, bufferFor}
 use Rattle.image.specs.Images.{image, imageFor}
-use Rattle.image.specs.Rightness.{outcome, recordsFor}
+use Rattle.image.specs.Monitors.{recordsFor}
 
 -- verdict, blame and decision period
 abbrev pub Line : Type 0

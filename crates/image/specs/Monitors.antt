@@ -13,20 +13,18 @@ use Rattle.records.specs.declared.Test.{Test}
 use Rattle.records.specs.declared.Fault.the-variants.{FullCount}
 use Rattle.records.specs.declared.Test.the-variants.{Passed}
 use Rattle.records.specs.Refusals.{firstOf, require}
-use Rattle.records.specs.Replies.{Answer, alone, replyOf, unwritten, written, headSize}
+use Rattle.records.specs.Replies.{Answer, alone, replyOf, unwritten, written, call, headSize}
 use Rattle.periods.specs.Periods.{Period}
-use Rattle.periods.specs.Traces.{periodRecords, periodAt, periodsOf, periodTest}
+use Rattle.periods.specs.Traces.{periodRecords, periodAt, periodsOf, marksTest, periodTest, traceLengthTest}
 use Rattle.layout.specs.Images.{rowCount}
 use Rattle.states.specs.Limits.{headBytes, maxPeriods}
 use Rattle.states.specs.States.{stateOf}
-use Rattle.runner.specs.Reading.{recordsRead}
-use Rattle.runner.specs.Refusals.{decideTest}
-use Rattle.runner.specs.Calls.{stepAnswer, stepReplyBytes, decideAnswer, decideReplyBytes, begin, step, decide}
+use Rattle.states.specs.Refusals.{countTest}
+use Rattle.runner.specs.Calls.{stepAnswer, stepReplyBytes, decideAnswer, begin, step, decide}
 use Rattle.runner.specs.StepCalls.{StepCall, acceptedBy, stateAfterCall}
-use Rattle.contract.specs.Meaning.{Clause, meaning}
-use Rattle.contract.specs.Verdicts.{decisionPeriod, blame, verdict, DecidesOnce}
+use Rattle.contract.specs.Meaning.{Clause, Decision, undecided, satisfied, violated, meaning}
+use Rattle.contract.specs.Verdicts.{outcome, decisionPeriod, blame, verdict, DecidesOnce}
 use Rattle.reader.specs.Spelling.{Spells}
-use Rattle.image.specs.Rightness.{outcome, recordsFor}
 
 -- "refused exactly when its own record meets 11 or, that record being good, 4,294,967,295 steps before it were accepted (12)", n being the
 -- number of those accepted before it
@@ -68,20 +66,32 @@ AnswersCalls clause image state w (c ∷ cs) =
     × AnswersCall clause image state w c
     × AnswersCalls clause image (stateAfterCall image state c) (periodsAfter w c) cs
 
--- number 0, place 0 and the decision of the clause's meaning on these periods, with the records that it takes
-unfoldable pub meantDecision : Clause → List Period → Answer
-meantDecision clause w =
-    let d = meaning clause w in
-    decideAnswer (outcome d) (blame d) (decisionPeriod d) (recordsFor d (length w))
+-- "the decision period, or the trace's record count when undecided"
+abbrev pub recordsFor : Decision → (count : ℕ) → ℕ
+recordsFor undecided n = n
+recordsFor (satisfied k) n = k
+recordsFor (violated k b) n = k
 
--- An accepted decide replies what the clause means on the trace's periods; and it means the same on those of the records read alone.
-pub record AnswersTrace (clause : Clause) (image trace reply : List ℕ) : Type 0 where
-  pub answer : decide image trace reply ≡ written tt reply Passed (meantDecision clause (periodsOf trace (periodRecords trace)))
-  pub read-alone : meaning clause (periodsOf trace (recordsRead image trace)) ≡ meaning clause (periodsOf trace (periodRecords trace))
+-- the records that decide reads of a trace, by what the clause means on its periods
+abbrev pub meantRecords : Clause → (trace : List ℕ) → ℕ
+meantRecords clause trace =
+    let n = periodRecords trace in
+    recordsFor (meaning clause (periodsOf trace n)) n
+
+-- "length is still tested first. A trace of more than 4,294,967,295 records meets 12 next."; then the marks of the records read
+unfoldable pub traceTestFor : Clause → (trace : List ℕ) → Test
+traceTestFor clause trace =
+    firstOf (firstOf (traceLengthTest trace) (countTest 0 (periodRecords trace))) (marksTest trace (meantRecords clause trace))
+
+-- the decision of the clause's meaning on the trace's periods, and the records read
+unfoldable pub meantDecision : Clause → (trace : List ℕ) → Answer
+meantDecision clause trace =
+    let d = meaning clause (periodsOf trace (periodRecords trace)) in
+    decideAnswer (outcome d) (blame d) (decisionPeriod d) (meantRecords clause trace)
 
 -- The image monitors the contract: the contract's records spell a clause, which decides every list of periods at one period or at none; begin,
 -- given room for its reply, accepts the image with a state of 10 + rows bytes, whatever these held; from the state that it leaves every list of
--- step calls is answered by what that clause means; and so is every trace that decide accepts with room for its reply.
+-- step calls is answered by what that clause means; and decide on every trace tests and answers by it.
 pub record Monitors (contract image : List ℕ) : Type 0 where
   pub clause : Clause
   pub spells : Spells contract clause
@@ -89,4 +99,4 @@ pub record Monitors (contract image : List ℕ) : Type 0 where
   pub answers : (state reply : List ℕ) → length state ≡ headBytes + rowCount image → headSize ≤ length reply
       → (begin image state reply ≡ written (replicate (length state) 0) reply Passed (alone 0))
       × ((calls : List StepCall) → AnswersCalls clause image (begin image state reply .buffers) [] calls)
-  pub answers-trace : (trace reply : List ℕ) → decideTest image trace ≡ Passed → decideReplyBytes ≤ length reply → AnswersTrace clause image trace reply
+  pub answers-trace : (trace reply : List ℕ) → decide image trace reply ≡ call (traceTestFor clause trace) (meantDecision clause trace) tt tt reply

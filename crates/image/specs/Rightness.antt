@@ -8,24 +8,13 @@ use Rattle.layout.specs.Images.{rowCount, imageOf}
 use Rattle.layout.specs.Refusals.{imageTest}
 use Rattle.states.specs.States.{State, stateOf, freshBytes}
 use Rattle.machine.specs.Machine.{afterPeriods}
-use Rattle.contract.specs.Meaning.{Clause, Decision, undecided, satisfied, violated, meaning}
-use Rattle.contract.specs.Verdicts.{decisionPeriod, blame}
+use Rattle.contract.specs.Meaning.{Clause, Decision, meaning}
+use Rattle.contract.specs.Verdicts.{outcome, decisionPeriod, blame}
 use Rattle.reader.specs.Reader.{contractRecords, contractWindows}
 use Rattle.image.specs.Limits.{allowedFor}
 use Rattle.image.specs.Widths.{clauseSize, fixedRows, maxRowsFor}
 
 -- a state shows a decision: "outcome (0 undecided, 1 satisfied, 2 violated); blame; .. decision period (.. 0 for none)"
-abbrev pub outcome : Decision → ℕ
-outcome undecided = 0
-outcome (satisfied k) = 1
-outcome (violated k b) = 2
-
--- "the decision period, or the trace's record count when undecided"
-abbrev pub recordsFor : Decision → (count : ℕ) → ℕ
-recordsFor undecided n = n
-recordsFor (satisfied k) n = k
-recordsFor (violated k b) n = k
-
 pub record Shows (d : Decision) (s : State) : Type 0 where
   pub outcome-is : s .outcome ≡ outcome d
   pub blame-is : s .blame ≡ blame d
