@@ -7,14 +7,11 @@ use Rattle.periods.specs.Forms.{periodBytes}
 use Rattle.periods.proofs.Forms.{period-inside}
 use Rattle.periods.proofs.record_start.Statement.{statement}
 use Rattle.periods.proofs.record_start.Tie as tie
-use Rattle.periods.proofs.record_start.Reads as reads
-use Rattle.periods.proofs.record_start.Lts as lts
-use Rattle.periods.proofs.period_bytes.Reads as period-bytes-reads
 
 period-bytes-requires : tie.Need-period-bytes-requires
 period-bytes-requires c κs = search needs
 
-inside : (c : lts.After-period-bytes (period-bytes-reads.Asked, period-bytes-reads.Learnt) reads.Pre reads.Post)
+inside : (c : tie.After-period-bytes)
     → let a = c .before .before .args in c .period-bytes .result * a .k + periodBytes (a .form) ≤ length (a .s .now)
 inside c =
     let a = c .before .before .args in

@@ -61,12 +61,12 @@ array-borrow-prefix-state : tie.Need-array-borrow-prefix-state
 array-borrow-prefix-state c = omega (arith, good (c .before) .few-rows, c .row-count .ensures)
 
 slice-aggregate-read-trace : tie.Need-slice-aggregate-read-trace
-slice-aggregate-read-trace c = sym (ap length (zeros-part 5962 _ (array-borrow-prefix-state (c .before))) ∙ length-replicate _ 0)
+slice-aggregate-read-trace c = sym (ap length (zeros-part _ _ (array-borrow-prefix-state (c .before))) ∙ length-replicate _ 0)
 
 read-trace-requires : tie.Need-read-trace-requires
 read-trace-requires c κs =
     let t = c .before .before .before in
-    (passed t, (zeros-part 5962 _ (array-borrow-prefix-state (c .before .before)) ∙ rw (c .before .before .row-count .ensures) refl, t .before .before .before .if1 .left))
+    (passed t, (zeros-part _ _ (array-borrow-prefix-state (c .before .before)) ∙ rw (c .before .before .row-count .ensures) refl, t .before .before .before .if1 .left))
 
 same-length-2 : tie.Need-same-length-2
 same-length-2 c = search needs

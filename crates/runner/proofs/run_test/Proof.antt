@@ -4,18 +4,11 @@ use native.Mathlib.Omega.{arith}
 use mathlib.Core.Path.{_≡_, sym, _∙_}
 use Rattle.records.specs.declared.Test.the-variants.{Passed}
 use Rattle.records.proofs.Refusals.{refused-first}
-use Rattle.records.proofs.get4.Reads as get4-reads
-use Rattle.periods.proofs.trace_test.Reads as trace-test-reads
-use Rattle.periods.proofs.period_records.Reads as period-records-reads
 use Rattle.states.specs.States.{stateOf}
-use Rattle.states.proofs.count_test.Reads as count-test-reads
 use Rattle.runner.specs.Refusals.{readyTest, runTest}
 use Rattle.runner.proofs.Refusals.{ready-head}
 use Rattle.runner.proofs.run_test.Statement.{statement}
 use Rattle.runner.proofs.run_test.Tie as tie
-use Rattle.runner.proofs.run_test.Reads as reads
-use Rattle.runner.proofs.run_test.Lts as lts
-use Rattle.runner.proofs.ready_test.Reads as ready-test-reads
 
 ready-test-requires : tie.Need-ready-test-requires
 ready-test-requires c κs = search needs
@@ -33,7 +26,7 @@ returns c =
     refused-first (t .result) _ _ (t .ensures) (c .enum-told2 .given .1)
 
 -- past the tests of the image and the state
-ready : (c : lts.After-enum-told (ready-test-reads.Asked, ready-test-reads.Learnt, trace-test-reads.Asked, trace-test-reads.Learnt, get4-reads.Asked, get4-reads.Learnt, period-records-reads.Asked, period-records-reads.Learnt, count-test-reads.Asked, count-test-reads.Learnt) reads.Pre reads.Post)
+ready : (c : tie.After-enum-told)
     → let a = c .before .before .before .before .before .before .args in readyTest (a .image .now) (a .state .now) ≡ Passed
 ready c = sym (c .before .before .ready-test .ensures) ∙ c .enum-told .given .1
 
