@@ -1,9 +1,9 @@
 -- What holds of a period record in each form.
 use Prim.Native.Nat.{ℕ, _+_, _*_, _%_, _≤_, _<_}
-use native.Mathlib.Nat.{add-assoc}
+use native.Mathlib.Nat.{add-assoc, mul-add, mul-one}
 use native.Mathlib.Omega.{arith}
 use mathlib.Core.List.{List}
-use mathlib.Core.Path.{_≡_, refl}
+use mathlib.Core.Path.{_≡_, refl, sym, _∙_}
 use lib.ListN.{length}
 use Rattle.records.specs.Fields.{field}
 use Rattle.periods.specs.declared.Form.{Form}
@@ -23,15 +23,13 @@ pub short-period : (f : Form) (l : List ℕ) (at : ℕ) → periodFrom f l at �
 unfolding periodFrom
 short-period Short l at = rw (add-assoc at 2 2)
 
--- a whole record stands inside the bytes
-pub period-inside : (f : Form) (l : List ℕ) (k : ℕ) → k < wholePeriods f l → periodBytes f * k + periodBytes f ≤ length l
-unfolding wholePeriods
-period-inside Short l k h = omega arith
-
--- so do the first k of the whole records, and each of these before the next
+-- the first k of the whole records stand inside the bytes, and so does each record; and each of them before the next
 pub records-inside : (f : Form) (l : List ℕ) (k : ℕ) → k ≤ wholePeriods f l → periodBytes f * k ≤ length l
 unfolding wholePeriods
 records-inside Short l k h = omega arith
+
+pub period-inside : (f : Form) (l : List ℕ) (k : ℕ) → k < wholePeriods f l → periodBytes f * k + periodBytes f ≤ length l
+period-inside f l k h = rw (mul-add (periodBytes f) k 1, mul-one (periodBytes f)) at (records-inside f l (k + 1) (omega arith))
 
 pub next-inside : (f : Form) (i k : ℕ) → i < k → periodBytes f * i + periodBytes f ≤ periodBytes f * k
 next-inside Short i k h = omega arith
@@ -45,10 +43,9 @@ pub has-whole : (f : Form) (l : List ℕ) (k : ℕ) → periodBytes f * k ≤ le
 unfolding wholePeriods
 has-whole Short l k h = omega arith
 
--- as many bytes as one record has are one record, and the first of them
+-- so as many bytes as one record has are one record
 pub one-whole : (f : Form) (l : List ℕ) → length l ≡ periodBytes f → wholePeriods f l ≡ 1
-unfolding wholePeriods
-one-whole Short l h = rw h
+one-whole f l h = k-whole f l 1 (h ∙ sym (mul-one (periodBytes f))) .0
 
 -- no form's record is shorter than the short one
 pub few-whole : (f : Form) (l : List ℕ) → periodBytes Short * wholePeriods f l ≤ length l
