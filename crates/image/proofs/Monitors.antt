@@ -33,7 +33,7 @@ use Rattle.runner.specs.Calls.{stepReplyBytes, stepAnswer, answer, begin, step,
 use Rattle.runner.specs.StepCalls as StepCalls
 use Rattle.runner.specs.StepCalls.{StepCall, stateAfterCall, stateAfter}
 use Rattle.runner.proofs.Refusals.{begin-passes}
-use Rattle.runner.proofs.Reading.{openAfter, few-read, read-is}
+use Rattle.runner.proofs.Reading.{undecidedAfter, few-read, read-is}
 use Rattle.runner.proofs.StepCalls.{accepted-passed, accepted-step, refused-step, taken-read, stays-sound, begin-written, begin-sound}
 use Rattle.contract.specs.Meaning.{Clause, Decision, undecided, satisfied, violated, meaning, EmptyFree}
 use Rattle.contract.specs.Verdicts.{verdict}
@@ -193,7 +193,7 @@ module _ (c : Clause) (image : List ℕ) (right : RightFor c image) where
         (λ f. let decided : ¬ (meaning c (periodsOf trace last) ≡ undecided) =
         λ e. eqb-false (stateAfterRecords image trace last .outcome) 0 f (rw e at (shows-read last .outcome-is)) in
         rw (v .1) (sym (stands c g (periodsOf trace last) (v .0) decided)))
-        (true-or-false (openAfter image trace last))
+        (true-or-false (undecidedAfter image trace last))
 
     records-meant : EmptyFree c → meantRecords c trace ≡ last
     records-meant g =

@@ -65,9 +65,9 @@ module _ (trace : List ℕ) (k : ℕ) (h : k ≤ periodRecords trace) where
   first-periods (suc j) i = rw (first-periods j (omega arith), first-at j i)
 
 -- a trace that starts with the first k records of another has as many
-pub first-same : (t u : List ℕ) (k : ℕ) → k ≤ periodRecords t → firstRecords u k ≡ firstRecords t k → k ≤ periodRecords u
+pub first-long : (t u : List ℕ) (k : ℕ) → k ≤ periodRecords t → firstRecords u k ≡ firstRecords t k → k ≤ periodRecords u
 unfolding firstRecords formOf
-first-same t u k h e =
+first-long t u k h e =
     let f = formOf t in
     let m = periodBytes f * k in
     let long : length (take m u) ≡ m = ap length e ∙ first-bytes t k h in

@@ -1,14 +1,14 @@
 -- Where the code's loop stops is as far as decide reads, and the reply that follows is decide's. Document 02, "Stop reading once it is decided".
-use Prim.Native.Nat.{ℕ, zero, suc, _+_, _≤_, _<_}
+use Prim.Native.Nat.{ℕ, _+_, _≤_, _<_}
 use native.Mathlib.Nat.{zero-add}
 use native.Mathlib.Omega.{arith}
 use mathlib.Core.Bool.{Bool, true, false, _&&_, and-eq-true-iff, false≢true}
-use mathlib.Core.List.{List, _∷_}
+use mathlib.Core.List.{List}
 use mathlib.Core.Logic.{⊎-elim}
-use mathlib.Core.Path.{_≡_, refl, ap, _∙_}
+use mathlib.Core.Path.{_≡_, ap, _∙_}
 use borrow.Author.Tests.{eqb-true}
 use lib.Dec.{eqb}
-use lib.ListN.{length, getD, take, replicate}
+use lib.ListN.{length, getD}
 use lib.Seq.{sets}
 use Rattle.records.specs.declared.Fault.the-variants.{BadPeriod}
 use Rattle.records.specs.declared.Test.the-variants.{Passed, Refused}
@@ -30,15 +30,9 @@ use Rattle.machine.specs.Premises.{Ready, goesOn, TakesWhile}
 use Rattle.machine.proofs.Steps.{later-read, later-answering}
 use Rattle.runner.specs.Reading.{stateAfterRecords, recordsRead}
 use Rattle.runner.specs.Refusals.{unreadTest, decideTest}
-use Rattle.runner.specs.Calls.{decideAnswer, decisionAnswer, decideReplyBytes, decide}
+use Rattle.runner.specs.Calls.{decideAnswer, answerAfter, decideReplyBytes, decide}
 use Rattle.runner.proofs.Refusals.{unread-passed}
-use Rattle.runner.proofs.Reading.{openAfter, read-exactly, bad-mark-refused}
-
--- the first n of m zeros
-pub zeros-part : (m n : ℕ) → n ≤ m → take {A = ℕ} n (replicate m 0) ≡ replicate n 0
-zeros-part m zero h = refl
-zeros-part zero (suc n) h = absurd (omega arith)
-zeros-part (suc m) (suc n) h = ap (λ (l : List ℕ). 0 ∷ l) (zeros-part m n (omega arith))
+use Rattle.runner.proofs.Reading.{undecidedAfter, read-exactly, bad-mark-refused}
 
 second : (a b : Bool) → (a && b) ≡ false → a ≡ true → b ≡ false
 second true b e h = e
@@ -68,25 +62,25 @@ module _ (image trace : List ℕ) (u : unreadTest image trace ≡ Passed) where
     pub stops-within : r ≤ total
     stops-within = rw (t .count) (rw zero-add at (failing-max (goesOn image fresh trace) 0 total))
 
-    went-on : (i : ℕ) → i < r → (openAfter image trace i ≡ true) × (markedAt trace i ≡ true)
+    went-on : (i : ℕ) → i < r → (undecidedAfter image trace i ≡ true) × (markedAt trace i ≡ true)
     unfolding goesOn stateAfterRecords
-    went-on i l = and-eq-true-iff (openAfter image trace i) (markedAt trace i) .0 (failing-below (goesOn image fresh trace) 0 total i (omega arith) (rw (t .count) at l))
+    went-on i l = and-eq-true-iff (undecidedAfter image trace i) (markedAt trace i) .0 (failing-below (goesOn image fresh trace) 0 total i (omega arith) (rw (t .count) at l))
 
     -- at the end, or decided: so many are read, and all have the mark
-    pub stops-read : ¬ ((r < total) × (openAfter image trace r ≡ true)) → (recordsRead image trace ≡ r) × (decideTest image trace ≡ Passed)
+    pub stops-read : ¬ ((r < total) × (undecidedAfter image trace r ≡ true)) → (recordsRead image trace ≡ r) × (decideTest image trace ≡ Passed)
     unfolding decideTest
     stops-read stop =
-        let here : r < total → openAfter image trace r ≡ false = λ l. ⊎-elim (λ o. absurd (stop (l, o))) (λ f. f) (true-or-false (openAfter image trace r)) in
+        let here : r < total → undecidedAfter image trace r ≡ false = λ l. ⊎-elim (λ o. absurd (stop (l, o))) (λ f. f) (true-or-false (undecidedAfter image trace r)) in
         let e = read-exactly image trace r stops-within (λ i j. went-on i j .0) here in
         (e, rw (u, e) (marks-pass trace r (λ i l. went-on i l .1)))
 
     -- undecided before the end: more is read, and the next record has another mark
-    bad-next : r < total → openAfter image trace r ≡ true → markedAt trace r ≡ false
+    bad-next : r < total → undecidedAfter image trace r ≡ true → markedAt trace r ≡ false
     unfolding goesOn stateAfterRecords
     bad-next l o =
         let f = firstFailing (goesOn image fresh trace) 0 total in
         let below : f < 0 + total = omega (arith, t .count) in
-        second (openAfter image trace r) (markedAt trace r) (rw (← t .count) at (failing-fails (goesOn image fresh trace) 0 total below)) o
+        second (undecidedAfter image trace r) (markedAt trace r) (rw (← t .count) at (failing-fails (goesOn image fresh trace) 0 total below)) o
 
     few-taken : length taken ≤ total
     few-taken = rw (length-periodsOf trace r) stops-within
@@ -98,9 +92,9 @@ module _ (image trace : List ℕ) (u : unreadTest image trace ≡ Passed) where
     unfolding stateAfterRecords
     left-state = rw (t .leaves) (later-read image fresh total fresh-ready taken few-taken)
 
-    left-open : getD later 0 0 ≡ stateAfterRecords image trace r .outcome
+    left-outcome : getD later 0 0 ≡ stateAfterRecords image trace r .outcome
     unfolding stateOf
-    left-open = ap (λ (s : State). s .outcome) left-state
+    left-outcome = ap (λ (s : State). s .outcome) left-state
 
     -- ---- the reply
 
@@ -109,13 +103,13 @@ module _ (image trace : List ℕ) (u : unreadTest image trace ≡ Passed) where
           → sets area 0 (replyOf (Refused BadPeriod r) (decideAnswer 0 0 0 0)) ≡ decide image trace area .reply
       unfolding decide
       replies-refused l o =
-          let is = rw left-open at o in
+          let is = rw left-outcome at o in
           let e = bad-mark-refused image trace u r l (λ i j. went-on i j .1) (bad-next l is) is in
           rw (call-refused (decideTest image trace) _ (tt {0}) (tt {0}) area room (λ p. is-refused e p)) (rw e)
 
       pub replies-read : ¬ ((r < total) × (getD later 0 0 ≡ 0))
-          → sets area 0 (replyOf Passed (decisionAnswer (stateOf later) r)) ≡ decide image trace area .reply
+          → sets area 0 (replyOf Passed (answerAfter (stateOf later) r)) ≡ decide image trace area .reply
       unfolding decide
       replies-read stop =
-          let e = stops-read (λ p. stop (p .0, left-open ∙ eqb-true _ _ (p .1))) in
+          let e = stops-read (λ p. stop (p .0, left-outcome ∙ eqb-true _ _ (p .1))) in
           rw (call-passed (decideTest image trace) _ (tt {0}) (tt {0}) area room (e .1), e .0, left-state)

@@ -24,25 +24,25 @@ use Rattle.runner.specs.Reading.{stateAfterRecords, recordsRead}
 use Rattle.runner.specs.Refusals.{unreadTest, decideTest}
 
 module _ (image trace : List ℕ) where
-  abbrev pub openAfter : ℕ → Bool
-  openAfter k = undecided (stateAfterRecords image trace k)
+  abbrev pub undecidedAfter : ℕ → Bool
+  undecidedAfter k = undecided (stateAfterRecords image trace k)
 
   pub few-read : recordsRead image trace ≤ periodRecords trace
   unfolding recordsRead
-  few-read = rw zero-add at (failing-max openAfter 0 (periodRecords trace))
+  few-read = rw zero-add at (failing-max undecidedAfter 0 (periodRecords trace))
 
   -- no record is read after the decision
-  pub open-before : (k : ℕ) → k < recordsRead image trace → openAfter k ≡ true
+  pub undecided-before : (k : ℕ) → k < recordsRead image trace → undecidedAfter k ≡ true
   unfolding recordsRead
-  open-before k l = failing-below openAfter 0 (periodRecords trace) k (omega arith) l
+  undecided-before k l = failing-below undecidedAfter 0 (periodRecords trace) k (omega arith) l
 
   next-state : (k : ℕ) → stateAfterRecords image trace (suc k) ≡ afterPeriod (imageOf image) (periodAt trace k) (stateAfterRecords image trace k)
   unfolding stateAfterRecords periodsOf
   next-state k = after-snoc (imageOf image) (stateOf (freshBytes (rowCount image))) (periodsOf trace k) (periodAt trace k)
 
-  open-first : openAfter 0 ≡ true
+  undecided-first : undecidedAfter 0 ≡ true
   unfolding stateAfterRecords periodsOf afterPeriods
-  open-first = rw (fresh-read (rowCount image))
+  undecided-first = rw (fresh-read (rowCount image))
 
   taken-after : (k : ℕ) → stateAfterRecords image trace k .periods ≡ k
   unfolding stateAfterRecords
@@ -51,7 +51,7 @@ module _ (image trace : List ℕ) where
       ∙ rw (fresh-read (rowCount image), length-periodsOf trace k) (zero-add k)
 
   -- a period after which the state is decided for the first time is the decision period
-  decided-now : (k : ℕ) → openAfter k ≡ true → openAfter (suc k) ≡ false → stateAfterRecords image trace (suc k) .decision ≡ suc k
+  decided-now : (k : ℕ) → undecidedAfter k ≡ true → undecidedAfter (suc k) ≡ false → stateAfterRecords image trace (suc k) .decision ≡ suc k
   decided-now k o d =
       let s = stateAfterRecords image trace k in
       rw (next-state k)
@@ -59,9 +59,9 @@ module _ (image trace : List ℕ) where
       ∙ rw (taken-after k) (add-one k))
 
   -- a state that is undecided was so before
-  open-below : (k j : ℕ) → j ≤ k → openAfter k ≡ true → openAfter j ≡ true
+  undecided-below : (k j : ℕ) → j ≤ k → undecidedAfter k ≡ true → undecidedAfter j ≡ true
   unfolding stateAfterRecords
-  open-below k j l o =
+  undecided-below k j l o =
       ⊎-elim (λ t. t)
       (λ f. let s = stateAfterRecords image trace j in
       let no = eqb-false (s .outcome) 0 f in
@@ -69,29 +69,29 @@ module _ (image trace : List ℕ) where
       let same = stays-decided (imageOf image) s (v .0) no in
       let is = eqb-true (stateAfterRecords image trace k .outcome) 0 o in
       absurd (no (sym (same .outcome-same) ∙ rw (v .1, after-append (imageOf image) (stateOf (freshBytes (rowCount image))) (periodsOf trace j) (v .0)) at is)))
-      (true-or-false (openAfter j))
+      (true-or-false (undecidedAfter j))
 
   -- so a record is read where those before it leave the state undecided, and only there
-  pub read-on : (k : ℕ) → k < periodRecords trace → openAfter k ≡ true → k < recordsRead image trace
+  pub read-on : (k : ℕ) → k < periodRecords trace → undecidedAfter k ≡ true → k < recordsRead image trace
   unfolding recordsRead
   read-on k i o =
-      let f = firstFailing openAfter 0 (periodRecords trace) in
+      let f = firstFailing undecidedAfter 0 (periodRecords trace) in
       ⊎-elim (λ h. h)
       (λ (h : f ≤ k).
       let below : f < 0 + periodRecords trace = omega arith in
-      absurd (false≢true (sym (failing-fails openAfter 0 (periodRecords trace) below) ∙ open-below k f h o)))
+      absurd (false≢true (sym (failing-fails undecidedAfter 0 (periodRecords trace) below) ∙ undecided-below k f h o)))
       (lt-or-le k f)
 
-  pub read-no-more : (k : ℕ) → openAfter k ≡ false → recordsRead image trace ≤ k
-  read-no-more k o = ⊎-elim (λ h. absurd (false≢true (sym o ∙ open-before k h))) (λ h. h) (lt-or-le k (recordsRead image trace))
+  pub read-no-more : (k : ℕ) → undecidedAfter k ≡ false → recordsRead image trace ≤ k
+  read-no-more k o = ⊎-elim (λ h. absurd (false≢true (sym o ∙ undecided-before k h))) (λ h. h) (lt-or-le k (recordsRead image trace))
 
   -- it is as many as leave the state undecided up to there, and all or decided there
-  pub read-exactly : (r : ℕ) → r ≤ periodRecords trace → ((i : ℕ) → i < r → openAfter i ≡ true) → (r < periodRecords trace → openAfter r ≡ false) → recordsRead image trace ≡ r
+  pub read-exactly : (r : ℕ) → r ≤ periodRecords trace → ((i : ℕ) → i < r → undecidedAfter i ≡ true) → (r < periodRecords trace → undecidedAfter r ≡ false) → recordsRead image trace ≡ r
   unfolding recordsRead
   read-exactly r h below here =
       ⊎-elim
-      (λ (l : r < periodRecords trace). failing-is openAfter (periodRecords trace) r l below (here l))
-      (λ (l : periodRecords trace ≤ r). let e : periodRecords trace ≡ r = omega arith in rw e (all-pass openAfter r below))
+      (λ (l : r < periodRecords trace). failing-is undecidedAfter (periodRecords trace) r l below (here l))
+      (λ (l : periodRecords trace ≤ r). let e : periodRecords trace ≡ r = omega arith in rw e (all-pass undecidedAfter r below))
       (lt-or-le r (periodRecords trace))
 
   -- "That number is the decision period, or the trace's record count when undecided."
@@ -99,13 +99,13 @@ module _ (image trace : List ℕ) where
       recordsRead image trace ≡ cond (undecided s) (periodRecords trace) (s .decision)
   read-is = of (recordsRead image trace) refl
     where
-      of : (r : ℕ) → recordsRead image trace ≡ r → r ≡ cond (openAfter r) (periodRecords trace) (stateAfterRecords image trace r .decision)
-      of zero e = rw open-first (⊎-elim (λ (h : 0 < periodRecords trace). absurd (let l = read-on 0 h open-first in omega arith)) (λ h. omega arith) (lt-or-le 0 (periodRecords trace)))
+      of : (r : ℕ) → recordsRead image trace ≡ r → r ≡ cond (undecidedAfter r) (periodRecords trace) (stateAfterRecords image trace r .decision)
+      of zero e = rw undecided-first (⊎-elim (λ (h : 0 < periodRecords trace). absurd (let l = read-on 0 h undecided-first in omega arith)) (λ h. omega arith) (lt-or-le 0 (periodRecords trace)))
       of (suc k) e =
           ⊎-elim
           (λ t. rw t (⊎-elim (λ (h : suc k < periodRecords trace). absurd (let l = read-on (suc k) h t in omega arith)) (λ h. let f = few-read in omega arith) (lt-or-le (suc k) (periodRecords trace))))
-          (λ f. rw f (sym (decided-now k (open-before k (omega arith)) f)))
-          (true-or-false (openAfter (suc k)))
+          (λ f. rw f (sym (decided-now k (undecided-before k (omega arith)) f)))
+          (true-or-false (undecidedAfter (suc k)))
 
 -- ---- refusal 11
 

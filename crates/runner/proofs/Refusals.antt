@@ -1,18 +1,20 @@
 -- What passed tests of begin, step, run and decide show, and which faults they can give. Document 01, "Replies that refuse".
 use Prim.Native.Nat.{ℕ, _+_, _≤_, _<_}
 use native.Mathlib.Omega.{arith}
-use mathlib.Core.Path.{_≡_}
+use mathlib.Core.Path.{_≡_, refl}
 use mathlib.Core.Bool.{true}
 use mathlib.Core.List.{List, _++_}
+use lib.Dec.{eqb}
 use lib.ListN.{length}
 use borrow.Author.Tests.{eq-eqb}
 use Rattle.records.specs.declared.Fault.{Fault}
+use Rattle.records.specs.declared.Fault.the-variants.{BadPeriod}
 use Rattle.records.specs.declared.Test.{Test}
 use Rattle.records.specs.declared.Test.the-variants.{Passed}
-use Rattle.records.specs.Refusals.{firstOf}
-use Rattle.records.proofs.Refusals.{first-passed, onlyFor, only-append}
+use Rattle.records.specs.Refusals.{firstOf, firstFailing}
+use Rattle.records.proofs.Refusals.{first-passed, onlyFor, only-append, only-first, only-require}
 use Rattle.periods.specs.Traces.{periodRecords, markedAt, marksTest, periodTest, traceLengthTest, traceTest}
-use Rattle.periods.proofs.Traces.{trace-marks, period-one, periodFaults, marks-only, period-only, trace-length-only, trace-only}
+use Rattle.periods.proofs.Traces.{trace-marks, period-one, periodFaults, period-only, trace-length-only, trace-only}
 use Rattle.layout.specs.Images.{rowCount}
 use Rattle.layout.specs.Refusals.{imageTest}
 use Rattle.layout.proofs.Images.{imageFaults, image-only}
@@ -93,7 +95,7 @@ abbrev pub stepFaults : List Fault
 stepFaults = beginFaults ++ (periodFaults ++ countFaults)
 
 abbrev pub decideFaults : List Fault
-decideFaults = imageFaults ++ (periodFaults ++ countFaults) ++ periodFaults
+decideFaults = imageFaults ++ (periodFaults ++ countFaults)
 
 pub begin-only : (image state : List ℕ) → onlyFor beginFaults (beginTest image state) ≡ true
 unfolding beginTest
@@ -118,10 +120,11 @@ unfolding runTest
 run-only image state trace = tests-only image state (traceTest trace) (periodRecords trace) (trace-only trace)
 
 pub decide-only : (image trace : List ℕ) → onlyFor decideFaults (decideTest image trace) ≡ true
-unfolding decideTest unreadTest
+unfolding decideTest unreadTest marksTest
 decide-only image trace =
-    only-append (imageFaults ++ (periodFaults ++ countFaults)) periodFaults (unreadTest image trace) (marksTest trace (recordsRead image trace))
+    let n = recordsRead image trace in
+    only-first decideFaults (unreadTest image trace) (marksTest trace n)
     (only-append imageFaults (periodFaults ++ countFaults) (imageTest image) (firstOf (traceLengthTest trace) (countTest 0 (periodRecords trace)))
     (image-only image)
     (only-append periodFaults countFaults (traceLengthTest trace) (countTest 0 (periodRecords trace)) (trace-length-only trace) (count-only 0 (periodRecords trace))))
-    (marks-only trace (recordsRead image trace))
+    (only-require decideFaults BadPeriod refl (eqb (firstFailing (markedAt trace) 0 n) n) _)

@@ -10,7 +10,7 @@ use Rattle.records.proofs.Refusals.{first-passed}
 use Rattle.records.proofs.Replies.{call-passed}
 use Rattle.periods.specs.Traces.{periodRecords, periodsOf, markedAt, marksTest, traceTest}
 use Rattle.periods.proofs.Traces.{length-periodsOf, marks-passed, marks-pass}
-use Rattle.periods.proofs.First.{first-count, first-length, first-marked, first-periods, first-same}
+use Rattle.periods.proofs.First.{first-count, first-length, first-marked, first-periods, first-long}
 use Rattle.layout.specs.Images.{rowCount, imageOf}
 use Rattle.states.specs.States.{stateOf, freshBytes}
 use Rattle.states.proofs.Refusals.{passes-count}
@@ -22,7 +22,7 @@ use Rattle.runner.specs.Refusals.{readyTest, runTest, unreadTest, decide
 use Rattle.runner.specs.Calls.{stepReplyBytes, decideReplyBytes, run, decide}
 use Rattle.runner.specs.Stopping.{readFirst, SameAsRun, StartsAs}
 use Rattle.runner.proofs.Refusals.{unread-passed, unread-passes}
-use Rattle.runner.proofs.Reading.{few-read, open-before, read-exactly}
+use Rattle.runner.proofs.Reading.{few-read, undecided-before, read-exactly}
 use Rattle.runner.proofs.Loop.{fresh-ready}
 
 -- ---- run over the records read
@@ -86,7 +86,7 @@ module _ (image t u area : List ℕ) (p : decideTest image t ≡ Passed) (d : un
   last = recordsRead image t
 
   u-long : last ≤ periodRecords u
-  u-long = first-same t u last (few-read image t) (s .starts)
+  u-long = first-long t u last (few-read image t) (s .starts)
 
   same-marks : (i : ℕ) → i < last → markedAt u i ≡ markedAt t i
   same-marks i l =
@@ -100,7 +100,7 @@ module _ (image t u area : List ℕ) (p : decideTest image t ≡ Passed) (d : un
 
   same-read : recordsRead image u ≡ last
   same-read =
-      read-exactly image u last u-long (λ i l. rw (same-states i (omega arith)) (open-before image t i l)) (λ l. rw (same-states last (omega arith)) d)
+      read-exactly image u last u-long (λ i l. rw (same-states i (omega arith)) (undecided-before image t i l)) (λ l. rw (same-states last (omega arith)) d)
 
   accepted : decideTest image u ≡ Passed
   unfolding decideTest

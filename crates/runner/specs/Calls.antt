@@ -33,8 +33,8 @@ abbrev pub decideAnswer : (outcome blame decision records : ℕ) → Answer
 decideAnswer o b d n = record { own = o; others = four b ∷ four d ∷ four n ∷ four 0 ∷ [] }
 
 -- "outcome, blame, decision period and the number of period records it read", of the state that these leave
-abbrev pub decisionAnswer : State → (records : ℕ) → Answer
-decisionAnswer s n = decideAnswer (s .outcome) (s .blame) (s .decision) n
+abbrev pub answerAfter : State → (records : ℕ) → Answer
+answerAfter s n = decideAnswer (s .outcome) (s .blame) (s .decision) n
 
 abbrev pub decideReplyBytes : ℕ
 decideReplyBytes = replyBytes (decideAnswer 0 0 0 0)
@@ -61,4 +61,4 @@ run image state trace reply =
 unfoldable pub decide : (image trace reply : List ℕ) → After Unit
 decide image trace reply =
     let n = recordsRead image trace in
-    call (decideTest image trace) (decisionAnswer (stateAfterRecords image trace n) n) tt tt reply
+    call (decideTest image trace) (answerAfter (stateAfterRecords image trace n) n) tt tt reply

@@ -11,7 +11,7 @@ use Rattle.states.specs.Limits.{maxPeriods}
 use Rattle.states.specs.States.{stateOf, freshBytes}
 use Rattle.runner.specs.Reading.{recordsRead}
 use Rattle.runner.specs.Refusals.{runTest}
-use Rattle.runner.specs.Calls.{decisionAnswer, run, decide}
+use Rattle.runner.specs.Calls.{answerAfter, run, decide}
 
 -- the records that decide reads
 abbrev pub readFirst : (image trace : List ℕ) → List ℕ
@@ -23,7 +23,7 @@ pub record SameAsRun (image trace area reply : List ℕ) : Type 0 where
   pub as-many : periodRecords (readFirst image trace) ≡ recordsRead image trace
   pub run-accepted : runTest image (freshBytes (rowCount image)) (readFirst image trace) ≡ Passed
   pub same : decide image trace area .reply
-      ≡ sets area 0 (replyOf Passed (decisionAnswer (stateOf (run image (freshBytes (rowCount image)) (readFirst image trace) reply .buffers)) (recordsRead image trace)))
+      ≡ sets area 0 (replyOf Passed (answerAfter (stateOf (run image (freshBytes (rowCount image)) (readFirst image trace) reply .buffers)) (recordsRead image trace)))
 
 -- u is a trace that starts with the records that decide reads of t, and goes on in any way
 pub record StartsAs (image t u : List ℕ) : Type 0 where

@@ -10,7 +10,7 @@ ghost use Rattle.states.specs.Limits.{headBytes};
 ghost use Rattle.states.specs.States.{stateOf, freshBytes};
 ghost use Rattle.states.specs.Premises.{Answering};
 ghost use Rattle.runner.specs.Refusals.{beginTest, readyTest, stepTest, runTest, unreadTest};
-ghost use Rattle.runner.specs.Calls.{stepAnswer, answer, stepReplyBytes, decideAnswer, decisionAnswer, decideReplyBytes, begin, step, run, decide};
+ghost use Rattle.runner.specs.Calls.{stepAnswer, answer, stepReplyBytes, decideAnswer, answerAfter, decideReplyBytes, begin, step, run, decide};
 use records::Fault;
 use records::Test;
 
@@ -132,9 +132,9 @@ fn put_decide_reply(reply: &mut [u8], t: Test, outcome: u32, blame: u32, decisio
 }
 
 // Outcome, blame and decision period of a state that has read so many records.
-fn put_decision(reply: &mut [u8], state: &[u8], read: u32)
+fn put_outcome(reply: &mut [u8], state: &[u8], read: u32)
     requires { ⌜ (decideReplyBytes ≤ length (now reply)) × (headBytes ≤ length (now state)) ⌝ }
-    ensures { λ _. ⌜ now (reply .exit) ≡ sets (now (reply .entry)) 0 (replyOf Passed (decisionAnswer (stateOf (now (state .entry))) read)) ⌝ }
+    ensures { λ _. ⌜ now (reply .exit) ≡ sets (now (reply .entry)) 0 (replyOf Passed (answerAfter (stateOf (now (state .entry))) read)) ⌝ }
 {
     put_decide_reply(
         reply,
@@ -230,7 +230,7 @@ fn read_trace(image: &[u8], state: &mut [u8], trace: &[u8], reply: &mut [u8])
         put_decide_reply(reply, Test::Refused(Fault::BadPeriod, read), 0, 0, 0, 0);
         return;
     }
-    put_decision(reply, state, read as u32);
+    put_outcome(reply, state, read as u32);
 }
 
 // Reads a trace from its first record to the decision. The result is 1, or 0 where the reply area is too short.

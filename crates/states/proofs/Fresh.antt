@@ -1,9 +1,10 @@
 -- The state of no periods: its bytes are zeros, and it is sound.
-use Prim.Native.Nat.{ℕ, zero, suc}
+use Prim.Native.Nat.{ℕ, zero, suc, _≤_}
 use native.Mathlib.Omega.{arith}
 use mathlib.Core.Bool.{true}
-use mathlib.Core.Path.{_≡_, refl, sym}
-use lib.ListN.{replicate, length-replicate, replicate-append-replicate}
+use mathlib.Core.List.{List, _∷_}
+use mathlib.Core.Path.{_≡_, refl, sym, ap}
+use lib.ListN.{take, replicate, length-replicate, replicate-append-replicate}
 use Rattle.records.specs.Fields.{bytes}
 use Rattle.states.specs.Limits.{headBytes}
 use Rattle.states.specs.States.{State, stateOf, stateBytes, freshBytes, allAtMost}
@@ -29,3 +30,9 @@ fresh-sound n = record { long = length-replicate n 0; head = undecided; values-s
 
 pub fresh-read : (n : ℕ) → stateOf (freshBytes n) ≡ freshState n
 fresh-read n = rw (fresh-bytes n) (read-back n (freshState n) (fresh-sound n) (omega arith))
+
+-- the first n of m zeros
+pub zeros-part : (m n : ℕ) → n ≤ m → take {A = ℕ} n (replicate m 0) ≡ replicate n 0
+zeros-part m zero h = refl
+zeros-part zero (suc n) h = absurd (omega arith)
+zeros-part (suc m) (suc n) h = ap (λ (l : List ℕ). 0 ∷ l) (zeros-part m n (omega arith))

@@ -8,11 +8,11 @@ use Rattle.records.proofs.Refusals.{is-refused, refused-first}
 use Rattle.records.proofs.Replies.{call-result, gives-no-room, gives-refused}
 use Rattle.periods.specs.Traces.{marksTest}
 use Rattle.layout.proofs.Images.{GoodImage, passed-good}
+use Rattle.states.proofs.Fresh.{zeros-part}
 use Rattle.runner.specs.Reading.{recordsRead}
 use Rattle.runner.specs.Refusals.{unreadTest, decideTest}
 use Rattle.runner.specs.Calls.{decide}
 use Rattle.runner.proofs.Refusals.{unread-passed}
-use Rattle.runner.proofs.Loop.{zeros-part}
 use Rattle.runner.proofs.monitor_decide.Statement.{statement}
 use Rattle.runner.proofs.monitor_decide.Tie as tie
 

@@ -57,16 +57,16 @@ returns c =
     c .before .before .put-decide-reply .ensures
     ∙ replies-refused (s .args .image .now) (s .args .trace .now) (s .pre .0) (x .take-while-undecided .result) _ (took x) (s .args .reply .now) (s .pre .1 .1) (let e = x .before .before .period-records .ensures in omega arith) (c .before .before .before .before .if2 .taken)
 
-cast-put-decision : tie.Need-cast-put-decision
-cast-put-decision c =
+cast-put-outcome : tie.Need-cast-put-outcome
+cast-put-outcome c =
     let x = c .before .before .before .before .before in
     let s = x .before .before .before .before .before .before .before in
     let few = stops-within (s .args .image .now) (s .args .trace .now) (s .pre .0) (x .take-while-undecided .result) _ (took x) in
     let most = unread-passed (s .args .image .now) (s .args .trace .now) (s .pre .0) .2 in
     omega arith
 
-put-decision-requires : tie.Need-put-decision-requires
-put-decision-requires c κs = (c .before .before .before .before .before .before .before .before .before .before .before .before .pre .1 .1, long (c .before .before .before .before .before))
+put-outcome-requires : tie.Need-put-outcome-requires
+put-outcome-requires c κs = (c .before .before .before .before .before .before .before .before .before .before .before .before .pre .1 .1, long (c .before .before .before .before .before))
 
 same-length-3 : tie.Need-same-length-3
 same-length-3 c = search needs
@@ -78,7 +78,7 @@ returns-2 : tie.Need-returns-2
 returns-2 c =
     let x = c .before .before .before .before .before .before .before .before in
     let s = x .before .before .before .before .before .before .before in
-    c .before .before .put-decision .ensures
+    c .before .before .put-outcome .ensures
     ∙ replies-read (s .args .image .now) (s .args .trace .now) (s .pre .0) (x .take-while-undecided .result) _ (took x) (s .args .reply .now) (s .pre .1 .1)
     (λ h. ⊎-elim (λ w. eqb-false _ _ (w .2 .left) (h .1)) (λ w. let e = x .before .before .period-records .ensures in omega (arith, w .left, h .0)) (c .before .before .before .before .before .if1 .came))
 
@@ -93,8 +93,8 @@ read-trace-spec =
     same-length
     same-length-2
     returns
-    cast-put-decision
-    put-decision-requires
+    cast-put-outcome
+    put-outcome-requires
     same-length-3
     same-length-4
     returns-2)

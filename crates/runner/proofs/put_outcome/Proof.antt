@@ -1,8 +1,8 @@
--- `runner::put_decision` meets its contract: outcome, blame and decision period are those that are read of the state.
+-- `runner::put_outcome` meets its contract: outcome, blame and decision period are those that are read of the state.
 use borrow.Author.Needs.{needs}
 use Rattle.states.specs.States.{stateOf}
-use Rattle.runner.proofs.put_decision.Statement.{statement}
-use Rattle.runner.proofs.put_decision.Tie as tie
+use Rattle.runner.proofs.put_outcome.Statement.{statement}
+use Rattle.runner.proofs.put_outcome.Tie as tie
 
 shared-slice-read-wide : tie.Need-shared-slice-read-wide
 shared-slice-read-wide c = search needs
@@ -29,8 +29,8 @@ returns : tie.Need-returns
 unfolding stateOf
 returns c = cc
 
-pub put-decision-spec : {M : Type 1} → statement M
-put-decision-spec =
+pub put-outcome-spec : {M : Type 1} → statement M
+put-outcome-spec =
     tie.close
     (tie.spec
     shared-slice-read-wide
