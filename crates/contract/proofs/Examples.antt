@@ -80,6 +80,7 @@ examples = (
     met-at-2 = refl;
     broken-at-2 = refl;
     broken-by-both = refl;
+    outcomes = refl;
     watched = refl;
   },
   record {

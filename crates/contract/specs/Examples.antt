@@ -11,7 +11,7 @@ use Rattle.periods.specs.Periods.{Party, party1, party2, Period}
 use Rattle.contract.specs.Expressions.{any, tries, idle, succeeds, fails, Expression, atom, seq, or, star, holdsEmpty}
 use Rattle.contract.specs.Readings.{Reading, pending, accepted, rejected, reading}
 use Rattle.contract.specs.Meaning.{Literal, Clause, literal, deadline, both, then, repair, repeat, when, until, only, bothParties, Decision, undecided, satisfied, violated, meaning}
-use Rattle.contract.specs.Verdicts.{verdict, blame, decisionPeriod}
+use Rattle.contract.specs.Verdicts.{outcome, verdict, blame, decisionPeriod}
 
 -- "a, b are actions 0, 1"
 abbrev pub a : ℕ
@@ -220,6 +220,8 @@ pub record VerdictExamples : Type 0 where
       map (told (then (duty party1 a) (duty party1 b)) (a/a ∷ -/- ∷ b/b ∷ [])) (0 ∷ 1 ∷ 2 ∷ 3 ∷ [])
       ≡ ("open", 0, 0, 0) ∷ ("open", 0, 0, 0) ∷ ("broken", 2, 1, 2) ∷ ("broken-after", 4, 1, 2) ∷ []
   pub broken-by-both : told (both (power party1 a) (duty party1 b)) (a/- ∷ []) 1 ≡ ("broken", 2, 3, 1)
+  -- "outcome (0 undecided, 1 satisfied, 2 violated)"
+  pub outcomes : map outcome (undecided ∷ satisfied 3 ∷ violated 4 (only party1) ∷ []) ≡ 0 ∷ 1 ∷ 2 ∷ []
   -- the contract, the periods and the lines of "Watch"
   pub watched :
       map (told (repeat (repair (duty party1 a) (duty party1 b))) (a/a ∷ -/- ∷ b/- ∷ a/a ∷ [])) (1 ∷ 2 ∷ 3 ∷ 4 ∷ [])

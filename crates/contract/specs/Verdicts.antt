@@ -1,4 +1,5 @@
--- The verdicts after some periods, and what else is reported of a decision. Document 01, "Meaning of clauses", from "Verdicts after n periods".
+-- The verdicts after some periods, and what else is reported of a decision. Document 01, "Meaning of clauses", from "Verdicts after n periods", and
+-- "Image and row machine", from "State".
 use Prim.Native.Nat.{ℕ, _≤_, _<_}
 use mathlib.Core.List.{List, []}
 use mathlib.Core.Logic.{_⊎_}
@@ -8,7 +9,7 @@ use Rattle.records.specs.Verdicts.{Verdict, «open», met, broken, met-after, b
 use Rattle.periods.specs.Periods.{Period}
 use Rattle.contract.specs.Meaning.{partiesNumber, Clause, Decision, undecided, satisfied, violated, meaning}
 
--- the outcome: 0 undecided, 1 satisfied, 2 violated
+-- "outcome (0 undecided, 1 satisfied, 2 violated)"
 abbrev pub outcome : Decision → ℕ
 outcome undecided = 0
 outcome (satisfied k) = 1

@@ -78,7 +78,7 @@ unfolding
 watch-vector = record { replied = refl; decided = refl }
 
 pub decision-vectors : DecisionVectors
-decision-vectors = record { outcomes = refl; records = refl }
+decision-vectors = record { records = refl }
 
 pub row-vectors : RowVectors
 unfolding

@@ -43,7 +43,7 @@ use Rattle.reader.specs.Reader.{taken, read}
 use Rattle.reader.proofs.Reader.{taken-spells}
 use Rattle.image.specs.Images.{imageFor}
 use Rattle.image.specs.Rightness.{Shows, RightFor}
-use Rattle.image.specs.Monitors.{callTest, accepts, periodsAfter, meantAnswer, AnswersCall, AnswersCalls, recordsFor, meantRecords, traceTestFor, meantDecision, Monitors}
+use Rattle.image.specs.Monitors.{callTest, accepts, periodsAfter, meantAnswer, AnswersCall, AnswersCalls, recordsFor, meantRecords, traceTestFor, meantTraceAnswer, Monitors}
 use Rattle.image.proofs.Images.{right-for}
 
 -- ---- a state that shows a decision answers with it
@@ -199,8 +199,8 @@ module _ (c : Clause) (image : List ℕ) (right : RightFor c image) where
     records-meant g =
         records-shown (meaning c all) (stateAfterRecords image trace last) (periodRecords trace) (rw (read-alone g) at (shows-read last)) ∙ sym (read-is image trace)
 
-    answers-trace : EmptyFree c → (reply : List ℕ) → decide image trace reply ≡ call (traceTestFor c trace) (meantDecision c trace) tt tt reply
-    unfolding decide decideTest unreadTest traceTestFor meantDecision
+    answers-trace : EmptyFree c → (reply : List ℕ) → decide image trace reply ≡ call (traceTestFor c trace) (meantTraceAnswer c trace) tt tt reply
+    unfolding decide decideTest unreadTest traceTestFor meantTraceAnswer
     answers-trace g reply =
         let h = rw (read-alone g) at (shows-read last) in
         rw (right .good, records-meant g, h .outcome-is, h .blame-is, h .decision-is)

@@ -1,6 +1,6 @@
 -- Vectors of the image: every kind, every error of document 01's "What students hand in", and the example of "Watch" through the bytes; the rows
--- of deadlines and of joint duties (document 02, "Duties with a deadline" and "Duties that both parties own"), and the room for rows; that example
--- read to its decision (document 02, "Stop reading once it is decided").
+-- of deadlines and of joint duties (document 02, "Duties with a deadline" and "Duties that both parties own"), and the room for rows; the example of
+-- "Watch" read to its decision (document 02, "Stop reading once it is decided").
 use Prim.Native.Nat.{ℕ, _+_}
 use mathlib.Core.List.{List, [], _∷_, _++_, map}
 use mathlib.Core.Path.{_≡_}
@@ -18,7 +18,6 @@ use Rattle.runner.specs.Calls.{begin, step, decide}
 use Rattle.runner.specs.Examples.{reply, decideReply}
 use Rattle.contract.specs.Expressions.{any, tries, idle, succeeds, fails, atom, seq, or, star}
 use Rattle.contract.specs.Meaning.{only, Clause, Decision, undecided, satisfied, violated, deadline, both, then, repair, repeat, when, until}
-use Rattle.contract.specs.Verdicts.{outcome}
 use Rattle.contract.specs.Examples.{a, b, duty, joint, ban, power, a/a, a/-, -/a, -/-, b/a, b/b, b/-}
 use Rattle.reader.specs.Examples.{six, sixWith, joined}
 use Rattle.image.specs.Limits.{allowedFor, bufferFor}
@@ -174,9 +173,8 @@ pub record WatchVector : Type 0 where
   -- number, outcome, place, blame, decision period, records read
   pub decided : decidedReplies watchedBytes watchedRecords ≡ decideReply 0 0 0 0 0 2 ∷ replicate 3 (decideReply 0 2 0 2 3 3)
 
--- "outcome (0 undecided, 1 satisfied, 2 violated)"; "the decision period, or the trace's record count when undecided", of 5 records
+-- "the decision period, or the trace's record count when undecided", of 5 records
 pub record DecisionVectors : Type 0 where
-  pub outcomes : map outcome (undecided ∷ satisfied 3 ∷ violated 4 (only party1) ∷ []) ≡ 0 ∷ 1 ∷ 2 ∷ []
   pub records : map (λ (d : Decision). recordsFor d 5) (undecided ∷ satisfied 3 ∷ violated 4 (only party1) ∷ []) ≡ 5 ∷ 3 ∷ 4 ∷ []
 
 -- ---- the rows of deadlines and of joint duties, and the room for rows

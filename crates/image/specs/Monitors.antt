@@ -84,8 +84,8 @@ traceTestFor clause trace =
     firstOf (firstOf (traceLengthTest trace) (countTest 0 (periodRecords trace))) (marksTest trace (meantRecords clause trace))
 
 -- the decision of the clause's meaning on the trace's periods, and the records read
-unfoldable pub meantDecision : Clause → (trace : List ℕ) → Answer
-meantDecision clause trace =
+unfoldable pub meantTraceAnswer : Clause → (trace : List ℕ) → Answer
+meantTraceAnswer clause trace =
     let d = meaning clause (periodsOf trace (periodRecords trace)) in
     decideAnswer (outcome d) (blame d) (decisionPeriod d) (meantRecords clause trace)
 
@@ -99,4 +99,4 @@ pub record Monitors (contract image : List ℕ) : Type 0 where
   pub answers : (state reply : List ℕ) → length state ≡ headBytes + rowCount image → headSize ≤ length reply
       → (begin image state reply ≡ written (replicate (length state) 0) reply Passed (alone 0))
       × ((calls : List StepCall) → AnswersCalls clause image (begin image state reply .buffers) [] calls)
-  pub answers-trace : (trace reply : List ℕ) → decide image trace reply ≡ call (traceTestFor clause trace) (meantDecision clause trace) tt tt reply
+  pub answers-trace : (trace reply : List ℕ) → decide image trace reply ≡ call (traceTestFor clause trace) (meantTraceAnswer clause trace) tt tt reply

@@ -112,11 +112,16 @@ pub only-first : (fs : List Fault) (s t : Test) → onlyFor fs s ≡ true → on
 only-first fs Passed t h k = k
 only-first fs (Refused f p) t h k = h
 
--- of two tests, each with faults of its own
 pub among-append : (fs gs : List Fault) (f : Fault) → among (fs ++ gs) f ≡ (among fs f || among gs f)
 among-append [] gs f = refl
 among-append (g ∷ fs) gs f = rw (among-append fs gs f) (sym (or-assoc (eqb (faultNumber f) (faultNumber g)) (among fs f) (among gs f)))
 
+-- a test with faults of its own, among more
+pub only-among : (fs gs hs : List Fault) (t : Test) → onlyFor gs t ≡ true → onlyFor (fs ++ (gs ++ hs)) t ≡ true
+only-among fs gs hs Passed h = refl
+only-among fs gs hs (Refused f p) h = rw (among-append fs (gs ++ hs) f, among-append gs hs f, h) (or-true (among fs f))
+
+-- of two tests, each with faults of its own
 pub only-append : (fs gs : List Fault) (s t : Test) → onlyFor fs s ≡ true → onlyFor gs t ≡ true → onlyFor (fs ++ gs) (firstOf s t) ≡ true
 only-append fs gs Passed Passed h k = refl
 only-append fs gs Passed (Refused f p) h k = rw (among-append fs gs f, k) (or-true (among fs f))

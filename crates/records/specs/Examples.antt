@@ -25,9 +25,9 @@ area n = replicate n 0xff
 abbrev pub head : (number own place : ℕ) → List ℕ
 head number own place = number ∷ 0 ∷ 0 ∷ 0 ∷ own ∷ 0 ∷ 0 ∷ 0 ∷ place ∷ 0 ∷ 0 ∷ 0 ∷ 0 ∷ 0 ∷ 0 ∷ 0 ∷ []
 
--- a call that leaves this buffer and this reply, and the area's one byte past it as it was
-abbrev pub leaves : (buffer reply : List ℕ) → After (List ℕ)
-leaves buffer reply = record { result = 1; buffers = buffer; reply = reply ++ (0xff ∷ []) }
+-- a call that leaves these buffers and this reply, and the area's one byte past it as it was
+abbrev pub leaves : {Buffers : Type 0} → (buffers : Buffers) (reply : List ℕ) → After Buffers
+leaves buffers reply = record { result = 1; buffers = buffers; reply = reply ++ (0xff ∷ []) }
 
 -- a call that answers 7 in its own field and 0x0102 behind the place, a reply of 20 bytes, with a buffer of one byte, 1 before and 2 later, and an
 -- area of n bytes

@@ -1,4 +1,5 @@
--- The bytes of the replies of begin, step, run and decide. Document 01, "Calls" and "Replies that refuse".
+-- The bytes of the replies of begin, step, run and decide. Document 01, "Calls" and "Replies that refuse"; document 02, "Stop reading
+-- once it is decided".
 use Prim.Native.Nat.{ℕ, _+_}
 use mathlib.Core.Path.{_≡_, refl, _∙_}
 use mathlib.Core.List.{List, [], _∷_, append-nil}

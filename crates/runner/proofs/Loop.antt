@@ -2,7 +2,7 @@
 use Prim.Native.Nat.{ℕ, _+_, _≤_, _<_}
 use native.Mathlib.Nat.{zero-add}
 use native.Mathlib.Omega.{arith}
-use mathlib.Core.Bool.{Bool, true, false, _&&_, and-eq-true-iff, false≢true}
+use mathlib.Core.Bool.{true, false, and-eq-true-iff}
 use mathlib.Core.List.{List}
 use mathlib.Core.Logic.{⊎-elim}
 use mathlib.Core.Path.{_≡_, ap, _∙_}
@@ -24,19 +24,13 @@ use Rattle.periods.proofs.Traces.{length-periodsOf, marks-pass}
 use Rattle.layout.specs.Images.{rowCount}
 use Rattle.states.specs.Limits.{headBytes}
 use Rattle.states.specs.States.{State, stateOf, freshBytes}
-use Rattle.states.proofs.Fresh.{freshState, fresh-bytes, fresh-sound, fresh-read}
-use Rattle.states.proofs.States.{sound-passes}
 use Rattle.machine.specs.Premises.{Ready, goesOn, TakesWhile}
 use Rattle.machine.proofs.Steps.{later-read, later-answering}
 use Rattle.runner.specs.Reading.{stateAfterRecords, recordsRead}
 use Rattle.runner.specs.Refusals.{unreadTest, decideTest}
 use Rattle.runner.specs.Calls.{decideAnswer, answerAfter, decideReplyBytes, decide}
-use Rattle.runner.proofs.Refusals.{unread-passed}
+use Rattle.runner.proofs.Refusals.{unread-ready}
 use Rattle.runner.proofs.Reading.{undecidedAfter, read-exactly, bad-mark-refused}
-
-second : (a b : Bool) → (a && b) ≡ false → a ≡ true → b ≡ false
-second true b e h = e
-second false b e h = absurd (false≢true h)
 
 module _ (image trace : List ℕ) (u : unreadTest image trace ≡ Passed) where
   abbrev fresh : List ℕ
@@ -45,15 +39,8 @@ module _ (image trace : List ℕ) (u : unreadTest image trace ≡ Passed) where
   abbrev total : ℕ
   total = periodRecords trace
 
-  pub fresh-ready : Ready image fresh total
-  fresh-ready =
-      let b = unread-passed image trace u in
-      let n = rowCount image in
-      record {
-        good = b .0;
-        sound = rw (fresh-bytes n) (sound-passes n (freshState n) (fresh-sound n) (omega arith));
-        room = rw (fresh-read n) (omega (arith, b .2));
-      }
+  ready : Ready image fresh total
+  ready = unread-ready image trace u
 
   module _ (r : ℕ) (later : List ℕ) (t : TakesWhile image fresh trace total later r) where
     abbrev taken : List Period
@@ -80,17 +67,17 @@ module _ (image trace : List ℕ) (u : unreadTest image trace ≡ Passed) where
     bad-next l o =
         let f = firstFailing (goesOn image fresh trace) 0 total in
         let below : f < 0 + total = omega (arith, t .count) in
-        second (undecidedAfter image trace r) (markedAt trace r) (rw (← t .count) at (failing-fails (goesOn image fresh trace) 0 total below)) o
+        rw o at (rw (← t .count) at (failing-fails (goesOn image fresh trace) 0 total below))
 
     few-taken : length taken ≤ total
     few-taken = rw (length-periodsOf trace r) stops-within
 
     pub left-long : headBytes ≤ length later
-    left-long = rw (t .leaves) (later-answering image fresh total fresh-ready taken few-taken .head)
+    left-long = rw (t .leaves) (later-answering image fresh total ready taken few-taken .head)
 
     left-state : stateOf later ≡ stateAfterRecords image trace r
     unfolding stateAfterRecords
-    left-state = rw (t .leaves) (later-read image fresh total fresh-ready taken few-taken)
+    left-state = rw (t .leaves) (later-read image fresh total ready taken few-taken)
 
     left-outcome : getD later 0 0 ≡ stateAfterRecords image trace r .outcome
     unfolding stateOf

@@ -51,8 +51,8 @@ module _ (image trace : List ℕ) where
       ∙ rw (fresh-read (rowCount image), length-periodsOf trace k) (zero-add k)
 
   -- a period after which the state is decided for the first time is the decision period
-  decided-now : (k : ℕ) → undecidedAfter k ≡ true → undecidedAfter (suc k) ≡ false → stateAfterRecords image trace (suc k) .decision ≡ suc k
-  decided-now k o d =
+  decision-here : (k : ℕ) → undecidedAfter k ≡ true → undecidedAfter (suc k) ≡ false → stateAfterRecords image trace (suc k) .decision ≡ suc k
+  decision-here k o d =
       let s = stateAfterRecords image trace k in
       rw (next-state k)
       (decides-now (imageOf image) (periodAt trace k) s (eqb-true (s .outcome) 0 o) (rw (next-state k) at (eqb-false (stateAfterRecords image trace (suc k) .outcome) 0 d))
@@ -104,7 +104,7 @@ module _ (image trace : List ℕ) where
       of (suc k) e =
           ⊎-elim
           (λ t. rw t (⊎-elim (λ (h : suc k < periodRecords trace). absurd (let l = read-on (suc k) h t in omega arith)) (λ h. let f = few-read in omega arith) (lt-or-le (suc k) (periodRecords trace))))
-          (λ f. rw f (sym (decided-now k (undecided-before k (omega arith)) f)))
+          (λ f. rw f (sym (decision-here k (undecided-before k (omega arith)) f)))
           (true-or-false (undecidedAfter (suc k)))
 
 -- ---- refusal 11

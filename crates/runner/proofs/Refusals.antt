@@ -1,26 +1,26 @@
--- What passed tests of begin, step, run and decide show, and which faults they can give. Document 01, "Replies that refuse".
+-- What passed tests of begin, step, run and decide show, and which faults they can give. Document 01, "Replies that refuse"; document 02, "Stop
+-- reading once it is decided".
 use Prim.Native.Nat.{ℕ, _+_, _≤_, _<_}
 use native.Mathlib.Omega.{arith}
-use mathlib.Core.Path.{_≡_, refl}
+use mathlib.Core.Path.{_≡_}
 use mathlib.Core.Bool.{true}
 use mathlib.Core.List.{List, _++_}
-use lib.Dec.{eqb}
 use lib.ListN.{length}
 use borrow.Author.Tests.{eq-eqb}
 use Rattle.records.specs.declared.Fault.{Fault}
-use Rattle.records.specs.declared.Fault.the-variants.{BadPeriod}
 use Rattle.records.specs.declared.Test.{Test}
 use Rattle.records.specs.declared.Test.the-variants.{Passed}
-use Rattle.records.specs.Refusals.{firstOf, firstFailing}
-use Rattle.records.proofs.Refusals.{first-passed, onlyFor, only-append, only-first, only-require}
+use Rattle.records.specs.Refusals.{firstOf}
+use Rattle.records.proofs.Refusals.{first-passed, onlyFor, only-among, only-append, only-first}
 use Rattle.periods.specs.Traces.{periodRecords, markedAt, marksTest, periodTest, traceLengthTest, traceTest}
-use Rattle.periods.proofs.Traces.{trace-marks, period-one, periodFaults, period-only, trace-length-only, trace-only}
+use Rattle.periods.proofs.Traces.{marks-passed, trace-marks, period-one, periodFaults, marks-only, period-only, trace-length-only, trace-only}
 use Rattle.layout.specs.Images.{rowCount}
 use Rattle.layout.specs.Refusals.{imageTest}
 use Rattle.layout.proofs.Images.{imageFaults, image-only}
 use Rattle.states.specs.Limits.{headBytes, maxPeriods}
-use Rattle.states.specs.States.{stateOf, sound}
+use Rattle.states.specs.States.{stateOf, sound, freshBytes}
 use Rattle.states.specs.Refusals.{stateLengthTest, stateTest, countTest}
+use Rattle.states.proofs.Fresh.{fresh-read, fresh-passes}
 use Rattle.states.proofs.Refusals.{length-passed, state-passed, passed-count, passes-count, stateFaults, countFaults, length-only, state-only, count-only}
 use Rattle.machine.specs.Premises.{Ready}
 use Rattle.runner.specs.Reading.{recordsRead}
@@ -71,7 +71,7 @@ pub run-marks : (image state trace : List ℕ) → runTest image state trace ≡
 unfolding runTest
 run-marks image state trace e = trace-marks trace (tests-ready image state (traceTest trace) (periodRecords trace) e .1)
 
--- decide's, before it reads
+-- decide's, before it reads a record
 pub unread-passed : (image trace : List ℕ) → unreadTest image trace ≡ Passed
     → (imageTest image ≡ Passed) × (traceLengthTest trace ≡ Passed) × (periodRecords trace ≤ maxPeriods)
 unfolding unreadTest
@@ -85,6 +85,22 @@ pub unread-passes : (image trace : List ℕ) → imageTest image ≡ Passed → 
     → unreadTest image trace ≡ Passed
 unfolding unreadTest
 unread-passes image trace g l n = rw (g, l) (passes-count 0 (periodRecords trace) (omega arith))
+
+pub unread-ready : (image trace : List ℕ) → unreadTest image trace ≡ Passed → Ready image (freshBytes (rowCount image)) (periodRecords trace)
+unread-ready image trace e =
+    let u = unread-passed image trace e in
+    record { good = u .0; sound = fresh-passes (rowCount image); room = rw (fresh-read (rowCount image)) (omega (arith, u .2)) }
+
+-- and with the marks of the records read
+pub decide-unread : (image trace : List ℕ) → decideTest image trace ≡ Passed → unreadTest image trace ≡ Passed
+unfolding decideTest
+decide-unread image trace e = first-passed (unreadTest image trace) (marksTest trace (recordsRead image trace)) e .0
+
+pub decide-marks : (image trace : List ℕ) → decideTest image trace ≡ Passed → (i : ℕ) → i < recordsRead image trace → markedAt trace i ≡ true
+unfolding decideTest
+decide-marks image trace e =
+    let n = recordsRead image trace in
+    marks-passed trace n (first-passed (unreadTest image trace) (marksTest trace n) e .1)
 
 -- ---- no test of these calls gives another fault
 
@@ -120,11 +136,11 @@ unfolding runTest
 run-only image state trace = tests-only image state (traceTest trace) (periodRecords trace) (trace-only trace)
 
 pub decide-only : (image trace : List ℕ) → onlyFor decideFaults (decideTest image trace) ≡ true
-unfolding decideTest unreadTest marksTest
+unfolding decideTest unreadTest
 decide-only image trace =
     let n = recordsRead image trace in
     only-first decideFaults (unreadTest image trace) (marksTest trace n)
     (only-append imageFaults (periodFaults ++ countFaults) (imageTest image) (firstOf (traceLengthTest trace) (countTest 0 (periodRecords trace)))
     (image-only image)
     (only-append periodFaults countFaults (traceLengthTest trace) (countTest 0 (periodRecords trace)) (trace-length-only trace) (count-only 0 (periodRecords trace))))
-    (only-require decideFaults BadPeriod refl (eqb (firstFailing (markedAt trace) 0 n) n) _)
+    (only-among imageFaults periodFaults countFaults (marksTest trace n) (marks-only trace n))

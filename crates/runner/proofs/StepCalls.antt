@@ -20,11 +20,10 @@ use Rattle.periods.specs.Traces.{periodAt}
 use Rattle.layout.specs.Images.{rowCount, imageOf}
 use Rattle.layout.specs.Refusals.{imageTest}
 use Rattle.states.specs.Limits.{headBytes}
-use Rattle.states.specs.States.{stateOf, stateBytes}
+use Rattle.states.specs.States.{stateOf, stateBytes, freshBytes}
 use Rattle.states.specs.Refusals.{stateTest}
 use Rattle.states.proofs.Refusals.{state-passed}
-use Rattle.states.proofs.States.{sound-passes}
-use Rattle.states.proofs.Fresh.{freshState, fresh-bytes, fresh-sound}
+use Rattle.states.proofs.Fresh.{fresh-passes}
 use Rattle.machine.specs.Machine.{afterPeriod, afterPeriods}
 use Rattle.machine.specs.Premises.{Ready}
 use Rattle.machine.proofs.Machine.{SameDecision, stays-decided, periods-after}
@@ -151,11 +150,11 @@ module _ (image state reply : List ℕ) (r : headSize ≤ length reply) (h : beg
   unfolding begin
   begin-written = call-passed (beginTest image state) _ _ _ reply r h
 
-  pub begin-state : begin image state reply .buffers ≡ stateBytes (freshState (rowCount image))
-  begin-state = ap (λ (x : After (List ℕ)). x .buffers) begin-written ∙ rw (begin-passed image state h .1) (fresh-bytes (rowCount image))
+  pub begin-state : begin image state reply .buffers ≡ freshBytes (rowCount image)
+  begin-state = ap (λ (x : After (List ℕ)). x .buffers) begin-written ∙ rw (begin-passed image state h .1)
 
   pub begin-sound : readyTest image (begin image state reply .buffers) ≡ Passed
   unfolding readyTest
   begin-sound =
       passed-first (imageTest image) (stateTest (rowCount image) (begin image state reply .buffers)) (begin-passed image state h .0)
-      (rw begin-state (sound-passes (rowCount image) (freshState (rowCount image)) (fresh-sound (rowCount image)) (omega arith)))
+      (rw begin-state (fresh-passes (rowCount image)))

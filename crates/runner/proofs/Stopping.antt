@@ -6,10 +6,9 @@ use mathlib.Core.List.{List}
 use mathlib.Core.Path.{_≡_, sym, ap, _∙_}
 use lib.ListN.{length}
 use Rattle.records.specs.declared.Test.the-variants.{Passed}
-use Rattle.records.proofs.Refusals.{first-passed}
 use Rattle.records.proofs.Replies.{call-passed}
-use Rattle.periods.specs.Traces.{periodRecords, periodsOf, markedAt, marksTest, traceTest}
-use Rattle.periods.proofs.Traces.{length-periodsOf, marks-passed, marks-pass}
+use Rattle.periods.specs.Traces.{periodRecords, periodsOf, markedAt, traceTest}
+use Rattle.periods.proofs.Traces.{length-periodsOf, marks-pass}
 use Rattle.periods.proofs.First.{first-count, first-length, first-marked, first-periods, first-long}
 use Rattle.layout.specs.Images.{rowCount, imageOf}
 use Rattle.states.specs.States.{stateOf, freshBytes}
@@ -18,24 +17,13 @@ use Rattle.machine.specs.Machine.{undecided, afterPeriods}
 use Rattle.machine.specs.Premises.{Ready}
 use Rattle.machine.proofs.Steps.{later-read}
 use Rattle.runner.specs.Reading.{stateAfterRecords, recordsRead}
-use Rattle.runner.specs.Refusals.{readyTest, runTest, unreadTest, decideTest}
+use Rattle.runner.specs.Refusals.{readyTest, runTest, decideTest}
 use Rattle.runner.specs.Calls.{stepReplyBytes, decideReplyBytes, run, decide}
 use Rattle.runner.specs.Stopping.{readFirst, SameAsRun, StartsAs}
-use Rattle.runner.proofs.Refusals.{unread-passed, unread-passes}
+use Rattle.runner.proofs.Refusals.{unread-passed, unread-passes, unread-ready, decide-unread, decide-marks}
 use Rattle.runner.proofs.Reading.{few-read, undecided-before, read-exactly}
-use Rattle.runner.proofs.Loop.{fresh-ready}
 
 -- ---- run over the records read
-
--- what passed tests show
-module _ (image trace : List ℕ) (t : decideTest image trace ≡ Passed) where
-  unread : unreadTest image trace ≡ Passed
-  unfolding decideTest
-  unread = first-passed (unreadTest image trace) (marksTest trace (recordsRead image trace)) t .0
-
-  read-marked : (i : ℕ) → i < recordsRead image trace → markedAt trace i ≡ true
-  unfolding decideTest
-  read-marked = marks-passed trace (recordsRead image trace) (first-passed (unreadTest image trace) (marksTest trace (recordsRead image trace)) t .1)
 
 module _ (image trace area reply : List ℕ) (t : decideTest image trace ≡ Passed) (a : decideReplyBytes ≤ length area) (b : stepReplyBytes ≤ length reply) where
   abbrev read : ℕ
@@ -51,10 +39,10 @@ module _ (image trace area reply : List ℕ) (t : decideTest image trace ≡ Pas
   as-many = first-count trace read (few-read image trace)
 
   front-marked : (i : ℕ) → i < read → markedAt front i ≡ true
-  front-marked i l = first-marked trace read (few-read image trace) i l ∙ read-marked image trace t i l
+  front-marked i l = first-marked trace read (few-read image trace) i l ∙ decide-marks image trace t i l
 
   ready : Ready image fresh (periodRecords trace)
-  ready = fresh-ready image trace (unread image trace t)
+  ready = unread-ready image trace (decide-unread image trace t)
 
   run-accepted : runTest image fresh front ≡ Passed
   unfolding runTest readyTest traceTest
@@ -105,9 +93,9 @@ module _ (image t u area : List ℕ) (p : decideTest image t ≡ Passed) (d : un
   accepted : decideTest image u ≡ Passed
   unfolding decideTest
   accepted =
-      rw (unread-passes image u (unread-passed image t (unread image t p) .0) (s .whole) (s .few), same-read)
-      (marks-pass u last (λ i l. same-marks i l ∙ read-marked image t p i l))
+      rw (unread-passes image u (unread-passed image t (decide-unread image t p) .0) (s .whole) (s .few), same-read)
+      (marks-pass u last (λ i l. same-marks i l ∙ decide-marks image t p i l))
 
-  pub goes-on-alike : decide image u area ≡ decide image t area
+  pub same-whatever-follows : decide image u area ≡ decide image t area
   unfolding decide
-  goes-on-alike = rw (accepted, p, same-read, same-states last (omega arith))
+  same-whatever-follows = rw (accepted, p, same-read, same-states last (omega arith))

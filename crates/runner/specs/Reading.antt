@@ -11,6 +11,6 @@ use Rattle.machine.specs.Machine.{undecided, afterPeriods}
 unfoldable pub stateAfterRecords : (image trace : List ℕ) → (k : ℕ) → State
 stateAfterRecords image trace k = afterPeriods (imageOf image) (stateOf (freshBytes (rowCount image))) (periodsOf trace k)
 
--- "the number of period records it read": as few as decide, or all of them
+-- "the number of period records it read": the fewest that decide, or all of them
 unfoldable pub recordsRead : (image trace : List ℕ) → ℕ
 recordsRead image trace = firstFailing (λ (k : ℕ). undecided (stateAfterRecords image trace k)) 0 (periodRecords trace)

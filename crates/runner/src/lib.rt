@@ -1,4 +1,5 @@
-// The runner: begins a state for an image, and takes periods. Document 01, "Calls"; document 02, "Stop reading once it is decided".
+// The runner: begins a state for an image, takes periods, and reads a trace to its decision. Document 01, "Calls"; document 02, "Stop
+// reading once it is decided".
 ghost use mathlib.Core.Path.{_≡_};
 ghost use Prim.Native.Nat.{_≤_};
 ghost use lib.ListN.{length, replicate};
@@ -131,7 +132,7 @@ fn put_decide_reply(reply: &mut [u8], t: Test, outcome: u32, blame: u32, decisio
     records::put4(reply, STEP_REPLY_BYTES + 4, 0);
 }
 
-// Outcome, blame and decision period of a state that has read so many records.
+// Outcome, blame and decision period of the state that so many records leave.
 fn put_outcome(reply: &mut [u8], state: &[u8], read: u32)
     requires { ⌜ (decideReplyBytes ≤ length (now reply)) × (headBytes ≤ length (now state)) ⌝ }
     ensures { λ _. ⌜ now (reply .exit) ≡ sets (now (reply .entry)) 0 (replyOf Passed (answerAfter (stateOf (now (state .entry))) read)) ⌝ }

@@ -24,4 +24,5 @@ state-vectors =
       verdicts = refl;
       one-left = refl;
       none-left = refl;
+      most-records = refl;
     }

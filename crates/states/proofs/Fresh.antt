@@ -1,16 +1,18 @@
--- The state of no periods: its bytes are zeros, and it is sound.
+-- The state of no periods: its bytes are zeros, it is sound, and so they pass the test.
 use Prim.Native.Nat.{ℕ, zero, suc, _≤_}
 use native.Mathlib.Omega.{arith}
 use mathlib.Core.Bool.{true}
 use mathlib.Core.List.{List, _∷_}
 use mathlib.Core.Path.{_≡_, refl, sym, ap}
+use Rattle.records.specs.declared.Test.the-variants.{Passed}
 use lib.ListN.{take, replicate, length-replicate, replicate-append-replicate}
 use Rattle.records.specs.Fields.{bytes}
 use Rattle.states.specs.Limits.{headBytes}
 use Rattle.states.specs.States.{State, stateOf, stateBytes, freshBytes, allAtMost}
+use Rattle.states.specs.Refusals.{stateTest}
 use Rattle.states.specs.Premises.{undecided}
 use Rattle.states.proofs.Soundness.{Sound}
-use Rattle.states.proofs.States.{read-back}
+use Rattle.states.proofs.States.{read-back, sound-passes}
 
 -- the state of no periods for an image of n rows
 abbrev pub freshState : ℕ → State
@@ -30,6 +32,9 @@ fresh-sound n = record { long = length-replicate n 0; head = undecided; values-s
 
 pub fresh-read : (n : ℕ) → stateOf (freshBytes n) ≡ freshState n
 fresh-read n = rw (fresh-bytes n) (read-back n (freshState n) (fresh-sound n) (omega arith))
+
+pub fresh-passes : (n : ℕ) → stateTest n (freshBytes n) ≡ Passed
+fresh-passes n = rw (fresh-bytes n) (sound-passes n (freshState n) (fresh-sound n) (omega arith))
 
 -- the first n of m zeros
 pub zeros-part : (m n : ℕ) → n ≤ m → take {A = ℕ} n (replicate m 0) ≡ replicate n 0

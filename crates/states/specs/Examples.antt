@@ -65,3 +65,5 @@ pub record StateVectors : Type 0 where
   -- "periods taken would pass 4,294,967,295; first record too many": one before it, and at it
   pub one-left : ofCounts (taken 254 255 255 255) (0 ∷ 1 ∷ 2 ∷ 3 ∷ []) ≡ (0, 0) ∷ (0, 0) ∷ (12, 1) ∷ (12, 1) ∷ []
   pub none-left : ofCounts (taken 255 255 255 255) (0 ∷ 1 ∷ 2 ∷ []) ≡ (0, 0) ∷ (12, 0) ∷ (12, 0) ∷ []
+  -- as many records as a fresh state can take, and one more
+  pub most-records : map (λ (n : ℕ). numberAndPlace (countTest 0 n)) (4294967295 ∷ 4294967296 ∷ []) ≡ (0, 0) ∷ (12, 4294967295) ∷ []

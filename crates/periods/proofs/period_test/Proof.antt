@@ -26,7 +26,8 @@ marks-test-requires c κs = search needs
 returns-2 : tie.Need-returns-2
 unfolding periodTest
 returns-2 c =
-    let one : eqb (length (c .before .before .before .before .before .args .period .now)) (periodBytes (formOf (c .before .before .before .before .before .args .period .now))) ≡ true =
+    let period = c .before .before .before .before .before .args .period .now in
+    let one : eqb (length period) (periodBytes (formOf period)) ≡ true =
     rw (← c .before .before .before .form-of .ensures, ← c .before .before .period-bytes .ensures) (eq-eqb _ _ (c .before .if1 .left)) in
     rw one (c .marks-test .ensures)
 

@@ -39,9 +39,10 @@ returns-2 : tie.Need-returns-2
 unfolding decide decideTest
 returns-2 c =
     let b = c .before .before .before .before .before .before in
+    let a = b .before .before .before .before .before .args in
     let told = c .before .before .before .before .enum-told2 .given .1 in
     let t = b .unread-test .result in
-    let u = refused-first t _ (marksTest (b .before .before .before .before .before .args .trace .now) (recordsRead (b .before .before .before .before .before .args .image .now) (b .before .before .before .before .before .args .trace .now))) (b .unread-test .ensures) told in
+    let u = refused-first t _ (marksTest (a .trace .now) (recordsRead (a .image .now) (a .trace .now))) (b .unread-test .ensures) told in
     rw (← u) (gives-refused t _ _ _ _ (b .before .if1 .left) (is-refused told) _ (c .before .before .put-decide-reply .ensures))
 
 -- the tests before reading are passed

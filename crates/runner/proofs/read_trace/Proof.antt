@@ -12,8 +12,8 @@ use Rattle.layout.specs.Images.{rowCount}
 use Rattle.states.specs.Limits.{headBytes}
 use Rattle.states.specs.States.{freshBytes}
 use Rattle.machine.specs.Premises.{TakesWhile}
-use Rattle.runner.proofs.Refusals.{unread-passed}
-use Rattle.runner.proofs.Loop.{fresh-ready, stops-within, left-long, replies-refused, replies-read}
+use Rattle.runner.proofs.Refusals.{unread-passed, unread-ready}
+use Rattle.runner.proofs.Loop.{stops-within, left-long, replies-refused, replies-read}
 use Rattle.runner.proofs.read_trace.Statement.{statement}
 use Rattle.runner.proofs.read_trace.Tie as tie
 
@@ -24,7 +24,7 @@ take-while-undecided-requires : tie.Need-take-while-undecided-requires
 take-while-undecided-requires c κs =
     let s = c .before .before .before .before .before .before in
     let a = s .args in
-    rw (c .before .period-records .ensures, s .pre .1 .0) (fresh-ready (a .image .now) (a .trace .now) (s .pre .0), le-refl _)
+    rw (c .before .period-records .ensures, s .pre .1 .0) (unread-ready (a .image .now) (a .trace .now) (s .pre .0), le-refl _)
 
 -- what the loop leaves of the fresh state
 took : (c : tie.After-take-while-undecided)
