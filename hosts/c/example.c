@@ -1,6 +1,8 @@
-/* An example host in C: compiles a contract between a plugin and its host, and steps it over four periods. */
+/* An example host in C: compiles a contract between a plugin and its host, and steps it over four periods; then it decides */
+/* these periods as a stored trace. */
 /* "C" in docs/HOSTS.md has the command that builds and runs it. */
 #include <stdio.h>
+#include <string.h>
 
 #include "monitor.h"
 
@@ -28,6 +30,10 @@ static const struct { uint16_t plugin, host; } attempts[] = {
     {1 << CORRECTION, 0},
     {1 << VALUES, 1 << VALUES},
 };
+enum { PERIODS = sizeof attempts / sizeof attempts[0] };
+
+/* Their period records, as the host stores them. */
+static uint8_t trace[PERIODS * MONITOR_PERIOD_BYTES];
 
 /* Compile wants a buffer of MONITOR_BUFFER_BYTES; the contract has no deadline, so there are no windows to add up. The image */
 /* is the beginning of the buffer, and how many rows it has follows from the contract, so the state has room for the most. */
@@ -50,6 +56,20 @@ static int refused(const char *call, uint32_t number, uint64_t place)
     return 1;
 }
 
+/* A stored trace needs no state: decide reads it up to the period that decides. */
+static int decide_trace(size_t image_length)
+{
+    struct monitor_decide_reply decided;
+
+    monitor_decide(image, image_length, trace, sizeof trace, (uint8_t *)&decided, sizeof decided);
+    if (decided.number != MONITOR_ACCEPTED)
+        return refused("decide", decided.number, decided.place);
+    if (decided.outcome == MONITOR_OUTCOME_VIOLATED)
+        printf("broken by %u in period %u, ", (unsigned)decided.blame, (unsigned)decided.decision);
+    printf("%u of %u records read\n", (unsigned)decided.records, (unsigned)PERIODS);
+    return 0;
+}
+
 int main(void)
 {
     /* A call's result is 0 only where its reply area is too short, and a whole struct never is. */
@@ -69,15 +89,16 @@ int main(void)
     if (begun.number != MONITOR_ACCEPTED)
         return refused("begin", begun.number, begun.place);
 
-    for (size_t k = 0; k < sizeof attempts / sizeof attempts[0]; k++) {
+    for (size_t k = 0; k < PERIODS; k++) {
         const uint8_t period[MONITOR_PERIOD_BYTES] = {MONITOR_PERIOD(attempts[k].plugin, attempts[k].host)};
         monitor_step(image, image_length, state, state_length, period, sizeof period, (uint8_t *)&reply, sizeof reply);
         if (reply.number != MONITOR_ACCEPTED)
             return refused("step", reply.number, reply.place);
         /* The blame is a party, MONITOR_PARTY_NONE or MONITOR_PARTY_BOTH. */
         printf("%u %s %u\n", (unsigned)(k + 1), verdicts[reply.verdict], (unsigned)reply.blame);
+        memcpy(trace + k * sizeof period, period, sizeof period);
     }
 
     printf("decided %u\n", (unsigned)reply.decision);
-    return 0;
+    return decide_trace(image_length);
 }

@@ -1,7 +1,8 @@
 //! A host that runs one plugin in several spreadsheets, all under one contract.
 //!
 //! For each recalculation it steps the sheet's monitor with what the plugin tried and what the
-//! host itself tried. It prints a line per period, as `watch` does: number, verdict, blame.
+//! host itself tried. It prints a line per period, as `watch` does: number, verdict, blame. Of a
+//! stored trace it asks only what decides it.
 
 use std::num::NonZeroU32;
 
@@ -95,6 +96,21 @@ fn main() -> Result<(), Refusal> {
             (&[VALUES, OTHER_SHEET], &[VALUES, OTHER_SHEET]),
         ],
     )?;
+
+    // A stored trace needs no monitor: the image decides it, and reads no further than it must.
+    let stored = [
+        Period::from_actions(&[VALUES, MEMORY], &[VALUES]),
+        Period::from_actions(&[VALUES], &[VALUES]),
+        Period::default(),
+    ];
+    let decided = image.decide(&stored)?;
+    let (blame, read) = (decided.blame.map_or(0, Blame::number), decided.records);
+    println!("stored trace: memory is asked for and not given, values, nothing");
+    println!(
+        "{} {blame}, {read} of {} records read",
+        decided.outcome,
+        stored.len()
+    );
 
     // Records by hand, operands before their operator. Repeat wants a clause, but succeeds is an
     // expression.
