@@ -357,7 +357,7 @@ impl Calls {
     }
 
     /// "On a fresh state, run over just the records read leaves the same outcome, blame and
-    /// decision."
+    /// decision." That it takes all of them shows that it is accepted.
     fn same_as_run(&self, call: &str, trace: &[u8], reply: &[u8]) -> Result<(), Difference> {
         let image = self.image.product();
         let read = four_bytes(reply, 24) as usize;
@@ -365,9 +365,10 @@ impl Calls {
         let mut state = vec![0xff; HEAD_BYTES + rows_of(image)];
         product::begin(image, &mut state, &mut [0; SHORT_REPLY]);
         product::run(image, &mut state, read, &mut [0; LONG_REPLY]);
-        let ran = [state[0].into(), state[1].into(), four_bytes(&state, 6)];
-        let decided = [4, 16, 20].map(|at| four_bytes(reply, at));
-        let what = "outcome, blame and decision of a run over the records read";
+        let (taken, decision) = (four_bytes(&state, 2), four_bytes(&state, 6));
+        let ran = [state[0].into(), state[1].into(), decision, taken];
+        let decided = [4, 16, 20, 24].map(|at| four_bytes(reply, at));
+        let what = "outcome, blame, decision and periods taken of a run over the records read";
         Difference::unless_same(call, what, &ran, &decided)
             .map_err(|difference| difference.between(&["run", "decide"]))
     }
