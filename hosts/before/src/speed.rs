@@ -12,8 +12,9 @@ pub fn measure(plan: &Plan, sides: &Sides) {
     plan.say(&plan.method());
     plan.say(
         "The ratio is that of now to before. Each archive is linked four times, its code 16 bytes further\n\
-         on each time, and the fastest place counts. Nanoseconds are those of a row visit in run, of a\n\
-         period in step, of a call in compile. What the earlier archive refuses isn't timed.\n",
+         on each time, and the fastest place counts. Nanoseconds are those of a row visit in run and\n\
+         decide, of a period in step, of a call in compile. What the earlier archive refuses isn't timed,\n\
+         nor is a call that it lacks.\n",
     );
     line(plan, ["call", "input", "before", "now", "ratio"]);
     let table = Table { plan, sides };
@@ -26,11 +27,20 @@ pub fn measure(plan: &Plan, sides: &Sides) {
         .iter()
         .filter_map(|input| table.step(input))
         .collect();
+    let decides = run_inputs
+        .iter()
+        .filter_map(|input| table.decide(input))
+        .collect();
     let compiles = lengths_of_families()
         .filter_map(|(family, records)| table.compile(family, records))
         .collect();
     plan.say("");
-    for (call, ratios) in [("run", runs), ("step", steps), ("compile", compiles)] {
+    for (call, ratios) in [
+        ("run", runs),
+        ("step", steps),
+        ("decide", decides),
+        ("compile", compiles),
+    ] {
         plan.say(&summary(call, ratios));
     }
 }
@@ -45,6 +55,9 @@ type Ratios = [f64; 2];
 
 /// The least and the greatest ratios of a call.
 fn summary(call: &str, rows: Vec<Ratios>) -> String {
+    if rows.is_empty() {
+        return format!("{call}: not timed");
+    }
     let [bests, medians] = [0, 1].map(|which| {
         let ratios = || rows.iter().map(|ratios| ratios[which]);
         let least = ratios().fold(f64::INFINITY, f64::min);
@@ -79,16 +92,15 @@ impl Table<'_> {
         now.ratios(before)
     }
 
-    /// A row that says that the earlier archive refuses the input.
-    fn refused(&self, call: &str, input: &str) -> Option<Ratios> {
-        line(self.plan, [call, input, "refused", "", ""]);
+    /// A row that says why the earlier archive isn't timed.
+    fn untimed(&self, call: &str, input: &str, why: &str) -> Option<Ratios> {
+        line(self.plan, [call, input, why, "", ""]);
         None
     }
 
     fn run(&self, input: &Input) -> Option<Ratios> {
         let Input { image, trace, .. } = input;
-        let visits = trace.len() / PERIOD * product::rows_of(image);
-        self.taking("run", input, visits, &|archive, state| {
+        self.taking("run", input, visits(input), &|archive, state| {
             archive.run(image, state, trace, &mut [0; 24]);
         })
     }
@@ -113,15 +125,37 @@ impl Table<'_> {
         let mut end = product::begin(&input.image);
         product::run(&input.image, &mut end, &input.trace);
         let state = RefCell::new(end.clone());
-        let name = format!("{}, {} rows", input.name, product::rows_of(&input.image));
+        let name = name(input);
         if !begins(&self.sides.before.places[0], &input.image) {
-            return self.refused(call, &name);
+            return self.untimed(call, &name, "refused");
         }
         let ratios = self.row(call, &name, parts, &|archive| {
             let mut state = state.borrow_mut();
             state.fill(0);
             let time = nanoseconds(|| take(archive, &mut state));
             assert!(*state == end, "{name}: {call} ends otherwise");
+            time
+        });
+        Some(ratios)
+    }
+
+    fn decide(&self, input: &Input) -> Option<Ratios> {
+        let (Input { image, trace, .. }, name) = (input, name(input));
+        let mut end = [0; 32];
+        Archive::of_hosts().decide(image, trace, &mut end);
+        let before = &self.sides.before.places[0];
+        if before.decide.is_none() {
+            return self.untimed("decide", &name, "lacking");
+        }
+        if !begins(before, image) {
+            return self.untimed("decide", &name, "refused");
+        }
+        let ratios = self.row("decide", &name, visits(input), &|archive| {
+            let mut reply = [0; 32];
+            let time = nanoseconds(|| {
+                archive.decide(image, trace, &mut reply);
+            });
+            assert!(reply == end, "{name}: decide ends otherwise");
             time
         });
         Some(ratios)
@@ -137,7 +171,7 @@ impl Table<'_> {
             _ => format!("{records} records, {}", family.name),
         };
         if !compiles(&self.sides.before.places[0], &contract) {
-            return self.refused("compile", &name);
+            return self.untimed("compile", &name, "refused");
         }
         let calls = calls(self.plan, records);
         let ratios = self.row("compile", &name, calls, &|archive| {
@@ -153,6 +187,15 @@ impl Table<'_> {
         });
         Some(ratios)
     }
+}
+
+fn name(input: &Input) -> String {
+    format!("{}, {} rows", input.name, product::rows_of(&input.image))
+}
+
+/// Every row in every period: no input is decided.
+fn visits(input: &Input) -> usize {
+    input.trace.len() / PERIOD * product::rows_of(&input.image)
 }
 
 /// Whether the archive takes the image: an earlier one may take fewer rows.
@@ -178,7 +221,7 @@ fn line(plan: &Plan, [call, input, before, now, ratio]: [&str; 5]) {
 mod tests {
     use super::*;
     use crate::archive::Copies;
-    use crate::spoiled::{refusing, spoiled, OUTPUT};
+    use crate::spoiled::{refusing, spoiled, OUTPUT, REPLY};
     use std::panic::catch_unwind;
 
     fn sides(before: Archive, now: Archive) -> Sides {
@@ -199,17 +242,24 @@ mod tests {
         measure(&Plan::new(true), &sides(hosts, hosts));
     }
 
+    fn is_timed(archive: Archive) -> bool {
+        let sides = sides(Archive::of_hosts(), archive);
+        catch_unwind(|| measure(&Plan::new(true), &sides)).is_ok()
+    }
+
     #[test]
     fn what_ends_otherwise_is_not_timed() {
         for (archive, call) in spoiled::<OUTPUT>() {
-            let sides = sides(Archive::of_hosts(), archive);
-            let ended = catch_unwind(|| measure(&Plan::new(true), &sides));
-            assert_eq!(ended.is_err(), call != "begin", "{call}");
+            assert_eq!(is_timed(archive), call == "begin", "{call}");
+        }
+        // Of decide the reply is all that it leaves.
+        for (archive, call) in spoiled::<REPLY>() {
+            assert_eq!(is_timed(archive), call != "decide", "{call}");
         }
     }
 
     #[test]
-    fn what_the_earlier_archive_refuses_is_not_timed() {
+    fn what_the_earlier_archive_refuses_or_lacks_is_not_timed() {
         let (plan, hosts) = (&Plan::new(true), Archive::of_hosts());
         let timed = |sides: &Sides| {
             let table = Table { plan, sides };
@@ -218,15 +268,22 @@ mod tests {
                 table.run(input),
                 table.step(input),
                 table.compile(&FAMILIES[0], 8),
+                table.decide(input),
             ]
             .map(|ratios| ratios.is_some())
         };
-        assert_eq!(timed(&sides(hosts, hosts)), [true; 3]);
-        assert_eq!(timed(&sides(refusing(), hosts)), [false; 3]);
+        assert_eq!(timed(&sides(hosts, hosts)), [true; 4]);
+        assert_eq!(timed(&sides(refusing(), hosts)), [false; 4]);
+        let without = Archive {
+            decide: None,
+            ..hosts
+        };
+        assert_eq!(timed(&sides(without, hosts)), [true, true, true, false]);
     }
 
     #[test]
     fn ratios_are_summed_up() {
+        assert_eq!(summary("decide", vec![]), "decide: not timed");
         assert_eq!(
             summary("run", vec![[1.02, 1.0], [0.98, 1.01], [1.0, 0.99]]),
             "run, 3 inputs: ratios of the bests 0.98 to 1.02, medians of the turns 0.99 to 1.01"
