@@ -26,7 +26,7 @@ pub fn measure(plan: &Plan) {
          length, and clears all of it at each call. The ratio is that of `decide` to `run`.\n",
     );
     read_line(plan, ["image", "rows", "decided", "run", "decide", "ratio"]);
-    for input in steps::inputs(plan).iter().chain(&decided_at_once()) {
+    for input in steps::inputs(plan).iter().chain(&one_record_inputs()) {
         measure_read(plan, input);
     }
 }
@@ -61,7 +61,7 @@ fn measure_lengths(plan: &Plan, contract: &Open) {
 }
 
 /// The smallest image, that of a lone duty and one of the most rows, with a record that decides.
-fn decided_at_once() -> [Input; 3] {
+fn one_record_inputs() -> [Input; 3] {
     let random = &mut Random::new();
     let mixed = inputs::mixed_image(random, MAX_ROWS);
     [
