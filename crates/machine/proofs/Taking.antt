@@ -1,13 +1,14 @@
--- A loop that has taken a trace's first k periods, with older values left in second bits.
+-- A loop that has taken a trace's first k periods, with older values left in second bits; and what it leaves at its end.
 use Prim.Native.Nat.{ℕ, _+_, _-_, _≤_, _<_}
 use native.Mathlib.Numerals.{add-one}
 use native.Mathlib.Omega.{arith}
-use mathlib.Core.Bool.{true, false}
+use mathlib.Core.Bool.{Bool, true, false, _&&_, cond}
 use mathlib.Core.List.{List}
 use mathlib.Core.Path.{_≡_, refl, sym, ap, _∙_}
-use borrow.Author.Tests.{eq-eqb, ne-eqb}
+use lib.Dec.{eqb}
 use lib.ListN.{length, getD, drop}
 use Rattle.records.specs.Holding.{AllBytes}
+use Rattle.records.proofs.Searches.{all-pass}
 use Rattle.periods.specs.Traces.{periodAt, markedAt, periodsOf}
 use Rattle.periods.proofs.Traces.{length-periodsOf}
 use Rattle.layout.specs.Images.{rowCount, imageOf}
@@ -16,7 +17,7 @@ use Rattle.states.specs.States.{State, stateOf, stateBytes, allAtMost}
 use Rattle.states.proofs.States.{stateBytes-stateOf}
 use Rattle.machine.specs.Machine.{afterPeriods}
 use Rattle.machine.specs.Computing.{trimmed, Working, Advanced}
-use Rattle.machine.specs.Premises.{Ready, goesOn}
+use Rattle.machine.specs.Premises.{Ready, goesOn, Takes}
 use Rattle.machine.proofs.Machine.{after-snoc}
 use Rattle.machine.proofs.Trimming.{trimmed-plain, plain-small, trimmed-at}
 use Rattle.machine.proofs.Steps.{ready-long, later-read, later-ready}
@@ -69,15 +70,15 @@ module _ (image state trace : List ℕ) (n : ℕ) (h : Ready image state n) wher
     unfolding stateBytes
     took-outcome = sym (trimmed-at l took-head 0 (omega arith)) ∙ ap (λ (b : List ℕ). getD b 0 0) (t .stands)
 
-    -- whether record k is taken
-    pub goes-on : getD l 0 0 ≡ 0 → markedAt trace k ≡ true → goesOn image state trace k ≡ true
+    -- so whether record k is taken can be told from it
+    pub told-outcome : (stops : Bool) → cond stops (eqb (getD l 0 0) 0 && markedAt trace k) true ≡ goesOn stops image state trace k
     unfolding goesOn
-    goes-on o m = rw (eq-eqb (reached k .outcome) 0 (sym took-outcome ∙ o)) m
+    told-outcome stops = rw took-outcome
 
-    pub stops-unmarked : getD l 0 0 ≡ 0 → markedAt trace k ≡ false → goesOn image state trace k ≡ false
-    unfolding goesOn
-    stops-unmarked o m = rw (eq-eqb (reached k .outcome) 0 (sym took-outcome ∙ o)) m
-
-    pub stops-decided : ¬ (getD l 0 0 ≡ 0) → goesOn image state trace k ≡ false
-    unfolding goesOn
-    stops-decided o = rw (ne-eqb (reached k .outcome) 0 (λ e. o (took-outcome ∙ e)))
+-- where the taking doesn't stop, all are taken
+pub takes-all : (image state trace : List ℕ) (n : ℕ) (later : List ℕ) (r : ℕ) → Takes false image state trace n later r
+    → later ≡ stateBytes (afterPeriods (imageOf image) (stateOf state) (periodsOf trace n))
+unfolding goesOn
+takes-all image state trace n later r t =
+    let e : r ≡ n = t .count ∙ all-pass (goesOn false image state trace) n (λ i l. refl) in
+    rw (← e) (t .leaves)

@@ -1,6 +1,6 @@
 -- What the functions of this crate that others call ask of an image and a state, and what one of them gives.
 use Prim.Native.Nat.{ℕ, _+_, _≤_}
-use mathlib.Core.Bool.{Bool, _&&_}
+use mathlib.Core.Bool.{Bool, true, _&&_, cond}
 use mathlib.Core.List.{List}
 use mathlib.Core.Path.{_≡_}
 use Rattle.records.specs.declared.Test.the-variants.{Passed}
@@ -19,11 +19,12 @@ pub record Ready (image state : List ℕ) (n : ℕ) : Type 0 where
   pub sound : stateTest (rowCount image) state ≡ Passed
   pub room : stateOf state .periods + n ≤ maxPeriods
 
--- a sound state takes record k of a trace after those before it: they leave it undecided, and record k has its mark
-unfoldable pub goesOn : (image state trace : List ℕ) → (k : ℕ) → Bool
-goesOn image state trace k = undecided (afterPeriods (imageOf image) (stateOf state) (periodsOf trace k)) && markedAt trace k
+-- a sound state takes record k of a trace after those before it: always or, where the taking stops, if they leave it undecided and record k has
+-- its mark
+unfoldable pub goesOn : (stops : Bool) (image state trace : List ℕ) → (k : ℕ) → Bool
+goesOn stops image state trace k = cond stops (undecided (afterPeriods (imageOf image) (stateOf state) (periodsOf trace k)) && markedAt trace k) true
 
 -- of n records the first r are taken, up to the first that is not to be
-pub record TakesWhile (image state trace : List ℕ) (n : ℕ) (later : List ℕ) (r : ℕ) : Type 0 where
-  pub count : r ≡ firstFailing (goesOn image state trace) 0 n
+pub record Takes (stops : Bool) (image state trace : List ℕ) (n : ℕ) (later : List ℕ) (r : ℕ) : Type 0 where
+  pub count : r ≡ firstFailing (goesOn stops image state trace) 0 n
   pub leaves : later ≡ stateBytes (afterPeriods (imageOf image) (stateOf state) (periodsOf trace r))

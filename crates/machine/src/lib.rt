@@ -1,17 +1,18 @@
 // The row machine: the periods that a state takes. Document 01, "Image and row machine".
 ghost use mathlib.Core.Path.{_≡_};
-ghost use mathlib.Core.Bool.{true, false};
+ghost use mathlib.Core.Bool.{true, false, _&&_, cond};
 ghost use mathlib.Core.Option.{Option·getD};
 ghost use Prim.Native.Nat.{_*_, _<_, _≤_};
+ghost use lib.Dec.{eqb};
 ghost use lib.ListN.{length, getD};
 ghost use Rattle.periods.specs.Computing.{periodOf};
-ghost use Rattle.periods.specs.Traces.{periodRecords, periodsOf};
+ghost use Rattle.periods.specs.Traces.{periodRecords, periodsOf, markedAt};
 ghost use Rattle.layout.specs.Rows.{never, rowOf};
 ghost use Rattle.layout.specs.Images.{imageOf};
 ghost use Rattle.states.specs.Limits.{headBytes};
 ghost use Rattle.states.specs.States.{stateOf, stateBytes, allAtMost};
 ghost use Rattle.machine.specs.Machine.{byteOf, value, outcomeOf, blameOf, afterPeriods};
-ghost use Rattle.machine.specs.Premises.{Ready, TakesWhile};
+ghost use Rattle.machine.specs.Premises.{Ready, Takes};
 ghost use Rattle.machine.specs.Computing.{firstBits, valuesIn, trimmed, packed, oldIn, newBits, KindRow, NextRow, RowValues, HasRows, withDecision, decidedBytes, Working, Advanced};
 use periods::Attempts;
 
@@ -148,30 +149,48 @@ fn advance(image: &[u8], state: &mut [u8], a: Attempts)
     }
 }
 
+// Whether record k of a trace is the next to be taken: always or, where the taking stops, as long as the state is undecided and the record
+// has its mark.
+fn goes_on(state: &[u8], trace: &[u8], k: usize, stops: bool) -> bool
+    requires { ⌜ (headBytes ≤ length (now state)) × (k < periodRecords (now trace)) ⌝ }
+    ensures { λ r. ⌜ r ≡ cond stops (eqb (getD (now (state .entry)) 0 0) 0 && markedAt (now (trace .entry)) k) true ⌝ }
+{
+    if !stops {
+        return true;
+    }
+    if state[0] != 0 {
+        return false;
+    }
+    periods::is_marked(trace, k)
+}
+
+// The periods of a trace's first n records, one after the other, as far as they are to be taken. Gives how many were.
+fn take_records(image: &[u8], state: &mut [u8], trace: &[u8], n: usize, stops: bool) -> usize
+    requires { ⌜ Ready (now image) (now state) n × (n ≤ periodRecords (now trace)) ⌝ }
+    ensures { λ r. ⌜ Takes stops (now (image .entry)) (now (state .entry)) (now (trace .entry)) n (now (state .exit)) r ⌝ }
+{
+    let mut k = 0;
+    while k < n && goes_on(state, trace, k, stops) {
+        advance(image, state, periods::read_period(trace, k));
+        k += 1;
+    }
+    trim(state);
+    k
+}
+
 // The periods of a trace's first n records.
 pub fn take_periods(image: &[u8], state: &mut [u8], trace: &[u8], n: usize)
     requires { ⌜ Ready (now image) (now state) n × (n ≤ periodRecords (now trace)) ⌝ }
     ensures { λ _. ⌜ now (state .exit) ≡ stateBytes (afterPeriods (imageOf (now (image .entry))) (stateOf (now (state .entry))) (periodsOf (now (trace .entry)) n)) ⌝ }
 {
-    let mut k = 0;
-    while k < n {
-        advance(image, state, periods::read_period(trace, k));
-        k += 1;
-    }
-    trim(state);
+    take_records(image, state, trace, n, false);
 }
 
 // The periods of a trace's records, one after the other, as long as the state is undecided and the next of the first n records has
 // its mark. Gives how many were taken.
 pub fn take_while_undecided(image: &[u8], state: &mut [u8], trace: &[u8], n: usize) -> usize
     requires { ⌜ Ready (now image) (now state) n × (n ≤ periodRecords (now trace)) ⌝ }
-    ensures { λ r. ⌜ TakesWhile (now (image .entry)) (now (state .entry)) (now (trace .entry)) n (now (state .exit)) r ⌝ }
+    ensures { λ r. ⌜ Takes true (now (image .entry)) (now (state .entry)) (now (trace .entry)) n (now (state .exit)) r ⌝ }
 {
-    let mut k = 0;
-    while k < n && state[0] == 0 && periods::is_marked(trace, k) {
-        advance(image, state, periods::read_period(trace, k));
-        k += 1;
-    }
-    trim(state);
-    k
+    take_records(image, state, trace, n, true)
 }

@@ -24,7 +24,7 @@ use Rattle.periods.proofs.Traces.{length-periodsOf, marks-pass}
 use Rattle.layout.specs.Images.{rowCount}
 use Rattle.states.specs.Limits.{headBytes}
 use Rattle.states.specs.States.{State, stateOf, freshBytes}
-use Rattle.machine.specs.Premises.{Ready, goesOn, TakesWhile}
+use Rattle.machine.specs.Premises.{Ready, goesOn, Takes}
 use Rattle.machine.proofs.Steps.{later-read, later-answering}
 use Rattle.runner.specs.Reading.{stateAfterRecords, recordsRead}
 use Rattle.runner.specs.Refusals.{unreadTest, decideTest}
@@ -42,16 +42,16 @@ module _ (image trace : List ℕ) (u : unreadTest image trace ≡ Passed) where
   ready : Ready image fresh total
   ready = unread-ready image trace u
 
-  module _ (r : ℕ) (later : List ℕ) (t : TakesWhile image fresh trace total later r) where
+  module _ (r : ℕ) (later : List ℕ) (t : Takes true image fresh trace total later r) where
     abbrev taken : List Period
     taken = periodsOf trace r
 
     pub stops-within : r ≤ total
-    stops-within = rw (t .count) (rw zero-add at (failing-max (goesOn image fresh trace) 0 total))
+    stops-within = rw (t .count) (rw zero-add at (failing-max (goesOn true image fresh trace) 0 total))
 
     went-on : (i : ℕ) → i < r → (undecidedAfter image trace i ≡ true) × (markedAt trace i ≡ true)
     unfolding goesOn stateAfterRecords
-    went-on i l = and-eq-true-iff (undecidedAfter image trace i) (markedAt trace i) .0 (failing-below (goesOn image fresh trace) 0 total i (omega arith) (rw (t .count) at l))
+    went-on i l = and-eq-true-iff (undecidedAfter image trace i) (markedAt trace i) .0 (failing-below (goesOn true image fresh trace) 0 total i (omega arith) (rw (t .count) at l))
 
     -- at the end, or decided: so many are read, and all have the mark
     pub stops-read : ¬ ((r < total) × (undecidedAfter image trace r ≡ true)) → (recordsRead image trace ≡ r) × (decideTest image trace ≡ Passed)
@@ -65,9 +65,9 @@ module _ (image trace : List ℕ) (u : unreadTest image trace ≡ Passed) where
     bad-next : r < total → undecidedAfter image trace r ≡ true → markedAt trace r ≡ false
     unfolding goesOn stateAfterRecords
     bad-next l o =
-        let f = firstFailing (goesOn image fresh trace) 0 total in
+        let f = firstFailing (goesOn true image fresh trace) 0 total in
         let below : f < 0 + total = omega (arith, t .count) in
-        rw o at (rw (← t .count) at (failing-fails (goesOn image fresh trace) 0 total below))
+        rw o at (rw (← t .count) at (failing-fails (goesOn true image fresh trace) 0 total below))
 
     few-taken : length taken ≤ total
     few-taken = rw (length-periodsOf trace r) stops-within

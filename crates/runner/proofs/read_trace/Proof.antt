@@ -2,6 +2,7 @@
 use borrow.Author.Needs.{needs}
 use native.Mathlib.Nat.{le-refl}
 use native.Mathlib.Omega.{arith}
+use mathlib.Core.Bool.{true}
 use mathlib.Core.Logic.{⊎-elim}
 use mathlib.Core.Path.{_∙_}
 use borrow.Author.Tests.{eqb-false}
@@ -11,7 +12,7 @@ use Rattle.periods.specs.Traces.{periodRecords}
 use Rattle.layout.specs.Images.{rowCount}
 use Rattle.states.specs.Limits.{headBytes}
 use Rattle.states.specs.States.{freshBytes}
-use Rattle.machine.specs.Premises.{TakesWhile}
+use Rattle.machine.specs.Premises.{Takes}
 use Rattle.runner.proofs.Refusals.{unread-passed, unread-ready}
 use Rattle.runner.proofs.Loop.{stops-within, left-long, replies-refused, replies-read}
 use Rattle.runner.proofs.read_trace.Statement.{statement}
@@ -29,7 +30,7 @@ take-while-undecided-requires c κs =
 -- what the loop leaves of the fresh state
 took : (c : tie.After-take-while-undecided)
     → let a = c .before .before .before .before .before .before .before .args in
-    TakesWhile (a .image .now) (freshBytes (rowCount (a .image .now))) (a .trace .now) (periodRecords (a .trace .now)) (c .take-while-undecided .last .1 .0) (c .take-while-undecided .result)
+    Takes true (a .image .now) (freshBytes (rowCount (a .image .now))) (a .trace .now) (periodRecords (a .trace .now)) (c .take-while-undecided .last .1 .0) (c .take-while-undecided .result)
 took c =
     rw (← c .before .before .before .before .before .before .before .pre .1 .0, ← c .before .before .period-records .ensures) (c .take-while-undecided .ensures)
 

@@ -1,25 +1,25 @@
--- `machine::take_while_undecided` meets its contract: after k turns the state stands for what the first k periods leave, and each of the
--- first k records was to be taken.
+-- `machine::take_records` meets its contract: after k turns the state stands for what the first k periods leave, and each of the first k
+-- records was to be taken.
 use Prim.Native.Nat.{_-_, _≤_}
 use native.Mathlib.Omega.{arith}
 use native.Mathlib.Nat.{sub-zero}
 use mathlib.Core.Logic.{⊎-elim}
 use mathlib.Core.Path.{_≡_, sym, _∙_}
-use borrow.Author.Tests.{eqb-true, eqb-false}
 use Rattle.records.specs.Holding.{AllBytes}
 use Rattle.records.specs.Refusals.{firstFailing}
 use Rattle.records.proofs.Searches.{failing-next, failing-here, failing-end}
 use Rattle.machine.specs.Premises.{goesOn}
-use Rattle.machine.proofs.Taking.{Took, took-none, took-head, took-working, took-next, goes-on, stops-unmarked, stops-decided}
-use Rattle.machine.proofs.take_while_undecided.Statement.{statement}
-use Rattle.machine.proofs.take_while_undecided.Tie as tie
+use Rattle.machine.proofs.Taking.{Took, took-none, took-head, took-working, took-next, told-outcome}
+use Rattle.machine.proofs.take_records.Statement.{statement}
+use Rattle.machine.proofs.take_records.Tie as tie
 
 abbrev Inv-loop : tie.InvT-loop
-Inv-loop image state₀ trace n k₀ state k =
-    (k ≤ n) × Took image state₀ trace k state × (firstFailing (goesOn image state₀ trace) 0 n ≡ firstFailing (goesOn image state₀ trace) k (n - k))
+Inv-loop image state₀ trace n stops k₀ state k =
+    (k ≤ n) × Took image state₀ trace k state
+    × (firstFailing (goesOn stops image state₀ trace) 0 n ≡ firstFailing (goesOn stops image state₀ trace) k (n - k))
 
 abbrev μ-loop : tie.MeasureT-loop
-μ-loop image state₀ trace n k₀ state k = n - k
+μ-loop image state₀ trace n stops k₀ state k = n - k
 
 loop-holds : tie.Need-loop-holds Inv-loop μ-loop
 loop-holds c =
@@ -27,23 +27,19 @@ loop-holds c =
     let bytes : AllBytes (a .state .now) = record { below = λ i. c .before .slice-known .given i .fits } in
     (omega arith, took-none (a .image .now) (a .state .now) (a .trace .now) (a .n) (c .before .before .before .pre .0) bytes, rw sub-zero)
 
-slice-read-if1 : tie.Need-slice-read-if1 Inv-loop μ-loop
-slice-read-if1 c =
-    let p = c .before .before in
-    let s = p .before .before .before .before in
+goes-on-requires : tie.Need-goes-on-requires Inv-loop μ-loop
+goes-on-requires c κs =
+    let l = c .before .before .loop in
+    let s = c .before .before .before .before .before .before in
     let a = s .args in
-    let l = p .loop in
-    omega (arith, took-head (a .image .now) (a .state .now) (a .trace .now) (a .n) (s .pre .0) (l .k) _ (l .inv .1))
-
-is-marked-requires : tie.Need-is-marked-requires Inv-loop μ-loop
-is-marked-requires c κs = omega (arith, c .before .before .before .before .before .before .before .pre .1)
+    (took-head (a .image .now) (a .state .now) (a .trace .now) (a .n) (s .pre .0) (l .k) _ (l .inv .1), omega (arith, s .pre .1))
 
 read-period-requires : tie.Need-read-period-requires Inv-loop μ-loop
-read-period-requires c κs = omega (arith, c .before .before .before .before .before .before .before .before .before .before .pre .1)
+read-period-requires c κs = omega (arith, c .before .before .before .before .before .before .before .before .before .pre .1)
 
 advance-requires : tie.Need-advance-requires Inv-loop μ-loop
 advance-requires c κs =
-    let p = c .before .before .before .before .before .before .before in
+    let p = c .before .before .before .before .before .before in
     let s = p .before .before .before .before in
     let a = s .args in
     let l = p .loop in
@@ -57,16 +53,16 @@ loop-less c = omega arith
 
 loop-again : tie.Need-loop-again Inv-loop μ-loop
 loop-again c =
-    let p = c .before .before .before .before .before .before .before .before .before .before in
+    let m = c .before .before .before .before .before in
+    let p = m .before .before .before .before in
     let s = p .before .before .before .before in
     let a = s .args in
     let l = p .loop in
     let t = c .before .before .advance in
-    let m = c .before .before .before .before .before in
-    let g = goes-on (a .image .now) (a .state .now) (a .trace .now) (a .n) (s .pre .0) (l .k) _ (l .inv .1) (eqb-true _ _ (m .before .before .if1 .taken)) (sym (m .before .is-marked .ensures) ∙ m .if2 .taken) in (
+    let g = sym (told-outcome (a .image .now) (a .state .now) (a .trace .now) (a .n) (s .pre .0) (l .k) _ (l .inv .1) (a .stops)) ∙ sym (m .before .goes-on .ensures) ∙ m .if1 .taken in (
       omega arith,
       took-next (a .image .now) (a .state .now) (a .trace .now) (a .n) (s .pre .0) (l .k) _ (l .inv .1) (omega arith) _ (t .kept .1 .0) (rw (← c .before .before .before .read-period .ensures .is) (t .ensures)),
-      l .inv .2 ∙ failing-next (goesOn (a .image .now) (a .state .now) (a .trace .now)) (l .k) (a .n) (omega arith) g,
+      l .inv .2 ∙ failing-next (goesOn (a .stops) (a .image .now) (a .state .now) (a .trace .now)) (l .k) (a .n) (omega arith) g,
     )
 
 trim-requires : tie.Need-trim-requires Inv-loop μ-loop
@@ -86,28 +82,25 @@ returns c =
     let s = p .before .before .before .before in
     let a = s .args in
     let l = p .loop in
-    let g = goesOn (a .image .now) (a .state .now) (a .trace .now) in
+    let g = goesOn (a .stops) (a .image .now) (a .state .now) (a .trace .now) in
     record {
       count = sym (l .inv .2
           ∙ ⊎-elim
           (λ w. failing-here g (l .k) (a .n) (w .0 .taken)
-          (stops-unmarked (a .image .now) (a .state .now) (a .trace .now) (a .n) (s .pre .0) (l .k) _ (l .inv .1) (eqb-true _ _ (w .2 .taken)) (sym (w .3 .ensures) ∙ w .4 .left)))
-          (⊎-elim
-          (λ w. failing-here g (l .k) (a .n) (w .0 .taken) (stops-decided (a .image .now) (a .state .now) (a .trace .now) (a .n) (s .pre .0) (l .k) _ (l .inv .1) (eqb-false _ _ (w .2 .left))))
-          (λ w. failing-end g (l .k) (a .n) (w .left)))
+          (sym (told-outcome (a .image .now) (a .state .now) (a .trace .now) (a .n) (s .pre .0) (l .k) _ (l .inv .1) (a .stops)) ∙ sym (w .2 .ensures) ∙ w .3 .left))
+          (λ w. failing-end g (l .k) (a .n) (w .left))
           (c .before .before .before .before .loop-test .came));
       leaves = c .before .before .trim .ensures ∙ l .inv .1 .stands;
     }
 
-pub take-while-undecided-spec : {M : Type 1} → statement M
-take-while-undecided-spec =
+pub take-records-spec : {M : Type 1} → statement M
+take-records-spec =
     tie.close
     (tie.spec
     Inv-loop
     μ-loop
     loop-holds
-    slice-read-if1
-    is-marked-requires
+    goes-on-requires
     read-period-requires
     advance-requires
     add-k
