@@ -55,8 +55,8 @@ returns : tie.Need-returns
 returns c =
     let x = c .before .before .before .before .before .before .before .before .before in
     let s = x .before .before .before .before .before .before .before in
-    c .before .before .put-decide-reply .ensures
-    ∙ replies-refused (s .args .image .now) (s .args .trace .now) (s .pre .0) (x .take-while-undecided .result) _ (took x) (s .args .reply .now) (s .pre .1 .1) (let e = x .before .before .period-records .ensures in omega arith) (c .before .before .before .before .if2 .taken)
+    rw (c .before .before .put-decide-reply .ensures)
+    (replies-refused (s .args .image .now) (s .args .trace .now) (s .pre .0) (x .take-while-undecided .result) _ (took x) (s .args .reply .now) (s .pre .1 .1) (let e = x .before .before .period-records .ensures in omega arith) (c .before .before .before .before .if2 .taken))
 
 cast-put-outcome : tie.Need-cast-put-outcome
 cast-put-outcome c =
@@ -79,9 +79,9 @@ returns-2 : tie.Need-returns-2
 returns-2 c =
     let x = c .before .before .before .before .before .before .before .before in
     let s = x .before .before .before .before .before .before .before in
-    c .before .before .put-outcome .ensures
-    ∙ replies-read (s .args .image .now) (s .args .trace .now) (s .pre .0) (x .take-while-undecided .result) _ (took x) (s .args .reply .now) (s .pre .1 .1)
-    (λ h. ⊎-elim (λ w. eqb-false _ _ (w .2 .left) (h .1)) (λ w. let e = x .before .before .period-records .ensures in omega (arith, w .left, h .0)) (c .before .before .before .before .before .if1 .came))
+    rw (c .before .before .put-outcome .ensures)
+    (replies-read (s .args .image .now) (s .args .trace .now) (s .pre .0) (x .take-while-undecided .result) _ (took x) (s .args .reply .now) (s .pre .1 .1)
+    (λ h. ⊎-elim (λ w. eqb-false _ _ (w .2 .left) (h .1)) (λ w. let e = x .before .before .period-records .ensures in omega (arith, w .left, h .0)) (c .before .before .before .before .before .if1 .came)))
 
 pub read-trace-spec : {M : Type 1} → statement M
 read-trace-spec =

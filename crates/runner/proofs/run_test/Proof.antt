@@ -1,10 +1,11 @@
 -- `runner::run_test` meets its contract: the image and the state, then the trace, then the count.
 use borrow.Author.Needs.{needs}
 use native.Mathlib.Omega.{arith}
-use mathlib.Core.Path.{_≡_, sym, _∙_}
+use mathlib.Core.Path.{_≡_, sym, ap, _∙_}
 use Rattle.records.specs.declared.Test.the-variants.{Passed}
 use Rattle.records.proofs.Refusals.{refused-first}
 use Rattle.states.specs.States.{stateOf}
+use Rattle.states.specs.Refusals.{countTest}
 use Rattle.runner.specs.Refusals.{readyTest, runTest}
 use Rattle.runner.proofs.Refusals.{ready-head}
 use Rattle.runner.proofs.run_test.Statement.{statement}
@@ -58,7 +59,8 @@ returns-3 : tie.Need-returns-3
 unfolding runTest stateOf
 returns-3 c =
     let t = c .before .before .before .before .before .trace-test in
-    rw (ready (c .before .before .before .before .before .before), ← c .before .period-records .ensures, ← t .ensures, c .before .before .before .enum-told3 .given .1, ← c .before .before .get4 .ensures .is) (c .count-test .ensures)
+    rw (ready (c .before .before .before .before .before .before), ← t .ensures, c .before .before .before .enum-told3 .given .1, ← c .before .before .get4 .ensures .is)
+    (c .count-test .ensures ∙ ap (countTest _) (c .before .period-records .ensures))
 
 pub run-test-spec : {M : Type 1} → statement M
 run-test-spec =
