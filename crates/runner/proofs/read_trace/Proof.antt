@@ -4,7 +4,6 @@ use native.Mathlib.Nat.{le-refl}
 use native.Mathlib.Omega.{arith}
 use mathlib.Core.Bool.{true}
 use mathlib.Core.Logic.{⊎-elim}
-use mathlib.Core.Path.{_∙_}
 use borrow.Author.Tests.{eqb-false}
 use Prim.Native.Nat.{_≤_}
 use lib.ListN.{length}
