@@ -2,14 +2,13 @@
 use Prim.Native.Nat.{ℕ, _+_, _-_, _≤_, _<_}
 use native.Mathlib.Numerals.{add-one}
 use native.Mathlib.Omega.{arith}
-use mathlib.Core.Bool.{Bool, true, false, _&&_, cond}
+use mathlib.Core.Bool.{Bool, true, false}
 use mathlib.Core.List.{List}
 use mathlib.Core.Path.{_≡_, refl, sym, ap, _∙_}
-use lib.Dec.{eqb}
 use lib.ListN.{length, getD, drop}
 use Rattle.records.specs.Holding.{AllBytes}
 use Rattle.records.proofs.Searches.{all-pass}
-use Rattle.periods.specs.Traces.{periodAt, markedAt, periodsOf}
+use Rattle.periods.specs.Traces.{periodAt, periodsOf}
 use Rattle.periods.proofs.Traces.{length-periodsOf}
 use Rattle.layout.specs.Images.{rowCount, imageOf}
 use Rattle.states.specs.Limits.{headBytes}
@@ -17,7 +16,7 @@ use Rattle.states.specs.States.{State, stateOf, stateBytes, allAtMost}
 use Rattle.states.proofs.States.{stateBytes-stateOf}
 use Rattle.machine.specs.Machine.{afterPeriods}
 use Rattle.machine.specs.Computing.{trimmed, Working, Advanced}
-use Rattle.machine.specs.Premises.{Ready, goesOn, Takes}
+use Rattle.machine.specs.Premises.{Ready, takesNext, goesOn, Takes}
 use Rattle.machine.proofs.Machine.{after-snoc}
 use Rattle.machine.proofs.Trimming.{trimmed-plain, plain-small, trimmed-at}
 use Rattle.machine.proofs.Steps.{ready-long, later-read, later-ready}
@@ -71,9 +70,9 @@ module _ (image state trace : List ℕ) (n : ℕ) (h : Ready image state n) wher
     took-outcome = sym (trimmed-at l took-head 0 (omega arith)) ∙ ap (λ (b : List ℕ). getD b 0 0) (t .stands)
 
     -- so whether record k is taken can be told from it
-    pub told-outcome : (stops : Bool) → cond stops (eqb (getD l 0 0) 0 && markedAt trace k) true ≡ goesOn stops image state trace k
+    pub takes-next : (stops : Bool) → takesNext stops (getD l 0 0) trace k ≡ goesOn stops image state trace k
     unfolding goesOn
-    told-outcome stops = rw took-outcome
+    takes-next stops = rw took-outcome
 
 -- where the taking doesn't stop, all are taken
 pub takes-all : (image state trace : List ℕ) (n : ℕ) (later : List ℕ) (r : ℕ) → Takes false image state trace n later r

@@ -3,6 +3,7 @@ use Prim.Native.Nat.{ℕ, _+_, _≤_}
 use mathlib.Core.Bool.{Bool, true, _&&_, cond}
 use mathlib.Core.List.{List}
 use mathlib.Core.Path.{_≡_}
+use lib.Dec.{eqb}
 use Rattle.records.specs.declared.Test.the-variants.{Passed}
 use Rattle.records.specs.Refusals.{firstFailing}
 use Rattle.periods.specs.Traces.{periodsOf, markedAt}
@@ -11,7 +12,7 @@ use Rattle.layout.specs.Refusals.{imageTest}
 use Rattle.states.specs.Limits.{maxPeriods}
 use Rattle.states.specs.States.{stateOf, stateBytes}
 use Rattle.states.specs.Refusals.{stateTest}
-use Rattle.machine.specs.Machine.{undecided, afterPeriods}
+use Rattle.machine.specs.Machine.{afterPeriods}
 
 -- the state is a sound one of a good image, with room to count n more periods
 pub record Ready (image state : List ℕ) (n : ℕ) : Type 0 where
@@ -19,10 +20,13 @@ pub record Ready (image state : List ℕ) (n : ℕ) : Type 0 where
   pub sound : stateTest (rowCount image) state ≡ Passed
   pub room : stateOf state .periods + n ≤ maxPeriods
 
--- a sound state takes record k of a trace after those before it: always or, where the taking stops, if they leave it undecided and record k has
--- its mark
+-- a state of this outcome takes record k of a trace next: always or, where the taking stops, if it is undecided and the record has its mark
+abbrev pub takesNext : (stops : Bool) (outcome : ℕ) (trace : List ℕ) (k : ℕ) → Bool
+takesNext stops outcome trace k = cond stops (eqb outcome 0 && markedAt trace k) true
+
+-- a sound state does so after the records before it
 unfoldable pub goesOn : (stops : Bool) (image state trace : List ℕ) → (k : ℕ) → Bool
-goesOn stops image state trace k = cond stops (undecided (afterPeriods (imageOf image) (stateOf state) (periodsOf trace k)) && markedAt trace k) true
+goesOn stops image state trace k = takesNext stops (afterPeriods (imageOf image) (stateOf state) (periodsOf trace k) .outcome) trace k
 
 -- of n records the first r are taken, up to the first that is not to be
 pub record Takes (stops : Bool) (image state trace : List ℕ) (n : ℕ) (later : List ℕ) (r : ℕ) : Type 0 where

@@ -1,18 +1,17 @@
 // The row machine: the periods that a state takes. Document 01, "Image and row machine".
 ghost use mathlib.Core.Path.{_≡_};
-ghost use mathlib.Core.Bool.{true, false, _&&_, cond};
+ghost use mathlib.Core.Bool.{true, false};
 ghost use mathlib.Core.Option.{Option·getD};
 ghost use Prim.Native.Nat.{_*_, _<_, _≤_};
-ghost use lib.Dec.{eqb};
 ghost use lib.ListN.{length, getD};
 ghost use Rattle.periods.specs.Computing.{periodOf};
-ghost use Rattle.periods.specs.Traces.{periodRecords, periodsOf, markedAt};
+ghost use Rattle.periods.specs.Traces.{periodRecords, periodsOf};
 ghost use Rattle.layout.specs.Rows.{never, rowOf};
 ghost use Rattle.layout.specs.Images.{imageOf};
 ghost use Rattle.states.specs.Limits.{headBytes};
 ghost use Rattle.states.specs.States.{stateOf, stateBytes, allAtMost};
 ghost use Rattle.machine.specs.Machine.{byteOf, value, outcomeOf, blameOf, afterPeriods};
-ghost use Rattle.machine.specs.Premises.{Ready, Takes};
+ghost use Rattle.machine.specs.Premises.{Ready, takesNext, Takes};
 ghost use Rattle.machine.specs.Computing.{firstBits, valuesIn, trimmed, packed, oldIn, newBits, KindRow, NextRow, RowValues, HasRows, withDecision, decidedBytes, Working, Advanced};
 use periods::Attempts;
 
@@ -149,11 +148,10 @@ fn advance(image: &[u8], state: &mut [u8], a: Attempts)
     }
 }
 
-// Whether record k of a trace is the next to be taken: always or, where the taking stops, as long as the state is undecided and the record
-// has its mark.
-fn goes_on(state: &[u8], trace: &[u8], k: usize, stops: bool) -> bool
+// Whether the state takes record k of a trace next: always or, where the taking stops, if it is undecided and the record has its mark.
+fn takes_next(state: &[u8], trace: &[u8], k: usize, stops: bool) -> bool
     requires { ⌜ (headBytes ≤ length (now state)) × (k < periodRecords (now trace)) ⌝ }
-    ensures { λ r. ⌜ r ≡ cond stops (eqb (getD (now (state .entry)) 0 0) 0 && markedAt (now (trace .entry)) k) true ⌝ }
+    ensures { λ r. ⌜ r ≡ takesNext stops (getD (now (state .entry)) 0 0) (now (trace .entry)) k ⌝ }
 {
     if !stops {
         return true;
@@ -170,7 +168,7 @@ fn take_records(image: &[u8], state: &mut [u8], trace: &[u8], n: usize, stops: b
     ensures { λ r. ⌜ Takes stops (now (image .entry)) (now (state .entry)) (now (trace .entry)) n (now (state .exit)) r ⌝ }
 {
     let mut k = 0;
-    while k < n && goes_on(state, trace, k, stops) {
+    while k < n && takes_next(state, trace, k, stops) {
         advance(image, state, periods::read_period(trace, k));
         k += 1;
     }

@@ -9,7 +9,7 @@ use Rattle.records.specs.Holding.{AllBytes}
 use Rattle.records.specs.Refusals.{firstFailing}
 use Rattle.records.proofs.Searches.{failing-next, failing-here, failing-end}
 use Rattle.machine.specs.Premises.{goesOn}
-use Rattle.machine.proofs.Taking.{Took, took-none, took-head, took-working, took-next, told-outcome}
+use Rattle.machine.proofs.Taking.{Took, took-none, took-head, took-working, took-next, takes-next}
 use Rattle.machine.proofs.take_records.Statement.{statement}
 use Rattle.machine.proofs.take_records.Tie as tie
 
@@ -27,8 +27,8 @@ loop-holds c =
     let bytes : AllBytes (a .state .now) = record { below = λ i. c .before .slice-known .given i .fits } in
     (omega arith, took-none (a .image .now) (a .state .now) (a .trace .now) (a .n) (c .before .before .before .pre .0) bytes, rw sub-zero)
 
-goes-on-requires : tie.Need-goes-on-requires Inv-loop μ-loop
-goes-on-requires c κs =
+takes-next-requires : tie.Need-takes-next-requires Inv-loop μ-loop
+takes-next-requires c κs =
     let l = c .before .before .loop in
     let s = c .before .before .before .before .before .before in
     let a = s .args in
@@ -59,7 +59,7 @@ loop-again c =
     let a = s .args in
     let l = p .loop in
     let t = c .before .before .advance in
-    let g = sym (told-outcome (a .image .now) (a .state .now) (a .trace .now) (a .n) (s .pre .0) (l .k) _ (l .inv .1) (a .stops)) ∙ sym (m .before .goes-on .ensures) ∙ m .if1 .taken in (
+    let g = sym (takes-next (a .image .now) (a .state .now) (a .trace .now) (a .n) (s .pre .0) (l .k) _ (l .inv .1) (a .stops)) ∙ sym (m .before .takes-next .ensures) ∙ m .if1 .taken in (
       omega arith,
       took-next (a .image .now) (a .state .now) (a .trace .now) (a .n) (s .pre .0) (l .k) _ (l .inv .1) (omega arith) _ (t .kept .1 .0) (rw (← c .before .before .before .read-period .ensures .is) (t .ensures)),
       l .inv .2 ∙ failing-next (goesOn (a .stops) (a .image .now) (a .state .now) (a .trace .now)) (l .k) (a .n) (omega arith) g,
@@ -87,7 +87,7 @@ returns c =
       count = sym (l .inv .2
           ∙ ⊎-elim
           (λ w. failing-here g (l .k) (a .n) (w .0 .taken)
-          (sym (told-outcome (a .image .now) (a .state .now) (a .trace .now) (a .n) (s .pre .0) (l .k) _ (l .inv .1) (a .stops)) ∙ sym (w .2 .ensures) ∙ w .3 .left))
+          (sym (takes-next (a .image .now) (a .state .now) (a .trace .now) (a .n) (s .pre .0) (l .k) _ (l .inv .1) (a .stops)) ∙ sym (w .2 .ensures) ∙ w .3 .left))
           (λ w. failing-end g (l .k) (a .n) (w .left))
           (c .before .before .before .before .loop-test .came));
       leaves = c .before .before .trim .ensures ∙ l .inv .1 .stands;
@@ -100,7 +100,7 @@ take-records-spec =
     Inv-loop
     μ-loop
     loop-holds
-    goes-on-requires
+    takes-next-requires
     read-period-requires
     advance-requires
     add-k
