@@ -36,6 +36,7 @@ try_host() {
 try_host smoke "$runner"
 try_host samples "$monitor"
 try_host decide "$monitor"
+try_host wide "$monitor"
 try_host reading "$monitor"
 try_host compile "$monitor"
 try_host verdicts "$monitor"

@@ -1,6 +1,6 @@
 /* Compile at its edges: refusals, buffers and reply areas; and the contract of "Watch" through all five calls. */
 /* Document 01, "Calls", "Replies that refuse" and "Watch"; document 02, "Duties with a deadline", "Duties that both parties */
-/* own" and "Stop reading once it is decided". What it prints is held to the file compile.expected. */
+/* own", "Stop reading once it is decided" and "Thirty-two actions". What it prints is held to the file compile.expected. */
 #include "testing.h"
 
 _Static_assert(MONITOR_BUFFER_BYTES(1, 0) == 776, "776 bytes take one record that is no deadline");
@@ -14,6 +14,7 @@ _Static_assert(MONITOR_BUFFER_BYTES(MONITOR_MAX_RECORDS, MONITOR_MAX_RECORDS * M
 #define DEADLINE(window) MONITOR_DEADLINE(MONITOR_PARTY_1, 0, window)
 
 static const struct bytes duty = BYTES(DUTY);
+static const struct bytes last_action = BYTES(MONITOR_RECORD(MONITOR_KIND_DUTY, MONITOR_PARTY_1, MONITOR_ACTIONS - 1));
 static const struct bytes joint_duty = BYTES(MONITOR_RECORD(MONITOR_KIND_DUTY, MONITOR_PARTY_BOTH, 0));
 static const struct bytes duty_repeat = BYTES(DUTY, REPEAT);
 static const struct bytes any = BYTES(ANY);
@@ -21,22 +22,27 @@ static const struct bytes shortest = BYTES(DEADLINE(1));
 static const struct bytes longest = BYTES(DEADLINE(MONITOR_MAX_WINDOW));
 static const struct bytes windows = BYTES(DEADLINE(3), DEADLINE(5), MONITOR_RECORD(MONITOR_KIND_BOTH, 0, 0), REPEAT);
 
-/* The contract and the trace of "Watch". */
+/* The contract and the trace of "Watch", the latter also in wide records. */
 static const struct bytes watched =
     BYTES(DUTY, MONITOR_RECORD(MONITOR_KIND_DUTY, MONITOR_PARTY_1, 1), MONITOR_RECORD(MONITOR_KIND_REPAIR, 0, 0), REPEAT);
-static const struct bytes periods =
+static const struct bytes narrow_trace =
     BYTES(MONITOR_PERIOD(1, 1), MONITOR_PERIOD(0, 0), MONITOR_PERIOD(2, 0), MONITOR_PERIOD(1, 1));
+static const struct bytes wide_trace =
+    BYTES(MONITOR_WIDE_PERIOD(1, 1), MONITOR_WIDE_PERIOD(0, 0), MONITOR_WIDE_PERIOD(2, 0), MONITOR_WIDE_PERIOD(1, 1));
 
 /* ---- the macros, and "Watch" by all five calls */
 
-/* The macros' bytes, also where a mask has a high byte. */
+/* The macros' bytes, also where a mask has its highest bit. */
 static void records(void)
 {
-    static const uint8_t made[] = {MONITOR_RECORD(MONITOR_KIND_STAR, MONITOR_PARTY_2, 15),
+    static const uint8_t made[] = {MONITOR_RECORD(MONITOR_KIND_STAR, MONITOR_PARTY_2, 31),
                                    MONITOR_RECORD(MONITOR_KIND_DUTY, MONITOR_PARTY_BOTH, 9),
-                                   MONITOR_DEADLINE(MONITOR_PARTY_2, 14, 13), MONITOR_PERIOD(0x8001, 0x1234)};
-    static const uint8_t meant[] = {0x54, 0x43, 23, 2, 15, 0, 0x54, 0x43, 1, 3, 9, 0, 0x54, 0x43, 10, 2, 14, 13,
-                                    0x54, 0x50, 0x01, 0x80, 0x34, 0x12};
+                                   MONITOR_DEADLINE(MONITOR_PARTY_2, 14, 13), MONITOR_PERIOD(0x8001, 0x1234),
+                                   MONITOR_WIDE_PERIOD(0x80000001, 0x12345678), MONITOR_WIDE_PERIOD(~0, INT32_MIN)};
+    static const uint8_t meant[] = {0x54, 0x43, 23, 2, 31, 0, 0x54, 0x43, 1, 3, 9, 0, 0x54, 0x43, 10, 2, 14, 13,
+                                    0x54, 0x50, 0x01, 0x80, 0x34, 0x12,
+                                    0x54, 0x51, 0x01, 0x00, 0x00, 0x80, 0x78, 0x56, 0x34, 0x12,
+                                    0x54, 0x51, 0xff, 0xff, 0xff, 0xff, 0x00, 0x00, 0x00, 0x80};
 
     check("the macros' bytes", sizeof made == sizeof meant && memcmp(made, meant, sizeof meant) == 0);
 }
@@ -50,18 +56,19 @@ static void begin_line(void)
     printf("\n");
 }
 
-static void watch(void)
+static void watch(struct bytes periods)
 {
     static struct area compiled, stepped;
     struct monitor_step_reply s = {0};
+    size_t record = form_bytes(form_of(periods));
 
     copy(&contract, watched);
     compile_taken();
     compiled = image;
     begin_line();
-    for (size_t k = 0; k < periods.length; k += MONITOR_PERIOD_BYTES) {
-        s = take_step((struct bytes){periods.at + k, MONITOR_PERIOD_BYTES});
-        printf("%u %s %u\n", (unsigned)(k / MONITOR_PERIOD_BYTES + 1), verdict_name(s.verdict), (unsigned)s.blame);
+    for (size_t k = 0; k < periods.length; k += record) {
+        s = take_step((struct bytes){periods.at + k, record});
+        printf("%u %s %u\n", (unsigned)(k / record + 1), verdict_name(s.verdict), (unsigned)s.blame);
     }
     printf("decided %u\n", (unsigned)s.decision);
     stepped = state;
@@ -102,6 +109,7 @@ static const struct { const char *label; struct bytes contract; } table[] = {
     {"mark 54 44", BYTES('T', 'D', MONITOR_KIND_DUTY, 1, 0, 0)},
     {"kind 11", BYTES(MONITOR_RECORD(11, 0, 0))},
     {"duty, party 4", BYTES(MONITOR_RECORD(MONITOR_KIND_DUTY, 4, 0))},
+    {"duty, action 32", BYTES(MONITOR_RECORD(MONITOR_KIND_DUTY, MONITOR_PARTY_1, 32))},
     {"window 0", BYTES(DEADLINE(0))},
     {"window 16", BYTES(DEADLINE(16))},
     {"repeat", BYTES(REPEAT)},
@@ -147,6 +155,7 @@ static void buffers(void)
     least("duty", duty, 776);
     buffer("duty", duty, 777);
     buffer("duty", duty, BUFFER_BYTES);
+    least("duty, action 31", last_action, 776);
     least("joint duty", joint_duty, 776);
     least("duty, repeat", duty_repeat, 1032);
     least("watch", watched, MONITOR_BUFFER_BYTES(4, 0));
@@ -198,7 +207,8 @@ static void contents(const char *label, struct bytes from)
 int main(void)
 {
     records();
-    watch();
+    watch(narrow_trace);
+    watch(wide_trace);
     refusals();
     buffers();
     areas("watch", watched);

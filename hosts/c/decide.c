@@ -1,5 +1,6 @@
 /* Decide in C, at its edges: a printed line for each call, held to the file decide.expected. */
-/* Document 02, "Stop reading once it is decided"; document 01, "Image and row machine", "Calls" and "Replies that refuse". */
+/* Document 02, "Stop reading once it is decided" and "Thirty-two actions"; document 01, "Image and row machine", "Calls" and */
+/* "Replies that refuse". */
 #define _DEFAULT_SOURCE /* for MAP_ANONYMOUS and MAP_NORESERVE */
 #include <sys/mman.h>
 
@@ -16,7 +17,7 @@
 
 /* Records with a wrong mark; their attempts would satisfy. */
 #define WRONG_FIRST 'U', 'P', TWO(1), TWO(0)
-#define WRONG_SECOND 'T', 'Q', TWO(1), TWO(0)
+#define WRONG_SECOND 'T', 'O', TWO(1), TWO(0)
 
 /* Row 2 is true in period 3 alone, row 3 never. */
 #define THIRD_PERIOD ROW(1, 0, 0), ROW(6, 0, 0), ROW(6, 1, 0), ROW(0, 0, 0)
@@ -34,7 +35,7 @@ static const struct bytes plain = PLAIN;
 /* Whether begin and a run over just the records read leave what decide gave. */
 static int run_agrees(struct monitor_decide_reply decided, struct bytes records)
 {
-    size_t read = MONITOR_PERIOD_BYTES * (size_t)decided.records;
+    size_t read = form_bytes(form_of(records)) * (size_t)decided.records;
 
     if (read > records.length)
         return 0;
@@ -75,6 +76,7 @@ static const struct sample decisions[] = {
     {"1 record, undecided", PLAIN, BYTES(NOBODY)},
     {"5 records, undecided", PLAIN, BYTES(NOBODY, NOBODY, NOBODY, NOBODY, NOBODY)},
     {"other attempts", PLAIN, BYTES(PERIOD(0xfffc, 0xfffd))},
+    {"other attempts, wide", PLAIN, BYTES(WIDE_PERIOD(0xfffffffc, 0xfffffffd))},
     /* Rows of the end record that become true at once. */
     {"S and V1", PLAIN, BYTES(NOBODY, PERIOD(3, 0), NOBODY)},
     {"S and V2", PLAIN, BYTES(NOBODY, PERIOD(1, 2), NOBODY)},
@@ -99,12 +101,12 @@ static const struct sample decisions[] = {
     {"not later", LATER, BYTES(PERIOD(0, 1))},
 };
 
-/* Records that decide. */
-static const struct { const char *label; struct bytes record; } deciding[] = {
-    {"satisfied", BYTES(MEETS)},
-    {"violated, blame 1,", BYTES(BREAKS_1)},
-    {"violated, blame 2,", BYTES(BREAKS_2)},
-    {"violated, blame 3,", BYTES(BREAKS_3)},
+/* Attempts that decide. */
+static const struct { const char *label; uint32_t first, second; } deciding[] = {
+    {"satisfied", 1, 0},
+    {"violated, blame 1,", 2, 0},
+    {"violated, blame 2,", 0, 2},
+    {"violated, blame 3,", 2, 2},
 };
 
 static const struct sample refusals[] = {
@@ -112,7 +114,7 @@ static const struct sample refusals[] = {
     {"wrong first byte in the first of 3", PLAIN, BYTES(WRONG_FIRST, NOBODY, MEETS)},
     {"wrong second byte in the first of 3", PLAIN, BYTES(WRONG_SECOND, NOBODY, MEETS)},
     {"wrong first byte before the decision", PLAIN, BYTES(NOBODY, 'U', 'P', 0, 0, 0, 0, MEETS)},
-    {"wrong second byte before the decision", PLAIN, BYTES(NOBODY, 'T', 'Q', 0, 0, 0, 0, MEETS)},
+    {"wrong second byte before the decision", PLAIN, BYTES(NOBODY, 'T', 'O', 0, 0, 0, 0, MEETS)},
     {"wrong first byte in the deciding record", PLAIN, BYTES(NOBODY, WRONG_FIRST, NOBODY)},
     {"wrong second byte in the deciding record", PLAIN, BYTES(NOBODY, WRONG_SECOND, NOBODY)},
     {"wrong first byte after the decision", PLAIN, BYTES(NOBODY, MEETS, WRONG_FIRST, NOBODY)},
@@ -124,13 +126,13 @@ static const struct sample refusals[] = {
     {"wrong marks in the last 2 of 4, undecided", PLAIN, BYTES(NOBODY, NOBODY, WRONG_SECOND, WRONG_FIRST)},
     {"wrong marks before and after the decision", PLAIN, BYTES(NOBODY, WRONG_SECOND, MEETS, WRONG_FIRST)},
     {"mark 50 54", PLAIN, BYTES('P', 'T', 0, 0, 0, 0)},
-    /* Lengths, before marks and whatever decides. */
+    /* Lengths, before later marks and whatever decides. */
     {"1 byte", PLAIN, BYTES('T')},
     {"5 bytes", PLAIN, BYTES('T', 'P', 0, 0, 0)},
     {"7 bytes", PLAIN, BYTES(NOBODY, 'T')},
     {"11 bytes", PLAIN, BYTES(NOBODY, 'T', 'P', 0, 0, 0)},
     {"7 bytes, satisfied by the first record", PLAIN, BYTES(MEETS, 'T')},
-    {"length before marks", PLAIN, BYTES(NOBODY, WRONG_SECOND, 'T')},
+    {"length before a later mark", PLAIN, BYTES(NOBODY, WRONG_SECOND, 'T')},
     /* Images, before all else. */
     {"row 0 of kind 3", BAD_IMAGE, BYTES(NOBODY)},
     {"row 0 of kind 3, no record", BAD_IMAGE, NO_BYTES},
@@ -155,6 +157,8 @@ static const struct { const char *label; size_t length; struct bytes image, trac
     {"", 32, PLAIN, BROKEN},
     {"", 33, PLAIN, BROKEN},
     {"", 2048, PLAIN, BROKEN},
+    {"wide records, ", 31, PLAIN, BYTES(WIDE_NOBODY, WIDE_PERIOD(2, 2))},
+    {"wide records, ", 32, PLAIN, BYTES(WIDE_NOBODY, WIDE_PERIOD(2, 2))},
     {"undecided, ", 33, PLAIN, BYTES(NOBODY, NOBODY, NOBODY)},
     {"bad mark, ", 31, PLAIN, BYTES(NOBODY, WRONG_FIRST)},
     {"bad mark, ", 32, PLAIN, BYTES(NOBODY, WRONG_FIRST)},
@@ -172,16 +176,18 @@ static void put_samples(const struct sample *table, size_t count)
 }
 
 /* Traces of 1 to 3 records, decided by each of them in turn. */
-static void positions(void)
+static void positions(enum form form, const char *name)
 {
     for (size_t d = 0; d < COUNT(deciding); d++)
         for (unsigned count = 1; count <= 3; count++)
             for (unsigned k = 0; k < count; k++) {
-                uint8_t records[] = {NOBODY, NOBODY, NOBODY};
+                uint8_t records[3 * MONITOR_WIDE_PERIOD_BYTES];
+                size_t length = 0;
                 char label[64];
-                memcpy(records + MONITOR_PERIOD_BYTES * k, deciding[d].record.at, MONITOR_PERIOD_BYTES);
-                snprintf(label, sizeof label, "%s by record %u of %u", deciding[d].label, k + 1, count);
-                sample(label, plain, (struct bytes){records, MONITOR_PERIOD_BYTES * count});
+                for (unsigned i = 0; i < count; i++)
+                    length += put_period(records + length, form, i == k ? deciding[d].first : 0, i == k ? deciding[d].second : 0);
+                snprintf(label, sizeof label, "%s by %s %u of %u", deciding[d].label, name, k + 1, count);
+                sample(label, plain, (struct bytes){records, length});
             }
 }
 
@@ -246,24 +252,44 @@ static void largest(void)
 enum { PAGE = 4096 };
 #define MOST ((size_t)4294967295)
 #define RECORDS(count) (MONITOR_PERIOD_BYTES * (size_t)(count))
-#define MAPPED (PAGE + RECORDS(MOST + 4))
+#define WIDE_RECORDS(count) (MONITOR_WIDE_PERIOD_BYTES * (size_t)(count))
+#define MAPPED (PAGE + WIDE_RECORDS(MOST + 2))
 
-/* The records that can be read, and the whole trace's length. */
+#define MARK 'T', 'P'
+#define WIDE_MARK 'T', 'Q'
+#define WIDE_MEETS WIDE_PERIOD(1, 0)
+
+/* The bytes that can be read, and the whole trace's length. */
 static const struct { const char *label; struct bytes image, records; size_t length; } far_traces[] = {
     {"no record", PLAIN, NO_BYTES, 0},
-    {"5 bytes", PLAIN, NO_BYTES, 5},
+    {"1 byte", PLAIN, BYTES('T'), 1},
+    {"5 bytes", PLAIN, BYTES(MARK), 5},
+    {"9 bytes of a wide record", PLAIN, BYTES(WIDE_MARK), 9},
     {"4 records, satisfied by the third", PLAIN, BYTES(NOBODY, NOBODY, MEETS), RECORDS(4)},
+    {"4 wide records, satisfied by the third", PLAIN, BYTES(WIDE_NOBODY, WIDE_NOBODY, WIDE_MEETS), WIDE_RECORDS(4)},
     {"4294967295 records, satisfied by the third", PLAIN, BYTES(NOBODY, NOBODY, MEETS), RECORDS(MOST)},
     {"4294967295 records, violated by the first", PLAIN, BYTES(BREAKS_3), RECORDS(MOST)},
     {"4294967295 records, wrong mark in the third", PLAIN, BYTES(NOBODY, NOBODY, WRONG_FIRST), RECORDS(MOST)},
     {"4294967295 records and a byte, satisfied by the first", PLAIN, BYTES(MEETS), RECORDS(MOST) + 1},
     {"4294967295 records, bad image", BAD_IMAGE, NO_BYTES, RECORDS(MOST)},
-    {"4294967296 records", PLAIN, NO_BYTES, RECORDS(MOST + 1)},
+    {"4294967295 wide records, satisfied by the third", PLAIN, BYTES(WIDE_NOBODY, WIDE_NOBODY, WIDE_MEETS), WIDE_RECORDS(MOST)},
+    {"4294967295 wide records, narrow mark in the third", PLAIN, BYTES(WIDE_NOBODY, WIDE_NOBODY, MEETS), WIDE_RECORDS(MOST)},
+    {"4294967295 wide records and a byte, satisfied by the first", PLAIN, BYTES(WIDE_MEETS), WIDE_RECORDS(MOST) + 1},
+    /* Too many: the first record's mark and the length go before the count, and the count before later marks. */
+    {"4294967296 records", PLAIN, BYTES(MARK), RECORDS(MOST + 1)},
     {"4294967296 records, satisfied by the third", PLAIN, BYTES(NOBODY, NOBODY, MEETS), RECORDS(MOST + 1)},
-    {"4294967296 records, wrong marks", PLAIN, BYTES(WRONG_FIRST, WRONG_SECOND), RECORDS(MOST + 1)},
-    {"4294967296 records and a byte", PLAIN, NO_BYTES, RECORDS(MOST + 1) + 1},
+    {"4294967296 records, wrong mark in the first", PLAIN, BYTES(WRONG_FIRST), RECORDS(MOST + 1)},
+    {"4294967296 records, wrong mark in the second", PLAIN, BYTES(NOBODY, WRONG_SECOND), RECORDS(MOST + 1)},
+    {"4294967296 records and a byte", PLAIN, BYTES(MARK), RECORDS(MOST + 1) + 1},
     {"4294967296 records, bad image", BAD_IMAGE, NO_BYTES, RECORDS(MOST + 1)},
     {"4294967299 records, satisfied by the third", PLAIN, BYTES(NOBODY, NOBODY, MEETS), RECORDS(MOST + 4)},
+    {"4294967296 wide records", PLAIN, BYTES(WIDE_MARK), WIDE_RECORDS(MOST + 1)},
+    {"4294967296 wide records, wrong mark in the first", PLAIN, BYTES(WRONG_SECOND), WIDE_RECORDS(MOST + 1)},
+    {"4294967296 wide records, narrow mark in the second", PLAIN, BYTES(WIDE_NOBODY, MEETS), WIDE_RECORDS(MOST + 1)},
+    {"4294967296 wide records and a byte", PLAIN, BYTES(WIDE_MARK), WIDE_RECORDS(MOST + 1) + 1},
+    /* 25,769,803,800 bytes are 4,294,967,300 narrow records or 2,576,980,380 wide ones. */
+    {"25769803800 bytes, narrow, satisfied by the first", PLAIN, BYTES(MEETS), 25769803800},
+    {"25769803800 bytes, wide, satisfied by the first", PLAIN, BYTES(WIDE_MEETS), 25769803800},
 };
 
 static uint8_t *map_page(void)
@@ -301,7 +327,7 @@ static void put_far_traces(void)
     uint8_t *page = map_page();
 
     if (page == NULL) {
-        fault("the machine refuses a mapping for 4294967299 records");
+        fault("the machine refuses a mapping for 4294967296 wide records");
         return;
     }
     for (size_t k = 0; k < COUNT(far_traces); k++)
@@ -311,7 +337,8 @@ static void put_far_traces(void)
 int main(void)
 {
     put_samples(decisions, COUNT(decisions));
-    positions();
+    positions(NARROW, "record");
+    positions(WIDE, "wide record");
     put_samples(refusals, COUNT(refusals));
     put_areas();
     largest();

@@ -7,7 +7,7 @@
 #include "monitor.h"
 
 /* The plugin is party 1, the host party 2. In each period (here a recalculation) each of them tries some actions, */
-/* and an action succeeds when both try it. Actions are 0 to 15. */
+/* and an action succeeds when both try it. Actions are 0 to 31. */
 enum { PLUGIN = MONITOR_PARTY_1 };
 enum {
     VALUES = 0,    /* the plugin hands over its cells' values, the host takes them */
@@ -24,16 +24,16 @@ static const uint8_t contract[] = {
 };
 
 /* What the plugin and the host try in each recalculation: bit a is set when the party tries action a. */
-static const struct { uint16_t plugin, host; } attempts[] = {
-    {1 << VALUES, 1 << VALUES},
+static const struct { uint32_t plugin, host; } attempts[] = {
+    {1u << VALUES, 1u << VALUES},
     {0, 0},
-    {1 << CORRECTION, 0},
-    {1 << VALUES, 1 << VALUES},
+    {1u << CORRECTION, 0},
+    {1u << VALUES, 1u << VALUES},
 };
 enum { PERIODS = sizeof attempts / sizeof attempts[0] };
 
-/* Their period records, as the host stores them. */
-static uint8_t trace[PERIODS * MONITOR_PERIOD_BYTES];
+/* Their period records, as the host stores them, in the wide form, which has all 32 actions. */
+static uint8_t trace[PERIODS * MONITOR_WIDE_PERIOD_BYTES];
 
 /* Compile wants a buffer of MONITOR_BUFFER_BYTES; the contract has no deadline, so there are no windows to add up. The image */
 /* is the beginning of the buffer, and how many rows it has follows from the contract, so the state has room for the most. */
@@ -90,7 +90,7 @@ int main(void)
         return refused("begin", begun.number, begun.place);
 
     for (size_t k = 0; k < PERIODS; k++) {
-        const uint8_t period[MONITOR_PERIOD_BYTES] = {MONITOR_PERIOD(attempts[k].plugin, attempts[k].host)};
+        const uint8_t period[MONITOR_WIDE_PERIOD_BYTES] = {MONITOR_WIDE_PERIOD(attempts[k].plugin, attempts[k].host)};
         monitor_step(image, image_length, state, state_length, period, sizeof period, (uint8_t *)&reply, sizeof reply);
         if (reply.number != MONITOR_ACCEPTED)
             return refused("step", reply.number, reply.place);

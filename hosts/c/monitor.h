@@ -12,13 +12,14 @@ extern "C" {
 
 /* Sizes in bytes, the most records of a contract, the most rows of an image, the number of actions, and the longest window. */
 enum {
-    MONITOR_RECORD_BYTES = 6, /* a contract record */
+    MONITOR_RECORD_BYTES = 6,       /* a contract record */
     MONITOR_MAX_RECORDS = 64,
-    MONITOR_ACTIONS = 16,     /* numbered from 0 */
-    MONITOR_MAX_WINDOW = 15,  /* of a deadline, in periods; the shortest is 1 */
-    MONITOR_ROW_BYTES = 8,    /* a row, and the end record */
-    MONITOR_HEAD_BYTES = 10,  /* a state before its row values */
-    MONITOR_PERIOD_BYTES = 6, /* a period record */
+    MONITOR_ACTIONS = 32,           /* numbered from 0 */
+    MONITOR_MAX_WINDOW = 15,        /* of a deadline, in periods; the shortest is 1 */
+    MONITOR_ROW_BYTES = 8,          /* a row, and the end record */
+    MONITOR_HEAD_BYTES = 10,        /* a state before its row values */
+    MONITOR_PERIOD_BYTES = 6,       /* a narrow period record: mark 54 50, actions 0 to 15 */
+    MONITOR_WIDE_PERIOD_BYTES = 10, /* a wide period record: mark 54 51, actions 0 to 31 */
     MONITOR_MAX_ROWS = 5952
 };
 
@@ -66,8 +67,15 @@ enum monitor_party {
     0x54, 0x43, MONITOR_KIND_DEADLINE, (uint8_t)(party), (uint8_t)(action), (uint8_t)(window)
 
 /* The bytes of a period record, for an initializer, from both parties' attempts: bit a is set when the party tries action a. */
+/* A wide record has all 32 bits. A narrow one has bits 0 to 15; in its period nobody tries actions 16 to 31. */
 #define MONITOR_PERIOD(one, two) \
     0x54, 0x50, (uint8_t)((one) & 0xff), (uint8_t)((one) >> 8 & 0xff), (uint8_t)((two) & 0xff), (uint8_t)((two) >> 8 & 0xff)
+#define MONITOR_WIDE_PERIOD(one, two) 0x54, 0x51, MONITOR_FOUR_BYTES(one), MONITOR_FOUR_BYTES(two)
+
+/* A number's bytes in a field of four, low byte first. */
+#define MONITOR_FOUR_BYTES(number) \
+    (uint8_t)((uint32_t)(number) & 0xff), (uint8_t)((uint32_t)(number) >> 8 & 0xff), \
+    (uint8_t)((uint32_t)(number) >> 16 & 0xff), (uint8_t)((uint32_t)(number) >> 24)
 
 /* A reply's number: 0, or what the call was refused for. docs/FORMAT.md has the conditions, and what the place counts. */
 enum monitor_refusal {
@@ -82,7 +90,7 @@ enum monitor_refusal {
     MONITOR_REFUSED_SHORT_BUFFER = 8,   /* for the image */
     MONITOR_REFUSED_BAD_IMAGE = 9,      /* its length, a row or the end record */
     MONITOR_REFUSED_BAD_STATE = 10,     /* its length, or (step, run) not sound */
-    MONITOR_REFUSED_BAD_PERIOD = 11,    /* a record's mark, or a length */
+    MONITOR_REFUSED_BAD_PERIOD = 11,    /* a lone byte; the first record's mark; the length for its form; a later mark */
     MONITOR_REFUSED_FULL_COUNT = 12     /* periods taken would pass 4,294,967,295, or decide's trace has more records */
 };
 
@@ -162,21 +170,20 @@ uint32_t monitor_begin(const uint8_t *image, size_t image_length,
                        uint8_t *state, size_t state_length,
                        uint8_t *reply, size_t reply_length);
 
-/* Takes one period record. */
+/* Takes one period record, narrow or wide, whatever form earlier ones had. */
 uint32_t monitor_step(const uint8_t *image, size_t image_length,
                       uint8_t *state, size_t state_length,
                       const uint8_t *period, size_t period_length,
                       uint8_t *reply, size_t reply_length);
 
-/* Takes a trace of zero or more period records, all of them or none. */
+/* Takes a trace of zero or more period records, all of them or none. All have the form of the first, which its mark tells. */
 uint32_t monitor_run(const uint8_t *image, size_t image_length,
                      uint8_t *state, size_t state_length,
                      const uint8_t *trace, size_t trace_length,
                      uint8_t *reply, size_t reply_length);
 
-/* Reads a trace of zero or more period records up to the one that decides. It needs no state: it starts from zeros, as begin */
-/* would leave them. Records after the decision are not looked at, so a wrong mark there is no refusal. Needs about 6 KB of */
-/* stack. */
+/* Reads a trace, as run takes one, up to the record that decides. It needs no state: it starts from zeros, as begin would */
+/* leave them. Records after the decision are not looked at, so a wrong mark there is no refusal. Needs about 6 KB of stack. */
 uint32_t monitor_decide(const uint8_t *image, size_t image_length,
                         const uint8_t *trace, size_t trace_length,
                         uint8_t *reply, size_t reply_length);

@@ -42,34 +42,28 @@ static struct monitor_step_reply step(struct periods t, unsigned period)
 
 /* ---- lines */
 
-static void put_periods(unsigned from, unsigned to, struct monitor_step_reply r)
+/* Replies by their periods, as many as the longest trace has. */
+enum { MAX_PERIODS = 752 };
+static struct monitor_step_reply replies[MAX_PERIODS + 1];
+
+static int same_reply(unsigned period, unsigned other)
 {
-    put_range(from, to);
-    printf(" %s %u", verdict_name(r.verdict), (unsigned)r.blame);
+    struct monitor_step_reply r = replies[period], o = replies[other];
+    return r.number == o.number && r.verdict == o.verdict && r.blame == o.blame && r.decision == o.decision;
 }
 
-static int differ(struct monitor_step_reply r, struct monitor_step_reply other)
+static void put_reply(unsigned period)
 {
-    return r.number != other.number || r.verdict != other.verdict || r.blame != other.blame || r.decision != other.decision;
+    printf(" %s %u", verdict_name(replies[period].verdict), (unsigned)replies[period].blame);
 }
 
 /* A range for each reply, and the decision period. */
 static void steps(struct periods t)
 {
-    struct monitor_step_reply last = step(t, 1);
-    unsigned from = 1;
-
-    for (unsigned period = 2; period <= t.count; period++) {
-        struct monitor_step_reply r = step(t, period);
-        if (differ(r, last)) {
-            put_periods(from, period - 1, last);
-            printf(",");
-            from = period;
-        }
-        last = r;
-    }
-    put_periods(from, t.count, last);
-    printf(", decided %u\n", (unsigned)last.decision);
+    for (unsigned period = 1; period <= t.count; period++)
+        replies[period] = step(t, period);
+    put_ranges(1, t.count, same_reply, put_reply);
+    printf(", decided %u\n", (unsigned)replies[t.count].decision);
 }
 
 /* A line for the contract in its area: the operator and the side on which it is nested, the records, the rows, the steps. */

@@ -1,6 +1,6 @@
 /* Which contracts compile takes and which it refuses by 1 to 7: small inputs, the order of tests, every kind and field, nests. */
-/* Document 01, "Records" and "Replies that refuse"; document 02, "Duties with a deadline" and "Duties that both parties own". */
-/* What it prints is held to the file reading.expected. */
+/* Document 01, "Records" and "Replies that refuse"; document 02, "Duties with a deadline", "Duties that both parties own" and */
+/* "Thirty-two actions". What it prints is held to the file reading.expected. */
 #include <ctype.h>
 
 #include "testing.h"
@@ -63,14 +63,14 @@ static const struct { const char *label; struct bytes contract; } samples[] = {
     /* Two faults: the one that is tested first is answered, and of two records' the earlier one's. */
     {"length, mark", BYTES(WRONG_MARK, 'T')},
     {"mark, kind", BYTES('T', 'D', 11, 1, 0, 0)},
-    {"kind, field", BYTES('T', 'C', 11, 4, 16, 1)},
+    {"kind, field", BYTES('T', 'C', 11, 4, 32, 1)},
     {"field, operands", BYTES(MONITOR_RECORD(MONITOR_KIND_REPEAT, 1, 0))},
     {"last byte, operands", BYTES('T', 'C', MONITOR_KIND_REPEAT, 0, 0, 1)},
     {"operands, empty list", BYTES(ANY, STAR, ANY, WHEN)},
     {"empty list, not one clause", BYTES(DUTY, DUTY, ANY, STAR, UNTIL)},
     {"mark, then mark", BYTES('t', 'C', MONITOR_KIND_DUTY, 1, 0, 0, 't', 'C', MONITOR_KIND_DUTY, 1, 0, 0)},
     {"kind, then mark", BYTES(RECORD(11), WRONG_MARK)},
-    {"field, then kind", BYTES(MONITOR_RECORD(MONITOR_KIND_DUTY, 1, 16), RECORD(11))},
+    {"field, then kind", BYTES(MONITOR_RECORD(MONITOR_KIND_DUTY, 1, 32), RECORD(11))},
     {"operands, then mark", BYTES(REPEAT, WRONG_MARK)},
     {"empty list, then mark", BYTES(ANY, STAR, DUTY, WHEN, WRONG_MARK)},
     {"not one clause, but a mark", BYTES(ANY, WRONG_MARK)},
@@ -102,26 +102,27 @@ static void spell(const char *text, size_t length)
     }
 }
 
+/* Replies by the value of a byte. */
+static struct monitor_compile_reply replies[256];
+
+static int same_reply(unsigned value, unsigned other)
+{
+    return replies[value].number == replies[other].number && replies[value].place == replies[other].place;
+}
+
+static void put_reply_to(unsigned value)
+{
+    put_reply(replies[value]);
+}
+
 /* A byte of the last record takes the values up to one: a range for each reply. */
 static void sweep(size_t byte, unsigned to)
 {
-    uint8_t *swept = field(byte);
-    struct monitor_compile_reply last = {0, 0, 0};
-    unsigned from = 0;
-
     for (unsigned value = 0; value <= to; value++) {
-        *swept = (uint8_t)value;
-        struct monitor_compile_reply r = answer();
-        if (value > 0 && (r.number != last.number || r.place != last.place)) {
-            put_range(from, value - 1);
-            put_reply(last);
-            printf(",");
-            from = value;
-        }
-        last = r;
+        *field(byte) = (uint8_t)value;
+        replies[value] = answer();
     }
-    put_range(from, to);
-    put_reply(last);
+    put_ranges(0, to, same_reply, put_reply_to);
 }
 
 /* A text as it is, or with a byte of its last record swept. */
@@ -139,15 +140,11 @@ static void line(const char *text, size_t length, size_t byte, unsigned to)
     printf("\n");
 }
 
-/* The texts of a list, with blanks between them. */
+/* The texts of a list. */
 static void lines(const char *list, size_t byte, unsigned to)
 {
-    while (*list != '\0') {
-        size_t length = strcspn(list, " ");
-        line(list, length, byte, to);
-        list += length;
-        list += strspn(list, " ");
-    }
+    for (; *list != '\0'; list = next_word(list))
+        line(list, word_length(list), byte, to);
 }
 
 /* The fields of the last record. */
@@ -164,7 +161,7 @@ static void sweeps(void)
     lines("D DR", 1, 255);
     lines("D J L _ D_ a_ DD_ Da_ aD_ aa_", 2, 255);
     fields("D L DD& s", 255);
-    fields("J B P DD; DD/ DR aDW DaU a t i f aa. aa| a*", 31);
+    fields("J B P DD; DD/ DR aDW DaU a t i f aa. aa| a*", 63);
 }
 
 /* Expressions with and without the empty list, under `when` and `until`. */

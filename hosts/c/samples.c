@@ -1,10 +1,10 @@
 /* Samples of begin, step and run in C: a printed line for each call, held to the file samples.expected. */
-/* Document 01, "Image and row machine", "Calls" and "Replies that refuse"; document 02, "Duties with a deadline". */
+/* Document 01, "Image and row machine", "Calls" and "Replies that refuse"; document 02, "Duties with a deadline" and */
+/* "Thirty-two actions". */
 #include "testing.h"
 
 /* ---- bytes of images, states and traces */
 
-#define FOUR(n) TWO(n), TWO((n) >> 16)
 #define NINE(v) v, v, v, v, v, v, v, v, v
 #define TEN(v) NINE(v), v
 #define ELEVEN(v) TEN(v), v
@@ -116,6 +116,8 @@ static const struct sample refusals[] = {
     {RUN, "3 records at 4294967295", SMALL, STATE(0, 0, FULL, 0, 0, 0), BYTES(NOBODY, NOBODY, NOBODY)},
     {RUN, "1 record at 4294967294", SMALL, STATE(0, 0, FULL - 1, 0, 0, 0), ONE_RECORD},
     {RUN, "2 records at 4294967293, decided", SMALL, STATE(1, 0, FULL - 2, 2, 0, 0), BYTES(NOBODY, NOBODY)},
+    {RUN, "3 wide records at 4294967293", SMALL, STATE(0, 0, FULL - 2, 0, 0, 0), BYTES(WIDE_NOBODY, WIDE_NOBODY, WIDE_NOBODY)},
+    {RUN, "3 wide records at 4294967292", SMALL, STATE(0, 0, FULL - 3, 0, 0, 0), BYTES(WIDE_NOBODY, WIDE_NOBODY, WIDE_NOBODY)},
     {RUN, "no record at 4294967295", SMALL, STATE(0, 0, FULL, 0, 0, 0), NO_BYTES},
     {STEP, "at 4294967294", SMALL, STATE(0, 0, FULL - 1, 0, 0, 0), ONE_RECORD},
     {STEP, "at 4294967294, decided", SMALL, STATE(1, 0, FULL - 1, 2, 0, 0), BYTES(PERIOD(1, 0))},
@@ -126,7 +128,7 @@ static const struct sample refusals[] = {
     {STEP, "record of 7 bytes", SMALL, FRESH, BYTES(NOBODY, 'T')},
     {STEP, "record of 12 bytes", SMALL, FRESH, BYTES(NOBODY, NOBODY)},
     {STEP, "record with a wrong first byte", SMALL, FRESH, BYTES('U', 'P', 0, 0, 0, 0)},
-    {STEP, "record with a wrong second byte", SMALL, FRESH, BYTES('T', 'Q', 0, 0, 0, 0)},
+    {STEP, "record with a wrong second byte", SMALL, FRESH, BYTES('T', 'O', 0, 0, 0, 0)},
     {STEP, "contract record", SMALL, FRESH, BYTES('T', 'C', 0, 0, 0, 0)},
     {STEP, "wrong mark on a decided state", SMALL, STATE(1, 0, 3, 2, 0, 0), BYTES('P', 'T', 0, 0, 0, 0)},
     /* A run's trace: its length and its marks. */
@@ -149,16 +151,16 @@ static const struct sample refusals[] = {
     {RUN, "no record, broken", SMALL, STATE(2, 2, 1, 1, 0, 1), NO_BYTES},
     {RUN, "no record, broken-after", SMALL, STATE(2, 3, 7, 1, 0, 1), NO_BYTES},
     /* The order of the tests. */
-    {STEP, "bad image, state and record", BAD_IMAGE, BYTES(ELEVEN(3)), BYTES('T', 'Q')},
-    {RUN, "bad image, state and trace", BAD_IMAGE, BYTES(TWELVE(3)), BYTES('T', 'Q')},
+    {STEP, "bad image, state and record", BAD_IMAGE, BYTES(ELEVEN(3)), BYTES('T', 'O')},
+    {RUN, "bad image, state and trace", BAD_IMAGE, BYTES(TWELVE(3)), BYTES('T', 'O')},
     {BEGIN, "bad image and state length", BAD_IMAGE, BYTES(TWELVE(3)), NO_BYTES},
-    {STEP, "bad state and record", SMALL, STATE(3, 0, 1, 1, 0, 0), BYTES('T', 'Q', 0, 0, 0, 0)},
-    {RUN, "bad state and trace", SMALL, STATE(3, 0, 1, 1, 0, 0), BYTES('T', 'Q', 0, 0, 0, 0, 0)},
+    {STEP, "bad state and record", SMALL, STATE(3, 0, 1, 1, 0, 0), BYTES('T', 'O', 0, 0, 0, 0)},
+    {RUN, "bad state and trace", SMALL, STATE(3, 0, 1, 1, 0, 0), BYTES('T', 'O', 0, 0, 0, 0, 0)},
     {STEP, "bad state with a full count", SMALL, STATE(0, 1, FULL, 0, 0, 0), ONE_RECORD},
-    {STEP, "bad record on a full count", SMALL, STATE(0, 0, FULL, 0, 0, 0), BYTES('T', 'Q', 0, 0, 0, 0)},
+    {STEP, "bad record on a full count", SMALL, STATE(0, 0, FULL, 0, 0, 0), BYTES('T', 'O', 0, 0, 0, 0)},
     {RUN, "bad last record past a full count", SMALL, STATE(0, 0, FULL - 1, 0, 0, 0),
-     BYTES(NOBODY, NOBODY, 'T', 'Q', 0, 0, 0, 0)},
-    {RUN, "length before marks", SMALL, FRESH, BYTES(NOBODY, 'T', 'Q', 0, 0, 0, 0, 'T')},
+     BYTES(NOBODY, NOBODY, 'T', 'O', 0, 0, 0, 0)},
+    {RUN, "length before a later mark", SMALL, FRESH, BYTES(NOBODY, 'T', 'O', 0, 0, 0, 0, 'T')},
     {RUN, "length before count", SMALL, STATE(0, 0, FULL, 0, 0, 0), BYTES(NOBODY, 'T')},
     /* Image lengths; 16 to 47,624 by eights are allowed. */
     {BEGIN, "image of 0 bytes", NO_BYTES, BYTES(ELEVEN(7)), NO_BYTES},
@@ -189,7 +191,8 @@ static const struct { const char *label; struct bytes image; } images[] = {
     {"party 3", BYTES(FIRST_ROW, ROW(2, 3, 0), SMALL_END)},
     {"party 257", BYTES(FIRST_ROW, ROW(2, 257, 0), SMALL_END)},
     {"action 16", BYTES(FIRST_ROW, ROW(2, 1, 16), SMALL_END)},
-    {"action 15", BYTES(FIRST_ROW, ROW(2, 2, 15), SMALL_END)},
+    {"action 31", BYTES(FIRST_ROW, ROW(2, 2, 31), SMALL_END)},
+    {"action 32", BYTES(FIRST_ROW, ROW(2, 1, 32), SMALL_END)},
     {"action 256", BYTES(FIRST_ROW, ROW(2, 1, 256), SMALL_END)},
     /* Unused fields in row 1 of two. */
     {"kind 0 with x", BYTES(FIRST_ROW, ROW(0, 1, 0), SMALL_END)},
@@ -284,6 +287,7 @@ static const struct sample sound[] = {
     {STEP, "V1 and V2 become true", SMALL, STATE(0, 0, 4, 0, 1, 0), BYTES(PERIOD(2, 2))},
     {STEP, "all three become true", SMALL, FRESH, BYTES(PERIOD(1, 2))},
     {STEP, "other attempts", SMALL, FRESH, BYTES(PERIOD(0xfffe, 0xfffd))},
+    {STEP, "other attempts, wide", SMALL, FRESH, BYTES(WIDE_PERIOD(0xfffffffe, 0xfffffffd))},
 };
 
 /* Counts and decision periods of several bytes. */
@@ -311,6 +315,8 @@ static const struct { enum call call; const char *label; size_t length; struct b
     {STEP, "", 23, SMALL, BYTES(PERIOD(1, 2))},
     {STEP, "", 24, SMALL, BYTES(PERIOD(1, 2))},
     {STEP, "", 30, SMALL, BYTES(PERIOD(1, 2))},
+    {STEP, "wide record, ", 23, SMALL, BYTES(WIDE_PERIOD(1, 2))},
+    {STEP, "wide record, ", 24, SMALL, BYTES(WIDE_PERIOD(1, 2))},
     {STEP, "bad record, ", 23, SMALL, BYTES('T', 'P')},
     {STEP, "bad record, ", 25, SMALL, BYTES('T', 'P')},
     {RUN, "", 0, SMALL, BYTES(PERIOD(1, 2), PERIOD(1, 2))},
@@ -318,6 +324,8 @@ static const struct { enum call call; const char *label; size_t length; struct b
     {RUN, "", 23, SMALL, BYTES(PERIOD(1, 2), PERIOD(1, 2))},
     {RUN, "", 24, SMALL, BYTES(PERIOD(1, 2), PERIOD(1, 2))},
     {RUN, "", 30, SMALL, BYTES(PERIOD(1, 2), PERIOD(1, 2))},
+    {RUN, "wide records, ", 23, SMALL, BYTES(WIDE_PERIOD(1, 2), WIDE_PERIOD(1, 2))},
+    {RUN, "wide records, ", 24, SMALL, BYTES(WIDE_PERIOD(1, 2), WIDE_PERIOD(1, 2))},
     {RUN, "bad trace, ", 23, SMALL, BYTES(PERIOD(1, 2), 'T', 'X', 0, 0, 0, 0)},
     {RUN, "bad trace, ", 25, SMALL, BYTES(PERIOD(1, 2), 'T', 'X', 0, 0, 0, 0)},
 };
@@ -325,8 +333,8 @@ static const struct { enum call call; const char *label; size_t length; struct b
 /* Images by hand that no compiler makes, of nine rows. */
 enum { WALK_STATE = MONITOR_HEAD_BYTES + 9 };
 
-/* Row 0 looks back at the later row 3; S is V1; rows 2 and 7 are unused. */
-#define FORWARD BYTES(ROW(6, 3, 0), ROW(2, 1, 2), ROW(6, 8, 0), ROW(5, 1, 0), ROW(2, 2, 15), \
+/* Row 0 looks back at the later row 3; S is V1; rows 2 and 7 are unused. By an action of each party. */
+#define FORWARD(one, two) BYTES(ROW(6, 3, 0), ROW(2, 1, one), ROW(6, 8, 0), ROW(5, 1, 0), ROW(2, 2, two), \
     ROW(4, 0, 4), ROW(1, 0, 0), ROW(3, 6, 0), ROW(0, 0, 0), END(5, 5, 8))
 
 /* Rows 0 and 1 alternate, row 0 by the later row 1; row 4 is true in period 3; V1 and V2 stay false. */
@@ -338,8 +346,11 @@ enum { WALK_STATE = MONITOR_HEAD_BYTES + 9 };
     ROW(3, 4, 0), ROW(4, 1, 3), ROW(4, 5, 1), ROW(4, 2, 4), END(8, 6, 7))
 
 static const struct { const char *name; struct bytes image, trace; } walks[] = {
-    {"forward previous, S is V1", FORWARD,
+    {"forward previous, S is V1", FORWARD(2, 15),
      BYTES(NOBODY, PERIOD(4, 0x8000), PERIOD(3, 0), PERIOD(0, 0x8000), PERIOD(4, 0), NOBODY)},
+    {"the same by actions 18 and 31", FORWARD(18, 31),
+     BYTES(WIDE_NOBODY, WIDE_PERIOD(0x40000, 0x80000000), WIDE_PERIOD(0x30004, 0x8000), WIDE_PERIOD(4, 0x80000000),
+           WIDE_PERIOD(0x40000, 0), WIDE_NOBODY)},
     {"met in period 3", LATER, BYTES(NOBODY, PERIOD(0x200, 0), PERIOD(0, 0x200), NOBODY, PERIOD(2, 2))},
     {"duties, blame 2", DUTIES, BYTES(NOBODY, PERIOD(1, 0), PERIOD(1, 1), NOBODY)},
     {"duties, blame 3", DUTIES, BYTES(PERIOD(2, 2), PERIOD(2, 2), PERIOD(1, 1))},
@@ -389,14 +400,15 @@ static void walk(const char *name, struct bytes rows, struct bytes records)
 {
     uint8_t now[WALK_STATE];
     struct bytes before = {now, sizeof now};
+    size_t record = form_bytes(form_of(records));
 
     printf("%s\nbegin:", name);
     memset(now, 255, sizeof now);
     reply_to(BEGIN, rows, before, no_bytes);
     printf("\n");
-    for (size_t k = 0; k < records.length; k += MONITOR_PERIOD_BYTES) {
+    for (size_t k = 0; k < records.length; k += record) {
         memcpy(now, start(&state), sizeof now);
-        put_after(STEP, rows, before, (struct bytes){records.at + k, MONITOR_PERIOD_BYTES});
+        put_after(STEP, rows, before, (struct bytes){records.at + k, record});
     }
     memcpy(now, start(&state), sizeof now);
     struct monitor_step_reply last = step_reply();

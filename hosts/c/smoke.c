@@ -95,7 +95,10 @@ PARTY(1, 1);
 PARTY(2, 2);
 PARTY(BOTH, 3);
 
+_Static_assert(MONITOR_ACTIONS == 32, "the number of actions");
 _Static_assert(MONITOR_MAX_WINDOW == 15, "the longest window");
+_Static_assert(MONITOR_PERIOD_BYTES == 6, "a narrow period record");
+_Static_assert(MONITOR_WIDE_PERIOD_BYTES == 10, "a wide period record");
 _Static_assert(MONITOR_MAX_ROWS == 5952, "the most rows");
 _Static_assert(MONITOR_IMAGE_BYTES(MONITOR_MAX_ROWS) == 47624, "the longest image");
 _Static_assert(MONITOR_STATE_BYTES(MONITOR_MAX_ROWS) == 5962, "its state");
@@ -110,13 +113,30 @@ static const uint8_t rows[] = {
     0x54, 0x45, 2, 0, 1, 0, 2, 0,
 };
 
-/* Three periods: party 1 tries, tries, doesn't; then one period more. */
+/* Three periods: party 1 tries, tries, doesn't; then one period more. In narrow records, and in wide ones. */
 static const uint8_t records[] = {
     0x54, 0x50, 1, 0, 0, 0,
     0x54, 0x50, 1, 0, 1, 0,
     0x54, 0x50, 0, 0, 1, 0,
     0x54, 0x50, 1, 0, 1, 0,
 };
+static const uint8_t wide_records[] = {
+    0x54, 0x51, 1, 0, 0, 0, 0, 0, 0, 0,
+    0x54, 0x51, 1, 0, 0, 0, 1, 0, 0, 0,
+    0x54, 0x51, 0, 0, 0, 0, 1, 0, 0, 0,
+    0x54, 0x51, 1, 0, 0, 0, 1, 0, 0, 0,
+};
+
+/* The first bytes of them. */
+static struct bytes narrow(size_t length)
+{
+    return (struct bytes){records, length};
+}
+
+static struct bytes wide(size_t length)
+{
+    return (struct bytes){wide_records, length};
+}
 
 enum { STATE_BYTES = MONITOR_HEAD_BYTES + 3 };
 static uint8_t stepped[STATE_BYTES], other[STATE_BYTES], before[STATE_BYTES];
@@ -129,34 +149,34 @@ static void end_line(int good)
         fault("not as expected");
 }
 
-static void step(const char *label, size_t rows_length, uint8_t *values, const uint8_t *record, struct monitor_step_reply want)
+static void step(const char *label, size_t rows_length, uint8_t *values, struct bytes record, struct monitor_step_reply want)
 {
     struct monitor_step_reply r;
 
     memset(&r, 0xff, sizeof r);
-    uint32_t result = monitor_step(rows, rows_length, values, STATE_BYTES, record, MONITOR_PERIOD_BYTES, (uint8_t *)&r, sizeof r);
+    uint32_t result = monitor_step(rows, rows_length, values, STATE_BYTES, record.at, record.length, (uint8_t *)&r, sizeof r);
     printf("%s:", label);
     PUT(result, r.number, r.verdict, r.place, r.blame, r.decision);
     end_line(result == 1 && memcmp(&r, &want, sizeof r) == 0);
 }
 
-static void run(const char *label, uint8_t *values, size_t length, struct monitor_run_reply want)
+static void run(const char *label, uint8_t *values, struct bytes trace, struct monitor_run_reply want)
 {
     struct monitor_run_reply r;
 
     memset(&r, 0xff, sizeof r);
-    uint32_t result = monitor_run(rows, sizeof rows, values, STATE_BYTES, records, length, (uint8_t *)&r, sizeof r);
+    uint32_t result = monitor_run(rows, sizeof rows, values, STATE_BYTES, trace.at, trace.length, (uint8_t *)&r, sizeof r);
     printf("%s:", label);
     PUT(result, r.number, r.verdict, r.place, r.blame, r.decision);
     end_line(result == 1 && memcmp(&r, &want, sizeof r) == 0);
 }
 
-static void decide(const char *label, size_t rows_length, size_t length, struct monitor_decide_reply want)
+static void decide(const char *label, size_t rows_length, struct bytes trace, struct monitor_decide_reply want)
 {
     struct monitor_decide_reply r;
 
     memset(&r, 0xff, sizeof r);
-    uint32_t result = monitor_decide(rows, rows_length, records, length, (uint8_t *)&r, sizeof r);
+    uint32_t result = monitor_decide(rows, rows_length, trace.at, trace.length, (uint8_t *)&r, sizeof r);
     printf("%s:", label);
     PUT(result, r.number, r.outcome, r.place, r.blame, r.decision, r.records, r.zero);
     end_line(result == 1 && memcmp(&r, &want, sizeof r) == 0);
@@ -187,17 +207,20 @@ static void steps(void)
     };
 
     for (size_t k = 0; k < COUNT(want); k++)
-        step("step", sizeof rows, stepped, records + MONITOR_PERIOD_BYTES * k, want[k]);
+        step("step", sizeof rows, stepped, (struct bytes){records + MONITOR_PERIOD_BYTES * k, MONITOR_PERIOD_BYTES}, want[k]);
 }
 
 static void runs(void)
 {
     static const struct monitor_run_reply want = {MONITOR_ACCEPTED, MONITOR_VERDICT_BROKEN_AFTER, 0, MONITOR_PARTY_1, 3};
 
-    run("run", other, sizeof records, want);
+    run("run", other, narrow(sizeof records), want);
     check("the run ends in the steps' state", memcmp(stepped, other, sizeof stepped) == 0);
+    memset(other, 0, sizeof other);
+    run("run of wide records", other, wide(sizeof wide_records), want);
+    check("it ends in the same state", memcmp(stepped, other, sizeof stepped) == 0);
     memcpy(before, stepped, sizeof stepped);
-    run("run of no record", stepped, 0, want);
+    run("run of no record", stepped, narrow(0), want);
 }
 
 /* Without a state. Of the four records the third decides. */
@@ -208,10 +231,12 @@ static void decides(void)
     static const struct monitor_decide_reply violated = {.outcome = MONITOR_OUTCOME_VIOLATED, .blame = MONITOR_PARTY_1,
                                                          .decision = 3, .records = 3};
 
-    decide("decide", sizeof rows, sizeof records, violated);
-    decide("decide of 3 records", sizeof rows, 3 * MONITOR_PERIOD_BYTES, violated);
-    decide("decide of 2 records", sizeof rows, 2 * MONITOR_PERIOD_BYTES, open);
-    decide("decide of no record", sizeof rows, 0, nothing);
+    decide("decide", sizeof rows, narrow(sizeof records), violated);
+    decide("decide of 3 records", sizeof rows, narrow(3 * MONITOR_PERIOD_BYTES), violated);
+    decide("decide of 2 records", sizeof rows, narrow(2 * MONITOR_PERIOD_BYTES), open);
+    decide("decide of no record", sizeof rows, narrow(0), nothing);
+    decide("decide of wide records", sizeof rows, wide(sizeof wide_records), violated);
+    decide("decide of 2 wide records", sizeof rows, wide(2 * MONITOR_WIDE_PERIOD_BYTES), open);
 }
 
 static void refusals(void)
@@ -222,14 +247,15 @@ static void refusals(void)
     static const struct monitor_step_reply bad_image = {.number = MONITOR_REFUSED_BAD_IMAGE};
     static const struct monitor_step_reply bad_state = {.number = MONITOR_REFUSED_BAD_STATE};
 
-    run("run of 7 bytes", stepped, 7, bad_period);
-    step("step with a short image", sizeof rows - 1, stepped, records, bad_image);
+    run("run of 7 bytes", stepped, narrow(7), bad_period);
+    run("run of 12 bytes of wide records", stepped, wide(12), bad_period);
+    step("step with a short image", sizeof rows - 1, stepped, narrow(MONITOR_PERIOD_BYTES), bad_image);
     check("the state is kept", memcmp(stepped, before, sizeof stepped) == 0);
     memset(other, 3, sizeof other);
     memcpy(before, other, sizeof other);
-    step("step on an unsound state", sizeof rows, other, records, bad_state);
-    decide("decide of 19 bytes", sizeof rows, 19, bad_trace);
-    decide("decide with a short image", sizeof rows - 1, 19, no_image);
+    step("step on an unsound state", sizeof rows, other, wide(MONITOR_WIDE_PERIOD_BYTES), bad_state);
+    decide("decide of 19 bytes", sizeof rows, narrow(19), bad_trace);
+    decide("decide with a short image", sizeof rows - 1, narrow(19), no_image);
 }
 
 static void short_areas(void)

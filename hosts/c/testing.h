@@ -27,6 +27,14 @@ static inline void check(const char *label, int good)
         faults++;
 }
 
+/* Ends a line: of how many something holds that should hold of all. */
+static inline void put_count(size_t good, size_t all)
+{
+    printf(" %u of %u\n", (unsigned)good, (unsigned)all);
+    if (good != all)
+        faults++;
+}
+
 static inline void put_numbers(const uint64_t *numbers, size_t count)
 {
     for (size_t k = 0; k < count; k++)
@@ -42,12 +50,33 @@ static inline void put_bytes(const uint8_t *from, size_t length)
         PUT(from[k]);
 }
 
-/* Periods or values with the same answer. */
-static inline void put_range(unsigned from, unsigned to)
+/* Periods or values, a range of them for each answer. */
+static inline void put_ranges(unsigned from, unsigned to, int (*same)(unsigned, unsigned), void (*put_answer)(unsigned))
 {
-    PUT(from);
-    if (from < to)
-        printf("-%u", to);
+    for (unsigned k = from; k <= to; k++) {
+        if (k < to && same(k, k + 1))
+            continue;
+        PUT(from);
+        if (from < k)
+            printf("-%u", k);
+        put_answer(k);
+        if (k < to)
+            printf(",");
+        from = k + 1;
+    }
+}
+
+/* ---- texts of words with blanks between them */
+
+static inline size_t word_length(const char *text)
+{
+    return strcspn(text, " ");
+}
+
+static inline const char *next_word(const char *text)
+{
+    text += word_length(text);
+    return text + strspn(text, " ");
 }
 
 /* ---- bytes that are given, as a field of a table outside functions */
@@ -60,12 +89,38 @@ struct bytes {
 #define BYTES(...) {(const uint8_t[]){__VA_ARGS__}, sizeof((const uint8_t[]){__VA_ARGS__})}
 #define NO_BYTES {(const uint8_t *)"", 0}
 
-/* A two-byte field; a row, an end record, and a period record with both parties' attempts. */
+/* Fields of two and of four bytes; a row, an end record, and a narrow and a wide period record with both parties' attempts. */
 #define TWO(n) (n) & 255, (n) >> 8 & 255
+#define FOUR(n) TWO(n), TWO((n) >> 16)
 #define ROW(kind, x, y) 'T', 'R', kind, 0, TWO(x), TWO(y)
 #define END(s, v1, v2) 'T', 'E', TWO(s), TWO(v1), TWO(v2)
 #define PERIOD(first, second) 'T', 'P', TWO(first), TWO(second)
 #define NOBODY PERIOD(0, 0)
+#define WIDE_PERIOD(first, second) 'T', 'Q', FOUR(first), FOUR(second)
+#define WIDE_NOBODY WIDE_PERIOD(0, 0)
+
+/* The forms of a period record, and how many bytes it has. */
+enum form { NARROW, WIDE };
+
+static inline size_t form_bytes(enum form form)
+{
+    return form == WIDE ? MONITOR_WIDE_PERIOD_BYTES : MONITOR_PERIOD_BYTES;
+}
+
+/* The form of a trace, by its first record's mark. */
+static inline enum form form_of(struct bytes records)
+{
+    return records.length > 1 && records.at[1] == 'Q' ? WIDE : NARROW;
+}
+
+/* Writes a period record, and says how many bytes it has. */
+static inline size_t put_period(uint8_t *to, enum form form, uint32_t first, uint32_t second)
+{
+    const uint8_t narrow[] = {MONITOR_PERIOD(first, second)}, wide[] = {MONITOR_WIDE_PERIOD(first, second)};
+
+    memcpy(to, form == WIDE ? wide : narrow, form_bytes(form));
+    return form_bytes(form);
+}
 
 /* Row 0 of kind 3. */
 #define BAD_IMAGE BYTES(ROW(3, 0, 0), END(0, 0, 0))
@@ -310,6 +365,16 @@ static inline struct monitor_run_reply take_run(struct bytes records)
     if (result != 1 || r.number != MONITOR_ACCEPTED || r.place != 0)
         fault("run: not accepted");
     return r;
+}
+
+/* ---- period records, in the trace's area */
+
+static inline void add_period(enum form form, uint32_t first, uint32_t second)
+{
+    size_t end = trace.length;
+
+    cut(&trace, end + form_bytes(form));
+    put_period(start(&trace) + end, form, first, second);
 }
 
 /* ---- contracts by letters, and nests, in the contract's area */

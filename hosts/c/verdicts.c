@@ -1,6 +1,7 @@
-/* Contracts of every kind, compiled and stepped: the verdict, the blame and the decision period after a trace. */
-/* Document 01, "Expressions" and "Meaning of clauses"; document 02, "Duties with a deadline" and "Duties that both parties */
-/* own". What it prints is held to the file verdicts.expected. */
+/* Contracts of every kind, compiled and stepped: the verdict, the blame and the decision period after a trace, in narrow */
+/* records; then how the answers in wide ones compare. */
+/* Document 01, "Expressions" and "Meaning of clauses"; document 02, "Duties with a deadline", "Duties that both parties own" */
+/* and "Thirty-two actions". What it prints is held to the file verdicts.expected. */
 #include "testing.h"
 
 /* A record is its letter, and after it its party, 1 or 2, or for a duty of both 3, its action, a to p, and its window, 1 to 9, */
@@ -119,7 +120,16 @@ static const struct { const char *contract, *trace; } samples[] = {
     {"D1a A T1b . U B1a B1b ; ;", "a/a b/- -/-"},
 };
 
-static void spell(const char *text)
+/* How a sample is taken: the form of its records, by how much every action of contract and trace is raised, and the attempts */
+/* of both parties in each period: the sample's (or none), and these. */
+struct way {
+    enum form form;
+    unsigned raised;
+    int as_spelled;
+    uint32_t always;
+};
+
+static void spell(const char *text, unsigned raised)
 {
     size_t numbered = 0; /* the field that a number is for */
 
@@ -128,7 +138,7 @@ static void spell(const char *text)
         if (*text >= '1' && *text <= '9') {
             *field(numbered) = (uint8_t)(*text - '0');
         } else if (*text >= 'a' && *text <= 'p') {
-            *field(4) = (uint8_t)(*text - 'a');
+            *field(4) = (uint8_t)(*text - 'a' + raised);
             numbered = 5;
         } else if (*text != ' ') {
             add_record(kind_of(*text), 0, 0);
@@ -137,51 +147,108 @@ static void spell(const char *text)
     }
 }
 
-/* One period, the text up to a blank. */
-static struct monitor_step_reply step(const char *text, size_t length)
+/* The record of one period, a word of the text, at the trace's end. */
+static void add_spelled(const char *text, size_t length, struct way way)
 {
-    unsigned tries[2] = {0, 0}, party = 0;
+    uint32_t tries[2] = {way.always, way.always}, party = 0;
 
     for (size_t k = 0; k < length; k++) {
         if (text[k] == '/')
             party = 1;
-        else if (text[k] != '-')
-            tries[party] |= 1u << (text[k] - 'a');
+        else if (text[k] != '-' && way.as_spelled)
+            tries[party] |= (uint32_t)1 << (text[k] - 'a' + way.raised);
     }
-    return take_step((struct bytes)BYTES(MONITOR_PERIOD(tries[0], tries[1])));
+    add_period(way.form, tries[0], tries[1]);
 }
 
-/* The last period's reply. */
-static struct monitor_step_reply steps(const char *text)
-{
-    struct monitor_step_reply r = {0};
+/* What the calls answer: each step, a run over the whole trace, decide, and the states that steps and run leave. */
+enum { MAX_PERIODS = 16 };
+struct answers {
+    size_t periods;
+    struct monitor_step_reply steps[MAX_PERIODS];
+    struct monitor_run_reply run;
+    struct monitor_decide_reply decided;
+    struct area stepped, after_run;
+};
 
-    while (*text != '\0') {
-        size_t length = strcspn(text, " ");
-        r = step(text, length);
-        text += length;
-        text += strspn(text, " ");
-    }
-    return r;
+static void take(const char *spelled, const char *text, struct way way, struct answers *a)
+{
+    uint8_t records[MAX_PERIODS * MONITOR_WIDE_PERIOD_BYTES];
+    size_t record = form_bytes(way.form);
+
+    memset(a, 0, sizeof *a);
+    spell(spelled, way.raised);
+    compile_taken();
+    cut(&trace, 0);
+    for (; *text != '\0'; text = next_word(text))
+        add_spelled(text, word_length(text), way);
+    struct bytes whole = {records, trace.length};
+    memcpy(records, start(&trace), whole.length);
+
+    begin();
+    for (a->periods = 0; a->periods < whole.length / record; a->periods++)
+        a->steps[a->periods] = take_step((struct bytes){records + a->periods * record, record});
+    a->stepped = state;
+    begin();
+    a->run = take_run(whole);
+    a->after_run = state;
+    copy(&trace, whole);
+    if (lend(DECIDE, sizeof a->decided) != 1)
+        fault("decide: no reply");
+    a->decided = decide_reply();
 }
 
-/* A run of no record gives the last step's reply once more. */
-static void check_run(struct monitor_step_reply last)
+/* The run and decide end as the steps do, and a run of no record says so once more. */
+static void check_whole(const struct answers *a)
 {
+    struct monitor_step_reply last = a->steps[a->periods - 1];
+
+    if (!agree(last, a->run) || memcmp(a->stepped.all, a->after_run.all, sizeof a->stepped.all) != 0)
+        fault("the run ends otherwise than the steps");
     if (!agree(last, take_run((struct bytes)NO_BYTES)))
         fault("the run of no record has another reply");
+    if (a->decided.number != MONITOR_ACCEPTED || a->decided.blame != last.blame || a->decided.decision != last.decision ||
+        a->decided.records != (last.decision != 0 ? last.decision : a->periods))
+        fault("decide ends otherwise than the steps");
+}
+
+static int same_replies(const struct answers *a, const struct answers *b)
+{
+    return a->periods == b->periods && memcmp(a->steps, b->steps, sizeof a->steps) == 0 &&
+           memcmp(&a->run, &b->run, sizeof a->run) == 0 && memcmp(&a->decided, &b->decided, sizeof a->decided) == 0;
+}
+
+static int same_states(const struct answers *a, const struct answers *b)
+{
+    return memcmp(a->stepped.all, b->stepped.all, sizeof a->stepped.all) == 0;
 }
 
 int main(void)
 {
+    enum { LOW = 0xffff };
+    static struct answers narrow, wide, upper, low, none;
+    size_t in_wide = 0, in_upper = 0, never = 0;
+
     for (size_t k = 0; k < COUNT(samples); k++) {
-        spell(samples[k].contract);
-        compile_taken();
-        begin();
-        struct monitor_step_reply r = steps(samples[k].trace);
-        check_run(r);
-        printf("%s: %s: %s %u, decided %u\n", samples[k].contract, samples[k].trace, verdict_name(r.verdict), (unsigned)r.blame,
-               (unsigned)r.decision);
+        const char *spelled = samples[k].contract, *text = samples[k].trace;
+        take(spelled, text, (struct way){NARROW, 0, 1, 0}, &narrow);
+        check_whole(&narrow);
+        struct monitor_step_reply r = narrow.steps[narrow.periods - 1];
+        printf("%s: %s: %s %u, decided %u\n", spelled, text, verdict_name(r.verdict), (unsigned)r.blame, (unsigned)r.decision);
+
+        take(spelled, text, (struct way){WIDE, 0, 1, 0}, &wide);
+        in_wide += same_replies(&wide, &narrow) && same_states(&wide, &narrow);
+        take(spelled, text, (struct way){WIDE, 16, 1, LOW}, &upper);
+        in_upper += same_replies(&upper, &narrow);
+        take(spelled, text, (struct way){NARROW, 16, 0, LOW}, &low);
+        take(spelled, text, (struct way){WIDE, 16, 0, 0}, &none);
+        never += same_replies(&low, &none) && same_states(&low, &none);
     }
+    printf("the same replies and states in wide records:");
+    put_count(in_wide, COUNT(samples));
+    printf("the same replies where every action is 16 higher, and actions 0 to 15 are always tried:");
+    put_count(in_upper, COUNT(samples));
+    printf("narrow records that try actions 0 to 15 try none of 16 to 31:");
+    put_count(never, COUNT(samples));
     return faults != 0;
 }

@@ -537,8 +537,8 @@ fn put_record(
     ensures written { λ _. ⌜ now (image .exit) ≡ recordWritten (now (image .entry)) (basesOf at s k left right (r .party) (r .action)) plan at (left .next) ⌝ }
     ensures gives { λ b. ⌜ b ≡ recordBlock (basesOf at s k left right (r .party) (r .action)) plan (r .kind) (r .party) left right ⌝ }
 {
-    let party = records::wide(r.party);
-    let action = records::wide(r.action);
+    let party = records::widened(r.party);
+    let action = records::widened(r.action);
     let meant = bases(at, s, k, left, right, party, action);
     put_own(image, plan, at, left.next, &meant);
     block_of(&meant, plan, r, left, right)

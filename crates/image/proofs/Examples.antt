@@ -3,9 +3,9 @@ use mathlib.Core.Path.{refl}
 use Rattle.records.specs.Fields.{bytes, field, value}
 use Rattle.records.specs.Marks.{marked}
 use Rattle.records.specs.Refusals.{firstFailing}
-use Rattle.periods.specs.Forms.{formOf}
+use Rattle.periods.specs.Forms.{eitherMark}
 use Rattle.periods.specs.Periods.{tries, bit, periodFrom}
-use Rattle.periods.specs.Traces.{wholePeriods, markedAs, periodAt, periodsOf, marksTest, periodTest}
+use Rattle.periods.specs.Traces.{wholePeriods, periodAt, periodsOf, markedAt, marksTest, formOf, formTest, startTest, periodTest}
 use Rattle.layout.specs.Rows.{rowOf, encode, decode}
 use Rattle.layout.specs.Images.{imageBytes, rowsBytes, endBytes, rowCount, rowsOf, imageOf, goodImageLength, goodRowAt, goodEnd}
 use Rattle.layout.specs.Refusals.{imageTest}
@@ -74,8 +74,8 @@ unfolding
     replies repliesFrom decidedReplies decide decideTest unreadTest recordsRead stateAfterRecords periodsOf afterPeriods read Reader.goodContractLength Reader.contractRecords readRecords readRecord firstNumbered kindOf goodFields operandsOf node imageFor image
     rowsFor clauseRows outputsOf afterClause imageBytes rowsBytes endBytes encode begin step call beginTest stepTest readyTest fieldsBytes
     imageTest goodImageLength rowCount firstFailing goodRowAt goodEnd decode rowOf imageOf rowsOf stateTest stateOf stateBytes sound allAtMost allZero
-    periodTest marksTest formOf wholePeriods markedAs countTest afterPeriod valuesAfter newValues computed counted periodAt periodFrom tries bit marked bytes field value
-watch-vector = record { replied = refl; decided = refl }
+    periodTest formTest startTest marksTest eitherMark formOf wholePeriods markedAt countTest afterPeriod valuesAfter newValues computed counted periodAt periodFrom tries bit marked bytes field value
+watch-vector = record { replied = refl; replied-wide = refl; decided = refl; decided-wide = refl; upper-action = refl }
 
 pub decision-vectors : DecisionVectors
 decision-vectors = record { records = refl }

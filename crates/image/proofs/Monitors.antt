@@ -17,7 +17,7 @@ use Rattle.records.proofs.Refusals.{first-passed, require-passed, passed-not}
 use Rattle.records.specs.Replies.{unwritten, written, call, headSize}
 use Rattle.records.proofs.Replies.{call-no-room, call-refused}
 use Rattle.periods.specs.Periods.{Period}
-use Rattle.periods.specs.Traces.{periodRecords, periodAt, periodsOf, periodTest}
+use Rattle.periods.specs.Traces.{formOf, periodRecords, tracePeriods, periodIn, periodTest}
 use Rattle.periods.proofs.Traces.{periods-split}
 use Rattle.layout.specs.Images.{rowCount, imageOf}
 use Rattle.states.specs.Limits.{headBytes, maxPeriods}
@@ -108,10 +108,10 @@ module _ (c : Clause) (image : List ℕ) (right : RightFor c image) where
 
     -- the state and the answer after the call's own period
     abbrev next : List Period
-    next = w ++ (periodAt (k .period) 0 ∷ [])
+    next = w ++ (periodIn (k .period) ∷ [])
 
-    later-at : afterPeriod (imageOf image) (periodAt (k .period) 0) (stateOf state) ≡ reached next
-    later-at = rw (h .is) (sym (after-snoc (imageOf image) fresh w (periodAt (k .period) 0)))
+    later-at : afterPeriod (imageOf image) (periodIn (k .period)) (stateOf state) ≡ reached next
+    later-at = rw (h .is) (sym (after-snoc (imageOf image) fresh w (periodIn (k .period))))
 
     room-to-count : accepts (length w) k ≡ true → length w < maxPeriods
     unfolding callTest
@@ -178,21 +178,21 @@ module _ (c : Clause) (image : List ℕ) (right : RightFor c image) where
     last = recordsRead image trace
 
     abbrev all : List Period
-    all = periodsOf trace (periodRecords trace)
+    all = tracePeriods trace (periodRecords trace)
 
-    shows-read : (k : ℕ) → Shows (meaning c (periodsOf trace k)) (stateAfterRecords image trace k)
+    shows-read : (k : ℕ) → Shows (meaning c (tracePeriods trace k)) (stateAfterRecords image trace k)
     unfolding stateAfterRecords
-    shows-read k = right .shows (periodsOf trace k)
+    shows-read k = right .shows (tracePeriods trace k)
 
     -- undecided, all is read; and a decision stands
-    read-alone : EmptyFree c → meaning c (periodsOf trace last) ≡ meaning c all
+    read-alone : EmptyFree c → meaning c (tracePeriods trace last) ≡ meaning c all
     read-alone g =
-        let v = periods-split trace last (periodRecords trace) (few-read image trace) in
+        let v = periods-split (formOf trace) trace last (periodRecords trace) (few-read image trace) in
         ⊎-elim
         (λ o. let e : last ≡ periodRecords trace = read-is image trace ∙ rw o in rw e)
-        (λ f. let decided : ¬ (meaning c (periodsOf trace last) ≡ undecided) =
+        (λ f. let decided : ¬ (meaning c (tracePeriods trace last) ≡ undecided) =
         λ e. eqb-false (stateAfterRecords image trace last .outcome) 0 f (rw e at (shows-read last .outcome-is)) in
-        rw (v .1) (sym (stands c g (periodsOf trace last) (v .0) decided)))
+        rw (v .1) (sym (stands c g (tracePeriods trace last) (v .0) decided)))
         (true-or-false (undecidedAfter image trace last))
 
     records-meant : EmptyFree c → meantRecords c trace ≡ last

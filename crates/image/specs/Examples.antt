@@ -4,7 +4,7 @@
 use Prim.Native.Nat.{ℕ, _+_}
 use mathlib.Core.List.{List, [], _∷_, _++_, map}
 use mathlib.Core.Path.{_≡_}
-use lib.ListN.{length, take, replicate}
+use lib.ListN.{length, take, drop, replicate}
 use Rattle.records.specs.Examples.{area}
 use Rattle.records.specs.Verdicts.{Verdict, «open», met, broken, broken-after}
 use Rattle.periods.specs.Periods.{party1, party2, Period}
@@ -147,6 +147,14 @@ watchedRecords =
     ∷ (0x54 ∷ 0x50 ∷ 0x02 ∷ 0x00 ∷ 0x00 ∷ 0x00 ∷ [])
     ∷ (0x54 ∷ 0x50 ∷ 0x01 ∷ 0x00 ∷ 0x01 ∷ 0x00 ∷ []) ∷ []
 
+-- the same attempts in wide records
+abbrev pub watchedWide : List (List ℕ)
+watchedWide =
+    (0x54 ∷ 0x51 ∷ 0x01 ∷ 0x00 ∷ 0x00 ∷ 0x00 ∷ 0x01 ∷ 0x00 ∷ 0x00 ∷ 0x00 ∷ [])
+    ∷ (0x54 ∷ 0x51 ∷ 0x00 ∷ 0x00 ∷ 0x00 ∷ 0x00 ∷ 0x00 ∷ 0x00 ∷ 0x00 ∷ 0x00 ∷ [])
+    ∷ (0x54 ∷ 0x51 ∷ 0x02 ∷ 0x00 ∷ 0x00 ∷ 0x00 ∷ 0x00 ∷ 0x00 ∷ 0x00 ∷ 0x00 ∷ [])
+    ∷ (0x54 ∷ 0x51 ∷ 0x01 ∷ 0x00 ∷ 0x00 ∷ 0x00 ∷ 0x01 ∷ 0x00 ∷ 0x00 ∷ 0x00 ∷ []) ∷ []
+
 -- the replies of one step call after another
 unfoldable pub repliesFrom : (image state : List ℕ) → (records : List (List ℕ)) → List (List ℕ)
 repliesFrom image state [] = []
@@ -170,8 +178,16 @@ pub record WatchVector : Type 0 where
   pub replied :
       replies watchedBytes watchedRecords
       ≡ reply 0 0 0 0 0 ∷ reply 0 0 0 0 0 ∷ reply 0 2 0 2 3 ∷ reply 0 4 0 2 3 ∷ []
+  -- in wide records, and in narrow ones and then wide ones
+  pub replied-wide :
+      map (replies watchedBytes) (watchedWide ∷ (take 2 watchedRecords ++ drop 2 watchedWide) ∷ [])
+      ≡ replicate 2 (reply 0 0 0 0 0 ∷ reply 0 0 0 0 0 ∷ reply 0 2 0 2 3 ∷ reply 0 4 0 2 3 ∷ [])
   -- number, outcome, place, blame, decision period, records read
   pub decided : decidedReplies watchedBytes watchedRecords ≡ decideReply 0 0 0 0 0 2 ∷ replicate 3 (decideReply 0 2 0 2 3 3)
+  pub decided-wide : decide (imageFor watchedBytes) (joined watchedWide) (area 32) .reply ≡ decideReply 0 2 0 2 3 3
+  -- a duty of action 31: both parties try it; all that a narrow record can try
+  pub upper-action : map (replies (six 1 1 31)) (((0x54 ∷ 0x51 ∷ 0 ∷ 0 ∷ 0 ∷ 0x80 ∷ 0 ∷ 0 ∷ 0 ∷ 0x80 ∷ []) ∷ []) ∷ ((0x54 ∷ 0x50 ∷ replicate 4 0xff) ∷ []) ∷ [])
+      ≡ (reply 0 1 0 0 1 ∷ []) ∷ (reply 0 2 0 1 1 ∷ []) ∷ []
 
 -- "the decision period, or the trace's record count when undecided", of 5 records
 pub record DecisionVectors : Type 0 where

@@ -15,7 +15,7 @@ use Rattle.records.specs.declared.Test.the-variants.{Passed}
 use Rattle.records.specs.Refusals.{firstOf, require}
 use Rattle.records.specs.Replies.{Answer, alone, replyOf, unwritten, written, call, headSize}
 use Rattle.periods.specs.Periods.{Period}
-use Rattle.periods.specs.Traces.{periodRecords, periodAt, periodsOf, marksTest, periodTest, traceLengthTest}
+use Rattle.periods.specs.Traces.{marksTest, formOf, periodRecords, tracePeriods, startTest, periodIn, periodTest}
 use Rattle.layout.specs.Images.{rowCount}
 use Rattle.states.specs.Limits.{headBytes, maxPeriods}
 use Rattle.states.specs.States.{stateOf}
@@ -37,7 +37,7 @@ accepts n c = acceptedBy (callTest n (c .period)) c
 
 -- "The accepted steps' periods, in order, are the periods so far": after one call more
 unfoldable pub periodsAfter : List Period → StepCall → List Period
-periodsAfter w c = cond (accepts (length w) c) (w ++ (periodAt (c .period) 0 ∷ [])) w
+periodsAfter w c = cond (accepts (length w) c) (w ++ (periodIn (c .period) ∷ [])) w
 
 -- number 0, place 0 and exactly the verdict, blame and decision period of the clause's meaning on these periods
 unfoldable pub meantAnswer : Clause → List Period → Answer
@@ -76,17 +76,18 @@ recordsFor (violated k b) n = k
 abbrev pub meantRecords : Clause → (trace : List ℕ) → ℕ
 meantRecords clause trace =
     let n = periodRecords trace in
-    recordsFor (meaning clause (periodsOf trace n)) n
+    recordsFor (meaning clause (tracePeriods trace n)) n
 
--- "length is still tested first. A trace of more than 4,294,967,295 records meets 12 next."; then the marks of the records read
+-- the first record's mark, then "length is still tested first. A trace of more than 4,294,967,295 records meets 12 next."; then the marks of the records
+-- read
 unfoldable pub traceTestFor : Clause → (trace : List ℕ) → Test
 traceTestFor clause trace =
-    firstOf (firstOf (traceLengthTest trace) (countTest 0 (periodRecords trace))) (marksTest trace (meantRecords clause trace))
+    firstOf (firstOf (startTest trace) (countTest 0 (periodRecords trace))) (marksTest (formOf trace) trace (meantRecords clause trace))
 
 -- the decision of the clause's meaning on the trace's periods, and the records read
 unfoldable pub meantTraceAnswer : Clause → (trace : List ℕ) → Answer
 meantTraceAnswer clause trace =
-    let d = meaning clause (periodsOf trace (periodRecords trace)) in
+    let d = meaning clause (tracePeriods trace (periodRecords trace)) in
     decideAnswer (outcome d) (blame d) (decisionPeriod d) (meantRecords clause trace)
 
 -- The image monitors the contract: the contract's records spell a clause, which decides every list of periods at one period or at none; begin,

@@ -62,10 +62,10 @@ pub record ImageVectors : Type 0 where
   pub longest : map (λ (n : ℕ). goodImageLength (replicate n 0)) (16 ∷ 47616 ∷ 47624 ∷ 47632 ∷ []) ≡ true ∷ true ∷ true ∷ false ∷ []
   -- the table's small input: row 0 of kind 3
   pub row-0-of-kind-3 : numberAndPlace (imageTest (row 3 0 0 ++ end 0 0 0)) ≡ (9, 0)
-  -- each kind; kind 2 of either party, and of action 15; kind 6 of a lower row, of itself, and of a higher one
+  -- each kind; kind 2 of either party, and of actions 16 and 31; kind 6 of a lower row, of itself, and of a higher one
   pub good-rows :
-      map ofRow2 (row 0 0 0 ∷ row 1 0 0 ∷ row 2 1 0 ∷ row 2 2 15 ∷ row 3 1 0 ∷ row 4 1 0 ∷ row 5 0 1 ∷ row 6 1 0 ∷ row 6 2 0 ∷ [])
-      ≡ replicate 9 (0, 0)
+      map ofRow2 (row 0 0 0 ∷ row 1 0 0 ∷ row 2 1 0 ∷ row 2 1 16 ∷ row 2 2 31 ∷ row 3 1 0 ∷ row 4 1 0 ∷ row 5 0 1 ∷ row 6 1 0 ∷ row 6 2 0 ∷ [])
+      ≡ replicate 10 (0, 0)
   pub higher-row : numberAndPlace (imageTest (row 6 1 0 ++ row 0 0 0 ++ end 0 0 0)) ≡ (0, 0)
   -- either byte of the mark; the zero byte; kind 7
   pub bad-marks :
@@ -73,8 +73,8 @@ pub record ImageVectors : Type 0 where
       ((0x55 ∷ 0x52 ∷ 0 ∷ 0 ∷ 0 ∷ 0 ∷ 0 ∷ 0 ∷ []) ∷ (0x54 ∷ 0x45 ∷ 0 ∷ 0 ∷ 0 ∷ 0 ∷ 0 ∷ 0 ∷ [])
       ∷ (0x54 ∷ 0x52 ∷ 0 ∷ 1 ∷ 0 ∷ 0 ∷ 0 ∷ 0 ∷ []) ∷ row 7 0 0 ∷ [])
       ≡ replicate 4 (9, 2)
-  -- kind 2 of parties 0 and 3, of action 16
-  pub bad-attempts : map ofRow2 (row 2 0 0 ∷ row 2 3 0 ∷ row 2 1 16 ∷ []) ≡ replicate 3 (9, 2)
+  -- kind 2 of parties 0 and 3, of action 32
+  pub bad-attempts : map ofRow2 (row 2 0 0 ∷ row 2 3 0 ∷ row 2 1 32 ∷ []) ≡ replicate 3 (9, 2)
   -- "In 3 to 5 the fields name lower rows; in 6 any row of the image."
   pub bad-names :
       map ofRow2 (row 3 2 0 ∷ row 3 3 0 ∷ row 4 2 0 ∷ row 4 0 2 ∷ row 5 2 0 ∷ row 5 0 2 ∷ row 6 3 0 ∷ [])

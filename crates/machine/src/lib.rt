@@ -5,7 +5,7 @@ ghost use mathlib.Core.Option.{Option·getD};
 ghost use Prim.Native.Nat.{_*_, _<_, _≤_};
 ghost use lib.ListN.{length, getD};
 ghost use Rattle.periods.specs.Computing.{periodOf};
-ghost use Rattle.periods.specs.Traces.{periodRecords, periodsOf};
+ghost use Rattle.periods.specs.Traces.{wholePeriods, formOf, periodRecords, tracePeriods};
 ghost use Rattle.layout.specs.Rows.{never, rowOf};
 ghost use Rattle.layout.specs.Images.{imageOf};
 ghost use Rattle.states.specs.Limits.{headBytes};
@@ -14,6 +14,7 @@ ghost use Rattle.machine.specs.Machine.{byteOf, value, outcomeOf, blameO
 ghost use Rattle.machine.specs.Premises.{Ready, takesNext, Takes};
 ghost use Rattle.machine.specs.Computing.{firstBits, valuesIn, trimmed, packed, oldIn, newBits, KindRow, NextRow, RowValues, HasRows, withDecision, decidedBytes, Working, Advanced};
 use periods::Attempts;
+use periods::Form;
 
 // What row x was in the period before, where the first k rows have new values.
 fn old_value(values: &[u8], k: usize, x: usize) -> u8
@@ -148,10 +149,10 @@ fn advance(image: &[u8], state: &mut [u8], a: Attempts)
     }
 }
 
-// Whether the state takes record k of a trace next: always or, where the taking stops, if it is undecided and the record has its mark.
-fn takes_next(state: &[u8], trace: &[u8], k: usize, stops: bool) -> bool
-    requires { ⌜ (headBytes ≤ length (now state)) × (k < periodRecords (now trace)) ⌝ }
-    ensures { λ r. ⌜ r ≡ takesNext stops (getD (now (state .entry)) 0 0) (now (trace .entry)) k ⌝ }
+// Whether the state takes record k of a form next: always or, where the taking stops, if it is undecided and the record has the mark.
+fn takes_next(state: &[u8], form: Form, trace: &[u8], k: usize, stops: bool) -> bool
+    requires { ⌜ (headBytes ≤ length (now state)) × (k < wholePeriods form (now trace)) ⌝ }
+    ensures { λ r. ⌜ r ≡ takesNext stops (getD (now (state .entry)) 0 0) form (now (trace .entry)) k ⌝ }
 {
     if !stops {
         return true;
@@ -159,17 +160,24 @@ fn takes_next(state: &[u8], trace: &[u8], k: usize, stops: bool) -> bool
     if state[0] != 0 {
         return false;
     }
-    periods::is_marked(trace, k)
+    periods::is_marked(form, trace, k)
 }
 
-// The periods of a trace's first n records, one after the other, as far as they are to be taken. Gives how many were.
-fn take_records(image: &[u8], state: &mut [u8], trace: &[u8], n: usize, stops: bool) -> usize
-    requires { ⌜ Ready (now image) (now state) n × (n ≤ periodRecords (now trace)) ⌝ }
-    ensures { λ r. ⌜ Takes stops (now (image .entry)) (now (state .entry)) (now (trace .entry)) n (now (state .exit)) r ⌝ }
+// The periods of the first n records of a form, one after the other, as far as they are to be taken. Gives how many were.
+fn take_records(
+    image: &[u8],
+    state: &mut [u8],
+    form: Form,
+    trace: &[u8],
+    n: usize,
+    stops: bool,
+) -> usize
+    requires { ⌜ Ready (now image) (now state) n × (n ≤ wholePeriods form (now trace)) ⌝ }
+    ensures { λ r. ⌜ Takes stops (now (image .entry)) (now (state .entry)) form (now (trace .entry)) n (now (state .exit)) r ⌝ }
 {
     let mut k = 0;
-    while k < n && takes_next(state, trace, k, stops) {
-        advance(image, state, periods::read_period(trace, k));
+    while k < n && takes_next(state, form, trace, k, stops) {
+        advance(image, state, periods::read_period(form, trace, k));
         k += 1;
     }
     trim(state);
@@ -179,16 +187,16 @@ fn take_records(image: &[u8], state: &mut [u8], trace: &[u8], n: usize, stops: b
 // The periods of a trace's first n records.
 pub fn take_periods(image: &[u8], state: &mut [u8], trace: &[u8], n: usize)
     requires { ⌜ Ready (now image) (now state) n × (n ≤ periodRecords (now trace)) ⌝ }
-    ensures { λ _. ⌜ now (state .exit) ≡ stateBytes (afterPeriods (imageOf (now (image .entry))) (stateOf (now (state .entry))) (periodsOf (now (trace .entry)) n)) ⌝ }
+    ensures { λ _. ⌜ now (state .exit) ≡ stateBytes (afterPeriods (imageOf (now (image .entry))) (stateOf (now (state .entry))) (tracePeriods (now (trace .entry)) n)) ⌝ }
 {
-    take_records(image, state, trace, n, false);
+    take_records(image, state, periods::form_of(trace), trace, n, false);
 }
 
 // The periods of a trace's records, one after the other, as long as the state is undecided and the next of the first n records has
 // its mark. Gives how many were taken.
 pub fn take_while_undecided(image: &[u8], state: &mut [u8], trace: &[u8], n: usize) -> usize
     requires { ⌜ Ready (now image) (now state) n × (n ≤ periodRecords (now trace)) ⌝ }
-    ensures { λ r. ⌜ Takes true (now (image .entry)) (now (state .entry)) (now (trace .entry)) n (now (state .exit)) r ⌝ }
+    ensures { λ r. ⌜ Takes true (now (image .entry)) (now (state .entry)) (formOf (now (trace .entry))) (now (trace .entry)) n (now (state .exit)) r ⌝ }
 {
-    take_records(image, state, trace, n, true)
+    take_records(image, state, periods::form_of(trace), trace, n, true)
 }

@@ -4,4 +4,5 @@ pub mod Periods
 pub mod Recorded
 pub mod Traces
 pub mod First
+pub mod SameAttempts
 pub mod Examples

@@ -1,5 +1,5 @@
 -- The periods that records can hold, and what is left of any period without the bits above the last action. Document 01, "Records".
-use Prim.Native.Nat.{ℕ, _+_, _-_, _/_, _%_, _^_, _<_}
+use Prim.Native.Nat.{ℕ, zero, suc, _+_, _-_, _/_, _%_, _^_, _<_}
 use native.Mathlib.Nat.{mod-lt}
 use native.Mathlib.Omega.{arith}
 use mathlib.Core.List.{List, _++_}
@@ -7,22 +7,22 @@ use mathlib.Core.Path.{_≡_, refl}
 use lib.Dec.{lit<}
 use lib.Pow as Pow
 use Rattle.records.specs.Fields.{bytes, field, value}
-use Rattle.records.specs.Marks.{periodMark, marked}
+use Rattle.records.specs.Marks.{marked}
 use Rattle.records.specs.Holding.{AllBytes}
 use Rattle.records.proofs.Fields.{allBelow-cons, allBytes-bytes, value-bytes}
 use Rattle.records.specs.declared.Test.the-variants.{Passed}
-use Rattle.periods.specs.Forms.{formOf}
+use Rattle.periods.specs.declared.Form.the-variants.{Wide}
+use Rattle.periods.specs.Forms.{eitherMark}
 use Rattle.periods.specs.Limits.{actions}
 use Rattle.periods.specs.Periods.{Party, party1, party2, Period, bit, tries, periodFrom}
-use Rattle.records.specs.Refusals.{firstFailing}
-use Rattle.periods.specs.Traces.{wholePeriods, markedAs, marksTest, periodAt, periodTest}
+use Rattle.periods.specs.Traces.{periodAt, recordOf, formOf, formTest, periodIn, periodTest}
 
 -- some record holds this period
 pub record Recorded (x : Period) : Type 0 where
   pub record-bytes : List ℕ
   pub are-bytes : AllBytes record-bytes
   pub passes : periodTest record-bytes ≡ Passed
-  pub holds : periodAt record-bytes 0 ≡ x
+  pub holds : periodIn record-bytes ≡ x
 
 -- the period without the bits above the last action
 abbrev pub masked : Period → Period
@@ -46,16 +46,17 @@ masked-tries x party2 a h = low-bit (x .attempts2) actions a h
 
 -- ---- and a record holds it
 
-both-bytes : (m n : ℕ) → AllBytes (bytes 2 m ++ bytes 2 n)
+bytes-before : (w n : ℕ) (l : List ℕ) → AllBytes l → AllBytes (bytes w n ++ l)
 unfolding bytes
-both-bytes m n = allBelow-cons (mod-lt m (lit< tt)) (allBelow-cons (mod-lt (m / 256) (lit< tt)) (allBytes-bytes 2 n))
+bytes-before zero n l h = h
+bytes-before (suc w) n l h = allBelow-cons (mod-lt n (lit< tt)) (bytes-before w (n / 256) l h)
 
 pub masked-recorded : (x : Period) → Recorded (masked x)
-unfolding periodTest marksTest wholePeriods formOf markedAs marked firstFailing periodAt periodFrom field value bytes
+unfolding recordOf periodTest formTest eitherMark formOf marked periodAt periodFrom field value bytes
 masked-recorded x =
     record {
-      record-bytes = periodMark ++ bytes 2 (x .attempts1) ++ bytes 2 (x .attempts2);
-      are-bytes = allBelow-cons (lit< tt) (allBelow-cons (lit< tt) (both-bytes (x .attempts1) (x .attempts2)));
+      record-bytes = recordOf Wide x;
+      are-bytes = allBelow-cons (lit< tt) (allBelow-cons (lit< tt) (bytes-before 4 (x .attempts1) (bytes 4 (x .attempts2)) (allBytes-bytes 4 (x .attempts2))));
       passes = refl;
-      holds = rw (value-bytes 2 (x .attempts1), value-bytes 2 (x .attempts2));
+      holds = rw (value-bytes 4 (x .attempts1), value-bytes 4 (x .attempts2));
     }

@@ -1,6 +1,6 @@
--- A limit of document 01, "Records".
+-- A limit of document 02, "Thirty-two actions".
 use Prim.Native.Nat.{ℕ}
 
 -- how many actions there are, numbered from 0
 abbrev pub actions : ℕ
-actions = 16
+actions = 32

@@ -1,69 +1,93 @@
 -- Traces of period records: how many there are, the periods that they hold, and refusal 11. Document 01, "Records", "Calls" and "Replies that
--- refuse".
+-- refuse"; document 02, "Thirty-two actions".
 use Prim.Native.Nat.{ℕ, zero, suc, _*_, _/_, _%_}
-use mathlib.Core.Bool.{Bool}
+use mathlib.Core.Bool.{Bool, not, _||_, cond}
 use mathlib.Core.List.{List, [], _∷_, _++_}
 use lib.Dec.{eqb}
 use lib.ListN.{length, take, drop}
+use Rattle.records.specs.Fields.{bytes}
 use Rattle.records.specs.Marks.{marked}
 use Rattle.records.specs.declared.Fault.the-variants.{BadPeriod}
 use Rattle.records.specs.declared.Test.{Test}
 use Rattle.records.specs.Refusals.{require, firstOf, firstFailing}
 use Rattle.periods.specs.declared.Form.{Form}
-use Rattle.periods.specs.Forms.{formMark, periodBytes, formOf}
+use Rattle.periods.specs.declared.Form.the-variants.{Narrow, Wide}
+use Rattle.periods.specs.Forms.{formMark, maskBytes, periodBytes, eitherMark}
 use Rattle.periods.specs.Periods.{Period, periodFrom}
 
--- how many whole records of a form the bytes have
+-- ---- bytes as records of one form
+
+-- how many whole records they have
 unfoldable pub wholePeriods : Form → List ℕ → ℕ
 wholePeriods f l = length l / periodBytes f
 
--- record k, counted in records of this form, has the form's mark
-unfoldable pub markedAs : Form → List ℕ → ℕ → Bool
-markedAs f l k = marked l (periodBytes f * k) (formMark f)
+-- the bytes of record k
+unfoldable pub recordAt : Form → List ℕ → (k : ℕ) → List ℕ
+recordAt f l k = take (periodBytes f) (drop (periodBytes f * k) l)
 
--- ---- a trace, whose records have the trace's form
+-- the bytes of the first k records
+unfoldable pub firstRecords : Form → List ℕ → (k : ℕ) → List ℕ
+firstRecords f l k = take (periodBytes f * k) l
+
+-- the period that record k holds
+unfoldable pub periodAt : Form → List ℕ → (k : ℕ) → Period
+periodAt f l k = periodFrom f l (periodBytes f * k)
+
+-- the periods of the first n records
+unfoldable pub periodsOf : Form → List ℕ → (n : ℕ) → List Period
+periodsOf f l zero = []
+periodsOf f l (suc n) = periodsOf f l n ++ (periodAt f l n ∷ [])
+
+-- record k has the form's mark
+unfoldable pub markedAt : Form → List ℕ → (k : ℕ) → Bool
+markedAt f l k = marked l (periodBytes f * k) (formMark f)
+
+-- 11, marks of the first n records: the first with another mark
+unfoldable pub marksTest : Form → List ℕ → (n : ℕ) → Test
+marksTest f l n =
+    let bad = firstFailing (markedAt f l) 0 n in
+    require (eqb bad n) BadPeriod bad
+
+-- the record that holds a period, and those of a list of periods, one after the other
+unfoldable pub recordOf : Form → Period → List ℕ
+recordOf f x = formMark f ++ bytes (maskBytes f) (x .attempts1) ++ bytes (maskBytes f) (x .attempts2)
+
+unfoldable pub recordsOf : Form → List Period → List ℕ
+recordsOf f [] = []
+recordsOf f (x ∷ w) = recordOf f x ++ recordsOf f w
+
+-- ---- a trace
+
+-- the form of its records, or of a step's one record: "its first record's mark fixes the sort". Where that mark is neither's, 11 refuses.
+unfoldable pub formOf : List ℕ → Form
+formOf trace = cond (marked trace 0 (formMark Wide)) Wide Narrow
 
 -- how many period records it has
 abbrev pub periodRecords : List ℕ → ℕ
 periodRecords trace = wholePeriods (formOf trace) trace
 
--- the bytes of its record k
-unfoldable pub periodRecordAt : List ℕ → ℕ → List ℕ
-periodRecordAt trace k = take (periodBytes (formOf trace)) (drop (periodBytes (formOf trace) * k) trace)
-
--- the bytes of its first k records
-unfoldable pub firstRecords : List ℕ → (k : ℕ) → List ℕ
-firstRecords trace k = take (periodBytes (formOf trace) * k) trace
-
--- the period that its record k holds
-unfoldable pub periodAt : List ℕ → ℕ → Period
-periodAt trace k = periodFrom (formOf trace) trace (periodBytes (formOf trace) * k)
-
 -- the periods of its first n records
-unfoldable pub periodsOf : List ℕ → ℕ → List Period
-periodsOf trace zero = []
-periodsOf trace (suc n) = periodsOf trace n ++ (periodAt trace n ∷ [])
+abbrev pub tracePeriods : List ℕ → (n : ℕ) → List Period
+tracePeriods trace n = periodsOf (formOf trace) trace n
 
--- its record k has the mark
-abbrev pub markedAt : List ℕ → ℕ → Bool
-markedAt trace k = markedAs (formOf trace) trace k
+-- 11, what comes first: "a single byte is a bad length"; then "the first record's mark is now tested before the length"
+unfoldable pub formTest : List ℕ → Test
+formTest trace = firstOf (require (not (eqb (length trace) 1)) BadPeriod 0) (require (eqb (length trace) 0 || eitherMark trace 0) BadPeriod 0)
 
--- ---- refusal 11
+-- 11, before the later marks: then a length of whole records of that form
+unfoldable pub startTest : List ℕ → Test
+startTest trace = firstOf (formTest trace) (require (eqb (length trace % periodBytes (formOf trace)) 0) BadPeriod 0)
 
--- 11, marks of its first n records: the first with another mark
-unfoldable pub marksTest : List ℕ → (n : ℕ) → Test
-marksTest trace n =
-    let bad = firstFailing (markedAt trace) 0 n in
-    require (eqb bad n) BadPeriod bad
-
--- 11 in step: the length of one record, then the mark
-unfoldable pub periodTest : List ℕ → Test
-periodTest period = firstOf (require (eqb (length period) (periodBytes (formOf period))) BadPeriod 0) (marksTest period (periodRecords period))
-
--- 11, a trace's length: a multiple of that length
-abbrev pub traceLengthTest : List ℕ → Test
-traceLengthTest trace = require (eqb (length trace % periodBytes (formOf trace)) 0) BadPeriod 0
-
--- 11 in run: the length, then the marks
+-- 11 in run: then the later marks, "refusal 11 meets a later record of the other"
 unfoldable pub traceTest : List ℕ → Test
-traceTest trace = firstOf (traceLengthTest trace) (marksTest trace (periodRecords trace))
+traceTest trace = firstOf (startTest trace) (marksTest (formOf trace) trace (periodRecords trace))
+
+-- ---- a step's one record
+
+-- the period that it holds
+abbrev pub periodIn : (record-bytes : List ℕ) → Period
+periodIn r = periodAt (formOf r) r 0
+
+-- 11 in step: the same, then the length of one record of that form
+unfoldable pub periodTest : List ℕ → Test
+periodTest r = firstOf (formTest r) (require (eqb (length r) (periodBytes (formOf r))) BadPeriod 0)

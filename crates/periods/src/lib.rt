@@ -1,21 +1,22 @@
-// Periods: the period record, both parties' attempts, and traces of such records with refusal 11. Document 01, "Records" and
-// "Replies that refuse".
+// Periods: the period record in its forms, both parties' attempts, and traces of such records with refusal 11. Document 01, "Records"
+// and "Replies that refuse"; document 02, "Thirty-two actions".
 ghost use mathlib.Core.Path.{_≡_};
 ghost use Prim.Native.Nat.{_+_, _*_, _<_, _≤_};
 ghost use lib.Dec.{ltb};
 ghost use lib.ListN.{length};
+ghost use Rattle.records.specs.Holding.{HoldsField};
 ghost use Rattle.records.specs.Marks.{marked};
 ghost use Rattle.records.specs.Refusals.{firstFailing};
 ghost use Rattle.periods.specs.Limits.{actions};
-ghost use Rattle.periods.specs.Forms.{formMark, periodBytes, formOf};
+ghost use Rattle.periods.specs.Forms.{formMark, maskBytes, periodBytes, eitherMark};
 ghost use Rattle.periods.specs.Periods.{Party, partyNumber, bit, tries, periodFrom};
-ghost use Rattle.periods.specs.Computing.{periodOf, HoldsPeriod, marksAre};
-ghost use Rattle.periods.specs.Traces.{wholePeriods, periodRecords, periodAt, markedAt, marksTest, periodTest, traceLengthTest, traceTest};
+ghost use Rattle.periods.specs.Computing.{periodOf, HoldsPeriod};
+ghost use Rattle.periods.specs.Traces.{wholePeriods, periodAt, markedAt, marksTest, formOf, periodRecords, formTest, startTest, traceTest, periodTest};
 use records::Fault;
 use records::Test;
 
 // How many actions there are, numbered from 0.
-pub const ACTIONS: u32 = 16;
+pub const ACTIONS: u32 = 32;
 
 // Both parties' attempts in a period: a mask each, whose bit a is set when the party tries action a.
 pub struct Attempts {
@@ -53,18 +54,44 @@ pub fn tried(a: Attempts, party: u32, action: u32) -> bool
 // ---- the form of a period record
 
 pub enum Form {
-    Short,
+    Narrow,
+    Wide,
 }
 
-// The bytes of a record of the short form.
-pub const SHORT_BYTES: usize = 6;
+// The bytes of a record of the narrow form.
+pub const NARROW_BYTES: usize = 6;
+
+// The bytes of a record of the wide form.
+pub const WIDE_BYTES: usize = 10;
+
+// The bytes of one party's attempts.
+fn mask_bytes(form: Form) -> usize
+    ensures { λ r. ⌜ r ≡ maskBytes form ⌝ }
+{
+    match form {
+        Form::Narrow => 2,
+        Form::Wide => 4,
+    }
+}
 
 // The bytes of a record.
 pub fn period_bytes(form: Form) -> usize
     ensures { λ r. ⌜ r ≡ periodBytes form ⌝ }
 {
     match form {
-        Form::Short => SHORT_BYTES,
+        Form::Narrow => NARROW_BYTES,
+        Form::Wide => WIDE_BYTES,
+    }
+}
+
+// One party's attempts, from byte `at` on.
+fn read_mask(form: Form, s: &[u8], at: usize) -> u32
+    requires { ⌜ at + maskBytes form ≤ length (now s) ⌝ }
+    ensures { λ r. ⌜ HoldsField (now (s .entry)) at (maskBytes form) r ⌝ }
+{
+    match form {
+        Form::Narrow => records::get2(s, at),
+        Form::Wide => records::get4(s, at),
     }
 }
 
@@ -73,39 +100,100 @@ fn read_from(form: Form, s: &[u8], at: usize) -> Attempts
     requires { ⌜ at + periodBytes form ≤ length (now s) ⌝ }
     ensures { λ r. ⌜ HoldsPeriod (periodFrom form (now (s .entry)) at) r ⌝ }
 {
-    match form {
-        Form::Short => Attempts {
-            one: records::get2(s, at + 2),
-            two: records::get2(s, at + 4),
-        },
+    Attempts {
+        one: read_mask(form, s, at + 2),
+        two: read_mask(form, s, at + 2 + mask_bytes(form)),
     }
 }
 
-// Whether the record from byte `at` on has the mark.
+// Whether the bytes from byte `at` on start with a form's mark.
 fn marked_from(form: Form, s: &[u8], at: usize) -> bool
-    requires { ⌜ at + periodBytes form ≤ length (now s) ⌝ }
+    requires { ⌜ at + 2 ≤ length (now s) ⌝ }
     ensures { λ r. ⌜ r ≡ marked (now (s .entry)) at (formMark form) ⌝ }
 {
     match form {
-        Form::Short => records::marked(s, at, records::PERIOD_MARK),
+        Form::Narrow => records::marked(s, at, records::NARROW_MARK),
+        Form::Wide => records::marked(s, at, records::WIDE_MARK),
     }
 }
 
-// The form of a trace's records, or of a step's one record.
+// Whether they start with either form's mark.
+pub fn either_mark(s: &[u8], at: usize) -> bool
+    requires { ⌜ at + 2 ≤ length (now s) ⌝ }
+    ensures { λ r. ⌜ r ≡ eitherMark (now (s .entry)) at ⌝ }
+{
+    marked_from(Form::Narrow, s, at) || marked_from(Form::Wide, s, at)
+}
+
+// The form of a trace's records, or of a step's one record, by the first one's mark.
 pub fn form_of(trace: &[u8]) -> Form
     ensures { λ r. ⌜ r ≡ formOf (now (trace .entry)) ⌝ }
 {
-    Form::Short
+    if trace.len() >= 2 && marked_from(Form::Wide, trace, 0) {
+        Form::Wide
+    } else {
+        Form::Narrow
+    }
 }
 
-// ---- traces
+// ---- bytes as records of one form
 
-// How many whole records of a form the bytes have.
+// How many whole records the bytes have.
 pub fn whole_periods(form: Form, s: &[u8]) -> usize
     ensures { λ r. ⌜ r ≡ wholePeriods form (now (s .entry)) ⌝ }
 {
     s.len() / period_bytes(form)
 }
+
+// Where record k starts.
+fn record_start(form: Form, s: &[u8], k: usize) -> usize
+    requires { ⌜ k < wholePeriods form (now s) ⌝ }
+    ensures { λ r. ⌜ (r ≡ periodBytes form * k) × (r + periodBytes form ≤ length (now (s .entry))) ⌝ }
+{
+    period_bytes(form) * k
+}
+
+// Both parties' attempts in record k.
+pub fn read_period(form: Form, s: &[u8], k: usize) -> Attempts
+    requires { ⌜ k < wholePeriods form (now s) ⌝ }
+    ensures { λ r. ⌜ HoldsPeriod (periodAt form (now (s .entry)) k) r ⌝ }
+{
+    read_from(form, s, record_start(form, s, k))
+}
+
+// Whether record k has the form's mark.
+pub fn is_marked(form: Form, s: &[u8], k: usize) -> bool
+    requires { ⌜ k < wholePeriods form (now s) ⌝ }
+    ensures { λ r. ⌜ r ≡ markedAt form (now (s .entry)) k ⌝ }
+{
+    marked_from(form, s, record_start(form, s, k))
+}
+
+// The first of n records without the form's mark; n where there is none.
+fn first_unmarked(form: Form, s: &[u8], n: usize) -> usize
+    requires { ⌜ n ≤ wholePeriods form (now s) ⌝ }
+    ensures { λ r. ⌜ r ≡ firstFailing (markedAt form (now (s .entry))) 0 n ⌝ }
+{
+    let mut k = 0;
+    while k < n && is_marked(form, s, k) {
+        k += 1;
+    }
+    k
+}
+
+// Their marks.
+fn marks_test(form: Form, s: &[u8]) -> Test
+    ensures { λ r. ⌜ r ≡ marksTest form (now (s .entry)) (wholePeriods form (now (s .entry))) ⌝ }
+{
+    let n = whole_periods(form, s);
+    let bad = first_unmarked(form, s, n);
+    if bad != n {
+        return Test::Refused(Fault::BadPeriod, bad);
+    }
+    Test::Passed
+}
+
+// ---- traces
 
 // How many period records a trace has.
 pub fn period_records(trace: &[u8]) -> usize
@@ -114,87 +202,57 @@ pub fn period_records(trace: &[u8]) -> usize
     whole_periods(form_of(trace), trace)
 }
 
-// Where record k starts, counted in records of a form.
-fn record_start(form: Form, s: &[u8], k: usize) -> usize
-    requires { ⌜ k < wholePeriods form (now s) ⌝ }
-    ensures { λ r. ⌜ (r ≡ periodBytes form * k) × (r + periodBytes form ≤ length (now (s .entry))) ⌝ }
+// What comes first: no single byte, then the first record's mark.
+fn form_test(trace: &[u8]) -> Test
+    ensures { λ r. ⌜ r ≡ formTest (now (trace .entry)) ⌝ }
 {
-    period_bytes(form) * k
-}
-
-// Both parties' attempts in record k of a trace.
-pub fn read_period(trace: &[u8], k: usize) -> Attempts
-    requires { ⌜ k < periodRecords (now trace) ⌝ }
-    ensures { λ r. ⌜ HoldsPeriod (periodAt (now (trace .entry)) k) r ⌝ }
-{
-    let form = form_of(trace);
-    read_from(form, trace, record_start(form, trace, k))
-}
-
-// Whether record k of a trace has its mark.
-pub fn is_marked(trace: &[u8], k: usize) -> bool
-    requires { ⌜ k < periodRecords (now trace) ⌝ }
-    ensures { λ r. ⌜ r ≡ markedAt (now (trace .entry)) k ⌝ }
-{
-    let form = form_of(trace);
-    marked_from(form, trace, record_start(form, trace, k))
-}
-
-// The first of n records of a form without its mark or, where `marked` is false, with it; n where there is none.
-pub fn first_other(form: Form, s: &[u8], n: usize, marked: bool) -> usize
-    requires { ⌜ n ≤ wholePeriods form (now s) ⌝ }
-    ensures { λ r. ⌜ r ≡ firstFailing (marksAre marked form (now (s .entry))) 0 n ⌝ }
-{
-    let bytes = period_bytes(form);
-    let mut k = 0;
-    while k < n {
-        if marked_from(form, s, bytes * k) != marked {
-            return k;
-        }
-        k += 1;
+    if trace.len() == 0 {
+        return Test::Passed;
     }
-    k
-}
-
-// The marks of a trace of whole records.
-fn marks_test(trace: &[u8]) -> Test
-    ensures { λ r. ⌜ r ≡ marksTest (now (trace .entry)) (periodRecords (now (trace .entry))) ⌝ }
-{
-    let n = period_records(trace);
-    let bad = first_other(form_of(trace), trace, n, true);
-    if bad != n {
-        return Test::Refused(Fault::BadPeriod, bad);
+    if trace.len() == 1 {
+        return Test::Refused(Fault::BadPeriod, 0);
+    }
+    if !either_mark(trace, 0) {
+        return Test::Refused(Fault::BadPeriod, 0);
     }
     Test::Passed
 }
 
-// A step's record: its length, then its mark.
-pub fn period_test(period: &[u8]) -> Test
-    ensures { λ r. ⌜ r ≡ periodTest (now (period .entry)) ⌝ }
+// A trace before its later marks: then its length, whole records.
+pub fn start_test(trace: &[u8]) -> Test
+    ensures { λ r. ⌜ r ≡ startTest (now (trace .entry)) ⌝ }
 {
-    if period.len() != period_bytes(form_of(period)) {
-        return Test::Refused(Fault::BadPeriod, 0);
-    }
-    marks_test(period)
-}
-
-// A trace's length: whole records.
-pub fn trace_length_test(trace: &[u8]) -> Test
-    ensures { λ r. ⌜ r ≡ traceLengthTest (now (trace .entry)) ⌝ }
-{
+    let t = form_test(trace);
+    let Test::Passed = t else {
+        return t;
+    };
     if trace.len() % period_bytes(form_of(trace)) != 0 {
         return Test::Refused(Fault::BadPeriod, 0);
     }
     Test::Passed
 }
 
-// A run's trace: its length, then its marks.
+// A run's trace: then the later marks.
 pub fn trace_test(trace: &[u8]) -> Test
     ensures { λ r. ⌜ r ≡ traceTest (now (trace .entry)) ⌝ }
 {
-    let t = trace_length_test(trace);
+    let t = start_test(trace);
     let Test::Passed = t else {
         return t;
     };
-    marks_test(trace)
+    marks_test(form_of(trace), trace)
+}
+
+// A step's record: the first tests, then the length of one record.
+pub fn period_test(period: &[u8]) -> Test
+    ensures { λ r. ⌜ r ≡ periodTest (now (period .entry)) ⌝ }
+{
+    let t = form_test(period);
+    let Test::Passed = t else {
+        return t;
+    };
+    if period.len() != period_bytes(form_of(period)) {
+        return Test::Refused(Fault::BadPeriod, 0);
+    }
+    Test::Passed
 }

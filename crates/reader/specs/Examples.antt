@@ -67,10 +67,10 @@ lastBytes z =
 pub record ReaderVectors : Type 0 where
   -- ---- kinds
   pub kinds-1-to-3 :
-      map (λ r. reads (r ∷ [])) (six 1 1 0 ∷ six 1 2 15 ∷ six 2 1 15 ∷ six 2 2 0 ∷ six 3 1 15 ∷ six 3 2 1 ∷ [])
-      ≡ map taken (duty party1 0 ∷ duty party2 15 ∷ ban party1 15 ∷ ban party2 0 ∷ power party1 15 ∷ power party2 1 ∷ [])
+      map (λ r. reads (r ∷ [])) (six 1 1 0 ∷ six 1 2 31 ∷ six 2 1 31 ∷ six 2 2 16 ∷ six 3 1 31 ∷ six 3 2 1 ∷ [])
+      ≡ map taken (duty party1 0 ∷ duty party2 31 ∷ ban party1 31 ∷ ban party2 16 ∷ power party1 31 ∷ power party2 1 ∷ [])
   pub party-3-of-duty :
-      map (λ r. reads (r ∷ [])) (six 1 3 0 ∷ six 1 3 1 ∷ six 1 3 15 ∷ []) ≡ map taken (joint 0 ∷ joint 1 ∷ joint 15 ∷ [])
+      map (λ r. reads (r ∷ [])) (six 1 3 0 ∷ six 1 3 1 ∷ six 1 3 31 ∷ []) ≡ map taken (joint 0 ∷ joint 1 ∷ joint 31 ∷ [])
   pub kinds-4-to-6 :
       map (λ k. reads (six 1 1 0 ∷ six 2 2 1 ∷ six k 0 0 ∷ [])) (4 ∷ 5 ∷ 6 ∷ [])
       ≡ map taken (both (duty party1 0) (ban party2 1) ∷ then (duty party1 0) (ban party2 1) ∷ repair (duty party1 0) (ban party2 1) ∷ [])
@@ -79,9 +79,9 @@ pub record ReaderVectors : Type 0 where
   pub kind-9 : reads (six 1 2 1 ∷ six 17 1 0 ∷ six 9 0 0 ∷ []) ≡ taken (until (duty party2 1) (atom (tries party1 0)))
   pub kind-10 :
       map (λ r. reads (r ∷ []))
-      (sixWith 10 1 0 1 ∷ sixWith 10 2 15 1 ∷ sixWith 10 1 15 3 ∷ sixWith 10 2 0 3 ∷ sixWith 10 1 2 15 ∷ sixWith 10 2 15 15 ∷ [])
+      (sixWith 10 1 0 1 ∷ sixWith 10 2 31 1 ∷ sixWith 10 1 31 3 ∷ sixWith 10 2 0 3 ∷ sixWith 10 1 2 15 ∷ sixWith 10 2 31 15 ∷ [])
       ≡ map taken
-      (deadline party1 0 1 ∷ deadline party2 15 1 ∷ deadline party1 15 3 ∷ deadline party2 0 3 ∷ deadline party1 2 15 ∷ deadline party2 15 15 ∷ [])
+      (deadline party1 0 1 ∷ deadline party2 31 1 ∷ deadline party1 31 3 ∷ deadline party2 0 3 ∷ deadline party1 2 15 ∷ deadline party2 31 15 ∷ [])
   pub under-4-to-6 :
       map (λ k. reads (deadlineBytes ∷ dutyBytes ∷ six k 0 0 ∷ [])) (4 ∷ 5 ∷ 6 ∷ [])
       ≡ map taken
@@ -98,9 +98,9 @@ pub record ReaderVectors : Type 0 where
       ≡ map taken (repeat (joint 0) ∷ when (atom any) (joint 0) ∷ until (joint 0) (atom any) ∷ [])
   pub kinds-16-to-20 :
       map (λ r. reads (r ∷ dutyBytes ∷ whenBytes ∷ []))
-      (six 16 0 0 ∷ six 17 1 15 ∷ six 17 2 0 ∷ six 18 1 15 ∷ six 18 2 0 ∷ six 19 0 15 ∷ six 20 0 15 ∷ [])
+      (six 16 0 0 ∷ six 17 1 31 ∷ six 17 2 0 ∷ six 18 1 31 ∷ six 18 2 0 ∷ six 19 0 31 ∷ six 20 0 31 ∷ [])
       ≡ map (λ x. taken (when (atom x) (duty party1 0)))
-      (any ∷ tries party1 15 ∷ tries party2 0 ∷ idle party1 15 ∷ idle party2 0 ∷ succeeds 15 ∷ fails 15 ∷ [])
+      (any ∷ tries party1 31 ∷ tries party2 0 ∷ idle party1 31 ∷ idle party2 0 ∷ succeeds 31 ∷ fails 31 ∷ [])
   pub kinds-21-to-22 :
       map (λ k. reads (six 17 1 0 ∷ six 18 2 1 ∷ six k 0 0 ∷ dutyBytes ∷ whenBytes ∷ [])) (21 ∷ 22 ∷ [])
       ≡ map (λ e. taken (when e (duty party1 0)))
@@ -145,9 +145,9 @@ pub record ReaderVectors : Type 0 where
   pub duty-parties : map (λ p. found (six 1 p 0 ∷ [])) (1 ∷ 2 ∷ 3 ∷ 5 ∷ 7 ∷ 255 ∷ []) ≡ replicate 3 (0, 0) ++ replicate 3 (4, 0)
   pub party-3-of-second :
       map (λ r. found (six 1 3 0 ∷ r ∷ [])) (six 2 3 0 ∷ six 3 3 0 ∷ sixWith 10 3 0 1 ∷ six 17 3 0 ∷ six 18 3 0 ∷ []) ≡ replicate 5 (4, 1)
-  pub fields-of-joint : map (λ r. found (r ∷ [])) (six 1 3 16 ∷ sixWith 1 3 0 1 ∷ sixWith 1 3 0 3 ∷ []) ≡ replicate 3 (4, 0)
-  pub action-16 :
-      map (λ r. found (r ∷ [])) (six 1 1 16 ∷ six 2 1 16 ∷ six 3 1 16 ∷ six 17 1 16 ∷ six 18 1 16 ∷ six 19 0 16 ∷ six 20 0 16 ∷ [])
+  pub fields-of-joint : map (λ r. found (r ∷ [])) (six 1 3 32 ∷ sixWith 1 3 0 1 ∷ sixWith 1 3 0 3 ∷ []) ≡ replicate 3 (4, 0)
+  pub action-32 :
+      map (λ r. found (r ∷ [])) (six 1 1 32 ∷ six 2 1 32 ∷ six 3 1 32 ∷ six 17 1 32 ∷ six 18 1 32 ∷ six 19 0 32 ∷ six 20 0 32 ∷ [])
       ≡ replicate 7 (4, 0)
   pub unused-party :
       map (λ p. map (λ k. found (six k p 0 ∷ [])) (4 ∷ 5 ∷ 6 ∷ 7 ∷ 8 ∷ 9 ∷ 16 ∷ 19 ∷ 20 ∷ 21 ∷ 22 ∷ 23 ∷ [])) (1 ∷ 3 ∷ [])
@@ -159,7 +159,7 @@ pub record ReaderVectors : Type 0 where
   pub last-byte-0 : map found (lastBytes 0) ≡ replicate 9 (0, 0) ++ replicate 5 (6, 1) ++ ((6, 3) ∷ (6, 3) ∷ (6, 2) ∷ [])
   pub window :
       map (λ d. found (sixWith 10 1 0 d ∷ [])) (0 ∷ 1 ∷ 15 ∷ 16 ∷ 17 ∷ 255 ∷ []) ≡ (4, 0) ∷ (0, 0) ∷ (0, 0) ∷ replicate 3 (4, 0)
-  pub fields-of-deadline : map (λ r. found (r ∷ [])) (sixWith 10 0 0 1 ∷ sixWith 10 3 0 1 ∷ sixWith 10 4 0 1 ∷ sixWith 10 1 16 1 ∷ []) ≡ replicate 4 (4, 0)
+  pub fields-of-deadline : map (λ r. found (r ∷ [])) (sixWith 10 0 0 1 ∷ sixWith 10 3 0 1 ∷ sixWith 10 4 0 1 ∷ sixWith 10 1 32 1 ∷ []) ≡ replicate 4 (4, 0)
   pub field-of-second : found (dutyBytes ∷ six 1 4 0 ∷ []) ≡ (4, 1)
   -- ---- 5: "operands missing or of the wrong sort"
   pub missing-operands :
@@ -185,7 +185,7 @@ pub record ReaderVectors : Type 0 where
   -- ---- "for each record 2, 3, 4, 5, 7, then 6"
   pub one-before-two : found ((0x54 ∷ 0x44 ∷ 0x01 ∷ 0x01 ∷ 0x00 ∷ 0x00 ∷ []) ∷ (0x54 ∷ []) ∷ []) ≡ (1, 0)
   pub two-before-three : found ((0x54 ∷ 0x44 ∷ 0x0b ∷ 0x00 ∷ 0x00 ∷ 0x00 ∷ []) ∷ []) ≡ (2, 0)
-  pub three-before-four : found (six 11 4 16 ∷ []) ≡ (3, 0)
+  pub three-before-four : found (six 11 4 32 ∷ []) ≡ (3, 0)
   pub four-before-five : found (six 7 1 0 ∷ []) ≡ (4, 0)
   pub four-before-seven : found (anyBytes ∷ starBytes ∷ dutyBytes ∷ six 8 1 0 ∷ []) ≡ (4, 3)
   pub five-before-seven : found (anyBytes ∷ starBytes ∷ anyBytes ∷ whenBytes ∷ []) ≡ (5, 3)

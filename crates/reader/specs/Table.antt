@@ -39,7 +39,7 @@ partyNumbers = range 1 2
 abbrev pub ownerNumbers : Range
 ownerNumbers = range 1 3
 
--- "action (0 to 15)"
+-- "actions run from 0 to 31"
 abbrev pub actionNumbers : Range
 actionNumbers = range 0 (actions - 1)
 

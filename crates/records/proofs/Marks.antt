@@ -10,17 +10,18 @@ use lib.Dec.{eqb}
 use lib.ListN.{length, take, drop, getD}
 use lib.Seq.{drop-cons, getD-drop}
 use borrow.Author.Tests.{eqb-true}
-use Rattle.records.specs.Marks.{contractMark, periodMark, rowMark, endMark, marked}
+use Rattle.records.specs.Marks.{contractMark, narrowMark, wideMark, rowMark, endMark, marked}
 
 abbrev pub marks : List (List ℕ)
-marks = contractMark ∷ periodMark ∷ rowMark ∷ endMark ∷ []
+marks = contractMark ∷ narrowMark ∷ wideMark ∷ rowMark ∷ endMark ∷ []
 
 -- they are pairwise different: each matches itself and no other
 pub marks-differ : map (λ (m : List ℕ). map (marked m 0) marks) marks
-    ≡ (true ∷ false ∷ false ∷ false ∷ [])
-    ∷ (false ∷ true ∷ false ∷ false ∷ [])
-    ∷ (false ∷ false ∷ true ∷ false ∷ [])
-    ∷ (false ∷ false ∷ false ∷ true ∷ [])
+    ≡ (true ∷ false ∷ false ∷ false ∷ false ∷ [])
+    ∷ (false ∷ true ∷ false ∷ false ∷ false ∷ [])
+    ∷ (false ∷ false ∷ true ∷ false ∷ false ∷ [])
+    ∷ (false ∷ false ∷ false ∷ true ∷ false ∷ [])
+    ∷ (false ∷ false ∷ false ∷ false ∷ true ∷ [])
     ∷ []
 unfolding marked
 marks-differ = refl
@@ -33,6 +34,11 @@ module _ (l : List ℕ) (at : ℕ) (m : List ℕ) (h : marked l at m ≡ true) w
   second : getD l (at + 1) 0 ≡ getD m 1 0
   unfolding marked
   second = eqb-true (getD l (at + 1) 0) (getD m 1 0) (and-eq-true-iff (eqb (getD l at 0) (getD m 0 0)) _ .0 h .1)
+
+-- so it has another mark as that mark itself has
+pub same-marked : (l : List ℕ) (at : ℕ) (m n : List ℕ) → marked l at m ≡ true → marked l at n ≡ marked m 0 n
+unfolding marked
+same-marked l at m n h = rw (first l at m h, second l at m h)
 
 -- a mark in the bytes from a place on
 pub marked-drop : (l : List ℕ) (at : ℕ) (mark : List ℕ) → marked l at mark ≡ marked (drop at l) 0 mark

@@ -91,3 +91,9 @@ failing-is ok n k h below here =
     ⊎-elim (λ (l : f < k). absurd (false≢true (sym (failing-fails ok 0 n (omega arith)) ∙ below f l)))
     (λ l. ⊎-elim (λ (m : k < f). absurd (false≢true (sym here ∙ failing-below ok 0 n k (omega arith) m))) (λ m. omega arith) (lt-or-le k f))
     (lt-or-le f k)
+
+-- two conditions that agree on these numbers have the same first one
+pub failing-same : (ok other : ℕ → Bool) (k n : ℕ) → ((i : ℕ) → i < k + n → ok i ≡ other i) → firstFailing ok k n ≡ firstFailing other k n
+unfolding firstFailing
+failing-same ok other k zero h = refl
+failing-same ok other k (suc n) h = rw (h k (omega arith), failing-same ok other (suc k) n (λ i l. h i (omega arith)))

@@ -13,14 +13,16 @@ ghost use Rattle.records.specs.Replies.{alone, replyOf, headOf, headSize
 // The first two bytes of each record.
 pub const CONTRACT_MARK: [u8; 2] = [0x54, 0x43];
 
-pub const PERIOD_MARK: [u8; 2] = [0x54, 0x50];
+pub const NARROW_MARK: [u8; 2] = [0x54, 0x50];
+
+pub const WIDE_MARK: [u8; 2] = [0x54, 0x51];
 
 pub const ROW_MARK: [u8; 2] = [0x54, 0x52];
 
 pub const END_MARK: [u8; 2] = [0x54, 0x45];
 
 // A byte as a wider number.
-pub fn wide(x: u8) -> u32
+pub fn widened(x: u8) -> u32
     ensures { λ r. ⌜ (r ≡ x) × (r < 256) ⌝ }
 {
     x as u32
@@ -31,8 +33,8 @@ pub fn get2(s: &[u8], at: usize) -> u32
     requires { ⌜ at + 2 ≤ length (now s) ⌝ }
     ensures { λ r. ⌜ HoldsField (now (s .entry)) at 2 r ⌝ }
 {
-    let low = wide(s[at]);
-    let high = wide(s[at + 1]);
+    let low = widened(s[at]);
+    let high = widened(s[at + 1]);
     low + 256 * high
 }
 

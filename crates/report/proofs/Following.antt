@@ -15,9 +15,9 @@ use Rattle.records.specs.declared.Test.the-variants.{Passed}
 use Rattle.records.specs.Replies.{four, eight, replyOf, headOf, headSize, Gives}
 use Rattle.records.proofs.Replies.{field-back}
 use Rattle.records.proofs.Verdicts.{few-verdicts}
-use Rattle.periods.specs.Forms.{periodBytes, formOf}
+use Rattle.periods.specs.Forms.{periodBytes}
 use Rattle.periods.specs.Periods.{Period, party1, party2}
-use Rattle.periods.specs.Traces.{periodRecords, markedAt, periodsOf, periodRecordAt}
+use Rattle.periods.specs.Traces.{recordAt, periodsOf, markedAt, formOf, periodRecords, tracePeriods}
 use Rattle.periods.proofs.Forms.{few-whole}
 use Rattle.periods.proofs.Traces.{length-periodsOf, trace-marks, record-period, period-test}
 use Rattle.states.specs.Limits.{maxPeriods}
@@ -41,7 +41,7 @@ pub stepped-on : (image state trace : List ℕ) (k bytes : ℕ) → bytes ≡ pe
     → Gives (step image state (take (bytes * k + bytes - bytes * k) (drop (bytes * k) trace)) (replicate stepReplyBytes 0)) result later reply
     → (s : Stepped) (h : Head) → h ≡ headOf reply → h .own ≡ s .verdict → HoldsField reply headSize 4 (s .blame) → HoldsField reply (headSize + 4) 4 (s .decision)
     → Stepping image state trace k later s
-unfolding periodRecordAt
+unfolding recordAt
 stepped-on image state trace k bytes i result later reply g s h v o b d =
     let e : bytes * k + bytes - bytes * k ≡ bytes = omega arith in
     let w = rw (e, i) at g in
@@ -63,26 +63,26 @@ small-blame (violated k bothParties) = omega arith
 -- ---- a step on record k, from a state that follows the clause after the k records before it
 
 module _ (c : Clause) (image state trace : List ℕ) (k : ℕ) (later : List ℕ) (s : Stepped)
-    (f : Follows c image state (periodsOf trace k)) (h : k < periodRecords trace) (m : markedAt trace k ≡ true)
+    (f : Follows c image state (tracePeriods trace k)) (h : k < periodRecords trace) (m : markedAt (formOf trace) trace k ≡ true)
     (few : k < inputPeriods) (g : Stepping image state trace k later s) where
   abbrev before : List Period
-  before = periodsOf trace k
+  before = tracePeriods trace k
 
   abbrev next : List Period
-  next = periodsOf trace (suc k)
+  next = tracePeriods trace (suc k)
 
   abbrev the-call : StepCall
-  the-call = record { period = periodRecordAt trace k; reply = replicate stepReplyBytes 0 }
+  the-call = record { period = recordAt (formOf trace) trace k; reply = replicate stepReplyBytes 0 }
 
   is-accepted : accepts (length before) the-call ≡ true
   unfolding accepts callTest
-  is-accepted = rw (period-test trace k h m, length-periodsOf trace k, lt-ltb k maxPeriods (omega arith))
+  is-accepted = rw (period-test (formOf trace) trace k h m, length-periodsOf (formOf trace) trace k, lt-ltb k maxPeriods (omega arith))
 
   periods-next : periodsAfter before the-call ≡ next
   unfolding periodsAfter periodsOf
-  periods-next = rw (is-accepted, record-period trace k h)
+  periods-next = rw (is-accepted, record-period (formOf trace) trace k h m)
 
-  reply-meant : step image state (periodRecordAt trace k) (replicate stepReplyBytes 0) .reply ≡ sets (replicate stepReplyBytes 0) 0 (replyOf Passed (meantAnswer c next))
+  reply-meant : step image state (recordAt (formOf trace) trace k) (replicate stepReplyBytes 0) .reply ≡ sets (replicate stepReplyBytes 0) 0 (replyOf Passed (meantAnswer c next))
   unfolding AnswersCalls
   reply-meant = rw periods-next at (f .answers (the-call ∷ []) .1 .accepted is-accepted .1)
 
@@ -115,7 +115,7 @@ module _ (c : Clause) (image state trace : List ℕ) (k : ℕ) (later : List ℕ
   pub seen-decision : s .decision ≡ decisionPeriod decided
   unfolding meantAnswer
   seen-decision =
-      let e : length next ≡ suc k = length-periodsOf trace (suc k) in
+      let e : length next ≡ suc k = length-periodsOf (formOf trace) trace (suc k) in
       g .decision-is
       ∙ rw reply-meant
       (field-back (four 0 ∷ four seen ∷ eight 0 ∷ four (blame decided) ∷ []) (four (decisionPeriod decided)) [] (replicate stepReplyBytes 0) (omega arith)
@@ -125,9 +125,9 @@ module _ (c : Clause) (image state trace : List ℕ) (k : ℕ) (later : List ℕ
 
 -- after k periods this state follows the clause and the text holds their lines
 pub record Held (c : Clause) (image trace text₀ : List ℕ) (k : ℕ) (state text : List ℕ) (at decision : ℕ) : Type 0 where
-  pub follows : Follows c image state (periodsOf trace k)
+  pub follows : Follows c image state (tracePeriods trace k)
   pub puts : Puts text₀ 0 (periodLines c trace k) text at
-  pub decides : decision ≡ decisionPeriod (meaning c (periodsOf trace k))
+  pub decides : decision ≡ decisionPeriod (meaning c (tracePeriods trace k))
 
 module _ (c : Clause) (image trace text₀ state : List ℕ) where
   pub held-first : Follows c image state [] → Held c image trace text₀ 0 state text₀ 0 0
@@ -138,15 +138,15 @@ module _ (c : Clause) (image trace text₀ state : List ℕ) where
 
   -- one period more
   pub held-next : (k : ℕ) (text later last : List ℕ) (at r decision : ℕ) (s : Stepped)
-      → Held c image trace text₀ k state text at decision → k < periodRecords trace → markedAt trace k ≡ true → k < inputPeriods
+      → Held c image trace text₀ k state text at decision → k < periodRecords trace → markedAt (formOf trace) trace k ≡ true → k < inputPeriods
       → Stepping image state trace k later s
       → ((v : Verdict) → s .verdict ≡ verdictNumber v → Puts text at (periodLine (k + 1) v (s .blame)) last r)
       → Held c image trace text₀ (k + 1) later last r (s .decision)
   unfolding periodLines meantLine
   held-next k text later last at r decision s h l m few g p =
       let f = h .follows in
-      let w = periodsOf trace (suc k) in
-      let e : length w ≡ k + 1 = length-periodsOf trace (suc k) ∙ sym (add-one k) in
+      let w = tracePeriods trace (suc k) in
+      let e : length w ≡ k + 1 = length-periodsOf (formOf trace) trace (suc k) ∙ sym (add-one k) in
       let line = rw (seen-blame c image state trace k later s f l m few g, ← e) at (p (verdict (meaning c w) (length w)) (seen-verdict c image state trace k later s f l m few g)) in
       rw add-one record {
         follows = next-follows c image state trace k later s f l m few g;
@@ -173,12 +173,12 @@ module _ {image state₀ trace text₀ : List ℕ} {n : ℕ} (a : MayList image 
       pub next-blame : s .blame < 10
       next-blame =
           rw (seen-blame (a .clause) image state trace k later s (here .follows) (next-whole k i) (a .marks k i) (next-few k i) g)
-          (small-blame (meaning (a .clause) (periodsOf trace (suc k))))
+          (small-blame (meaning (a .clause) (tracePeriods trace (suc k))))
 
       module _ (last : List ℕ) (r : ℕ) (p : (v : Verdict) → s .verdict ≡ verdictNumber v → Puts text at (periodLine (k + 1) v (s .blame)) last r) where
         pub next-short : r ≤ at + lineBytes
         next-short =
-            let w = periodsOf trace (suc k) in
+            let w = tracePeriods trace (suc k) in
             let v = verdict (meaning (a .clause) w) (length w) in
             let q = p v (seen-verdict (a .clause) image state trace k later s (here .follows) (next-whole k i) (a .marks k i) (next-few k i) g) in
             omega (arith, q .end-is, short-line (k + 1) v (s .blame) (omega (arith, next-few k i)) next-blame)
@@ -191,8 +191,8 @@ module _ {image state₀ trace text₀ : List ℕ} {n : ℕ} (a : MayList image 
     pub small-decision : k ≤ n → decision ≤ inputPeriods
     small-decision i =
         let q = h (a .clause) (a .follows) in
-        let w = periodsOf trace k in
-        let e : length w ≡ k = length-periodsOf trace k in
+        let w = tracePeriods trace k in
+        let e : length w ≡ k = length-periodsOf (formOf trace) trace k in
         omega (arith, q .decides, a .few, within-period (length w) (meaning (a .clause) w) (decision-within (a .clause) (q .follows .free) w))
 
     -- there is room for the last line
@@ -206,7 +206,7 @@ module _ {image state₀ trace text₀ : List ℕ} {n : ℕ} (a : MayList image 
         record {
           puts = λ c f.
               let q = h c f in
-              rw (← e) (puts-both text₀ 0 (periodLines c trace k) (decidedLine (decisionPeriod (meaning c (periodsOf trace k)))) (q .puts) (rw (q .decides) at p));
+              rw (← e) (puts-both text₀ 0 (periodLines c trace k) (decidedLine (decisionPeriod (meaning c (tracePeriods trace k)))) (q .puts) (rw (q .decides) at p));
         }
 
 -- ---- a state that begin leaves

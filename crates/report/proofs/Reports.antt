@@ -17,8 +17,7 @@ use Rattle.records.specs.Replies.{alone, replyOf, call, headSize}
 use Rattle.records.proofs.Refusals.{first-only, fault-bounds}
 use Rattle.records.proofs.Written.{part-rest}
 use Rattle.records.proofs.Replies.{head-back}
-use Rattle.periods.specs.Forms.{formOf}
-use Rattle.periods.specs.Traces.{periodRecords, traceTest}
+use Rattle.periods.specs.Traces.{formOf, periodRecords, traceTest}
 use Rattle.periods.proofs.Forms.{few-whole}
 use Rattle.layout.specs.Limits.{rowBytes, maxRows}
 use Rattle.layout.specs.Images.{rowCount}

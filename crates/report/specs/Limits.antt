@@ -1,15 +1,15 @@
 -- How much `watch` reads, and how much it prints at most. Document 01, "Watch", and "Replies that refuse", 13.
 use Prim.Native.Nat.{ℕ, _+_, _*_, _/_}
-use Rattle.periods.specs.declared.Form.the-variants.{Short}
+use Rattle.periods.specs.declared.Form.the-variants.{Narrow}
 use Rattle.periods.specs.Forms.{periodBytes}
 
 -- "reads standard input up to 65,520 bytes"
 abbrev pub inputBytes : ℕ
 inputBytes = 65520
 
--- the most period records of an input
+-- the most period records of an input, all of them narrow
 abbrev pub inputPeriods : ℕ
-inputPeriods = inputBytes / periodBytes Short
+inputPeriods = inputBytes / periodBytes Narrow
 
 -- the most bytes of a verdict's name
 abbrev pub nameBytes : ℕ

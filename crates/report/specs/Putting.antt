@@ -9,7 +9,7 @@ use Rattle.records.specs.declared.Head.{Head}
 use Rattle.records.specs.declared.Test.the-variants.{Passed}
 use Rattle.records.specs.Replies.{headOf, headSize}
 use Rattle.periods.specs.Periods.{Period}
-use Rattle.periods.specs.Traces.{periodRecords, markedAt, traceTest, periodRecordAt}
+use Rattle.periods.specs.Traces.{recordAt, markedAt, formOf, periodRecords, traceTest}
 use Rattle.layout.specs.Images.{rowCount}
 use Rattle.states.specs.Limits.{headBytes}
 use Rattle.runner.specs.Calls.{stepReplyBytes, step}
@@ -31,10 +31,10 @@ pub record Compiling (contract buffer later : List ℕ) (h : Head) : Type 0 wher
 
 -- what a step on record k of a trace leaves where its reply is read from an area of zeros
 pub record Stepping (image state trace : List ℕ) (k : ℕ) (later : List ℕ) (r : Stepped) : Type 0 where
-  pub state-is : later ≡ step image state (periodRecordAt trace k) (replicate stepReplyBytes 0) .buffers
-  pub verdict-is : r .verdict ≡ headOf (step image state (periodRecordAt trace k) (replicate stepReplyBytes 0) .reply) .own
-  pub blame-is : r .blame ≡ field (step image state (periodRecordAt trace k) (replicate stepReplyBytes 0) .reply) headSize 4
-  pub decision-is : r .decision ≡ field (step image state (periodRecordAt trace k) (replicate stepReplyBytes 0) .reply) (headSize + 4) 4
+  pub state-is : later ≡ step image state (recordAt (formOf trace) trace k) (replicate stepReplyBytes 0) .buffers
+  pub verdict-is : r .verdict ≡ headOf (step image state (recordAt (formOf trace) trace k) (replicate stepReplyBytes 0) .reply) .own
+  pub blame-is : r .blame ≡ field (step image state (recordAt (formOf trace) trace k) (replicate stepReplyBytes 0) .reply) headSize 4
+  pub decision-is : r .decision ≡ field (step image state (recordAt (formOf trace) trace k) (replicate stepReplyBytes 0) .reply) (headSize + 4) 4
 
 -- from this state, after the periods w, every list of step calls is answered by what the clause means
 pub record Follows (c : Clause) (image state : List ℕ) (w : List Period) : Type 0 where
@@ -46,7 +46,7 @@ pub record MayList (image state trace : List ℕ) (n : ℕ) (text : List ℕ) : 
   pub clause : Clause
   pub follows : Follows clause image state []
   pub whole : n ≤ periodRecords trace
-  pub marks : (i : ℕ) → i < n → markedAt trace i ≡ true
+  pub marks : (i : ℕ) → i < n → markedAt (formOf trace) trace i ≡ true
   pub few : n ≤ inputPeriods
   pub room : lineBytes * (n + 1) ≤ length text
 

@@ -8,7 +8,7 @@ use Rattle.records.specs.declared.Test.{Test}
 use Rattle.records.specs.declared.Test.the-variants.{Passed, Refused}
 use Rattle.records.specs.Refusals.{faultNumber, require}
 use Rattle.periods.specs.Periods.{Period}
-use Rattle.periods.specs.Traces.{periodRecords, traceTest, periodsOf}
+use Rattle.periods.specs.Traces.{periodRecords, traceTest, tracePeriods}
 use Rattle.contract.specs.Meaning.{Clause, meaning}
 use Rattle.contract.specs.Verdicts.{decisionPeriod, blame, verdict}
 use Rattle.reader.specs.Reader.{Result, refused, taken, read}
@@ -23,11 +23,11 @@ meantLine c w = let d = meaning c w in periodLine (length w) (verdict d (length 
 -- a line for each of a trace's first n periods
 unfoldable pub periodLines : Clause → (trace : List ℕ) → ℕ → List ℕ
 periodLines c trace zero = []
-periodLines c trace (suc n) = periodLines c trace n ++ meantLine c (periodsOf trace (suc n))
+periodLines c trace (suc n) = periodLines c trace n ++ meantLine c (tracePeriods trace (suc n))
 
 -- the lines of a trace of n periods, then the decision period
 unfoldable pub lines : Clause → (trace : List ℕ) → ℕ → List ℕ
-lines c trace n = periodLines c trace n ++ decidedLine (decisionPeriod (meaning c (periodsOf trace n)))
+lines c trace n = periodLines c trace n ++ decidedLine (decisionPeriod (meaning c (tracePeriods trace n)))
 
 -- "A refusal prints only `refused`, number, place"
 abbrev pub orRefused : Test → (text : List ℕ) → List ℕ

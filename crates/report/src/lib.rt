@@ -3,13 +3,15 @@ ghost use mathlib.Core.Path.{_≡_};
 ghost use Prim.Native.Nat.{_+_, _*_, _≤_, _<_};
 ghost use lib.ListN.{length};
 ghost use Rattle.records.specs.Verdicts.{Verdict, verdictNumber, verdictName};
-ghost use Rattle.periods.specs.Traces.{periodRecords};
+ghost use Rattle.records.specs.Refusals.{firstFailing};
+ghost use Rattle.periods.specs.declared.Form.the-variants.{Narrow};
+ghost use Rattle.periods.specs.Traces.{wholePeriods, periodRecords};
 ghost use Rattle.layout.specs.Limits.{rowBytes, maxRows};
 ghost use Rattle.states.specs.Limits.{headBytes};
 ghost use Rattle.reader.specs.Reader.{read};
 ghost use Rattle.report.specs.Limits.{inputBytes, inputPeriods, nameBytes, lineBytes, textBytes};
 ghost use Rattle.report.specs.Texts.{ascii, decimal, periodLine, decidedLine, refusedLine, Puts};
-ghost use Rattle.report.specs.Split.{contractLength, contractOf, traceOf};
+ghost use Rattle.report.specs.Split.{unmarkedSix, contractLength, contractOf, traceOf};
 ghost use Rattle.report.specs.Reports.{onContract, report};
 ghost use Rattle.report.specs.Putting.{Compiling, Stepping, MayList, Lists, MayFollow, FollowsTrace};
 use periods::Form;
@@ -27,8 +29,8 @@ pub const STATE_BYTES: usize = runner::STATE_BYTES;
 
 pub const TEXT_BYTES: usize = LINE_BYTES * (INPUT_PERIODS + 1);
 
-// The most period records of an input.
-const INPUT_PERIODS: usize = INPUT_BYTES / periods::SHORT_BYTES;
+// The most period records of an input, all of them narrow.
+const INPUT_PERIODS: usize = INPUT_BYTES / periods::NARROW_BYTES;
 
 // The most bytes of a line.
 const LINE_BYTES: usize = 21;
@@ -118,16 +120,28 @@ fn put_refused(text: &mut [u8], number: u64, place: u64) -> usize
 
 // ---- the input's parts
 
+// The first of n times six bytes that start with either form's mark; n where there are none.
+fn first_period(input: &[u8], n: usize) -> usize
+    requires { ⌜ n ≤ wholePeriods Narrow (now input) ⌝ }
+    ensures { λ r. ⌜ r ≡ firstFailing (unmarkedSix (now (input .entry))) 0 n ⌝ }
+{
+    let mut k = 0;
+    while k < n && !periods::either_mark(input, periods::NARROW_BYTES * k) {
+        k += 1;
+    }
+    k
+}
+
 // How many bytes of the input are the contract; the rest is the trace.
 fn contract_length(input: &[u8]) -> usize
     ensures { λ r. ⌜ r ≡ contractLength (now (input .entry)) ⌝ }
 {
-    let n = periods::whole_periods(Form::Short, input);
-    let k = periods::first_other(Form::Short, input, n, false);
+    let n = periods::whole_periods(Form::Narrow, input);
+    let k = first_period(input, n);
     if k == n {
         return input.len();
     }
-    periods::period_bytes(Form::Short) * k
+    periods::NARROW_BYTES * k
 }
 
 // ---- compile and step, and what they reply

@@ -1,15 +1,20 @@
 -- The vectors hold of the definitions, by computation.
-use Prim.Native.Nat.{_+_}
+use Prim.Native.Nat.{ℕ, _+_}
 use native.Mathlib.Omega.{arith}
-use mathlib.Core.Path.{refl}
+use mathlib.Core.List.{List, _++_}
+use mathlib.Core.Path.{_≡_, refl}
 use borrow.Author.Tests.{le-leb, lt-leb}
 use Rattle.records.specs.Fields.{value, bytes, field}
 use Rattle.records.specs.Marks.{marked}
+use Rattle.records.specs.declared.Fault.the-variants.{BadPeriod}
+use Rattle.records.specs.declared.Test.the-variants.{Refused}
 use Rattle.records.specs.Refusals.{firstFailing}
 use Rattle.records.specs.Replies.{fieldsBytes, call}
-use Rattle.periods.specs.Forms.{formOf}
+use Rattle.periods.specs.Forms.{eitherMark}
 use Rattle.periods.specs.Periods.{bit, tries, periodFrom}
-use Rattle.periods.specs.Traces.{wholePeriods, markedAs, periodRecords, periodAt, periodsOf, marksTest, periodTest, traceTest}
+use Rattle.periods.specs.Traces.{wholePeriods, periodAt, periodsOf, markedAt, marksTest, formOf, periodRecords, formTest, startTest, traceTest, periodTest}
+use Rattle.periods.specs.Examples.{otherRecord}
+use Rattle.periods.proofs.Traces.{form-test-some}
 use Rattle.layout.specs.Rows.{rowOf, decode}
 use Rattle.layout.specs.Images.{rowCount, rowsOf, imageOf, goodImageLength, goodRowAt, goodEnd}
 use Rattle.layout.specs.Refusals.{imageTest}
@@ -20,12 +25,17 @@ use Rattle.runner.specs.Reading.{stateAfterRecords, recordsRead}
 use Rattle.runner.specs.Refusals.{beginTest, readyTest, stepTest, runTest, unreadTest, decideTest}
 use Rattle.runner.specs.Calls.{begin, step, run, decide}
 use Rattle.runner.specs.StepCalls.{accepted, stateAfterCall, stateAfter, acceptedCount}
-use Rattle.runner.specs.Examples.{RefusalVectors, CallVectors, StepCallVectors, DecideVectors}
+use Rattle.runner.specs.Examples.{RefusalVectors, CallVectors, StepCallVectors, DecideVectors, WideVectors}
 
-pub call-vectors : RefusalVectors × CallVectors × StepCallVectors × DecideVectors
+-- bytes that start with a row's mark, however many
+other-refused : (rest : List ℕ) → startTest (otherRecord ++ rest) ≡ Refused BadPeriod 0
+unfolding startTest eitherMark marked
+other-refused rest = rw (form-test-some (otherRecord ++ rest) (omega arith))
+
+pub call-vectors : RefusalVectors × CallVectors × StepCallVectors × DecideVectors × WideVectors
 unfolding
-    value bytes field marked firstFailing fieldsBytes call formOf bit tries periodFrom wholePeriods markedAs periodAt periodsOf marksTest
-    periodTest traceTest rowOf decode rowCount rowsOf imageOf goodImageLength goodRowAt goodEnd imageTest stateBytes stateOf allAtMost allZero sound
+    value bytes field marked firstFailing fieldsBytes call eitherMark formOf bit tries periodFrom wholePeriods periodAt periodsOf markedAt marksTest
+    formTest startTest traceTest periodTest rowOf decode rowCount rowsOf imageOf goodImageLength goodRowAt goodEnd imageTest stateBytes stateOf allAtMost allZero sound
     stateTest countTest newValues valuesAfter computed counted afterPeriod afterPeriods beginTest readyTest stepTest runTest begin step run
     accepted stateAfterCall stateAfter acceptedCount stateAfterRecords recordsRead unreadTest decideTest decide
 call-vectors = (
@@ -67,5 +77,16 @@ call-vectors = (
     bad-images = refl;
     short-area = refl;
     full-area = refl;
+  },
+  record {
+    upper-action = refl;
+    wide-run = refl;
+    either-form = refl;
+    other-form-step = refl;
+    other-form-run = refl;
+    wide-decided = refl;
+    other-form-decided = refl;
+    first-mark-first = λ rest. rw (other-refused rest);
+    fewest = refl;
   },
 )

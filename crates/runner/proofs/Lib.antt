@@ -6,4 +6,5 @@ pub mod Calls
 pub mod StepCalls
 pub mod Runs
 pub mod Stopping
+pub mod SameAttempts
 pub mod Examples

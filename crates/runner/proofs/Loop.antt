@@ -19,7 +19,7 @@ use Rattle.records.proofs.Refusals.{is-refused}
 use Rattle.records.proofs.Replies.{call-passed, call-refused}
 use Rattle.records.proofs.Searches.{failing-max, failing-below, failing-fails}
 use Rattle.periods.specs.Periods.{Period}
-use Rattle.periods.specs.Traces.{periodRecords, periodsOf, markedAt}
+use Rattle.periods.specs.Traces.{markedAt, formOf, periodRecords, tracePeriods}
 use Rattle.periods.proofs.Traces.{length-periodsOf, marks-pass}
 use Rattle.layout.specs.Images.{rowCount}
 use Rattle.states.specs.Limits.{headBytes}
@@ -42,16 +42,16 @@ module _ (image trace : List ℕ) (u : unreadTest image trace ≡ Passed) where
   ready : Ready image fresh total
   ready = unread-ready image trace u
 
-  module _ (r : ℕ) (later : List ℕ) (t : Takes true image fresh trace total later r) where
+  module _ (r : ℕ) (later : List ℕ) (t : Takes true image fresh (formOf trace) trace total later r) where
     abbrev taken : List Period
-    taken = periodsOf trace r
+    taken = tracePeriods trace r
 
     pub stops-within : r ≤ total
-    stops-within = rw (t .count) (rw zero-add at (failing-max (goesOn true image fresh trace) 0 total))
+    stops-within = rw (t .count) (rw zero-add at (failing-max (goesOn true image fresh (formOf trace) trace) 0 total))
 
-    went-on : (i : ℕ) → i < r → (undecidedAfter image trace i ≡ true) × (markedAt trace i ≡ true)
+    went-on : (i : ℕ) → i < r → (undecidedAfter image trace i ≡ true) × (markedAt (formOf trace) trace i ≡ true)
     unfolding goesOn stateAfterRecords
-    went-on i l = and-eq-true-iff (undecidedAfter image trace i) (markedAt trace i) .0 (failing-below (goesOn true image fresh trace) 0 total i (omega arith) (rw (t .count) at l))
+    went-on i l = and-eq-true-iff (undecidedAfter image trace i) (markedAt (formOf trace) trace i) .0 (failing-below (goesOn true image fresh (formOf trace) trace) 0 total i (omega arith) (rw (t .count) at l))
 
     -- at the end, or decided: so many are read, and all have the mark
     pub stops-read : ¬ ((r < total) × (undecidedAfter image trace r ≡ true)) → (recordsRead image trace ≡ r) × (decideTest image trace ≡ Passed)
@@ -59,18 +59,18 @@ module _ (image trace : List ℕ) (u : unreadTest image trace ≡ Passed) where
     stops-read stop =
         let here : r < total → undecidedAfter image trace r ≡ false = λ l. ⊎-elim (λ o. absurd (stop (l, o))) (λ f. f) (true-or-false (undecidedAfter image trace r)) in
         let e = read-exactly image trace r stops-within (λ i j. went-on i j .0) here in
-        (e, rw (u, e) (marks-pass trace r (λ i l. went-on i l .1)))
+        (e, rw (u, e) (marks-pass (formOf trace) trace r (λ i l. went-on i l .1)))
 
     -- undecided before the end: more is read, and the next record has another mark
-    bad-next : r < total → undecidedAfter image trace r ≡ true → markedAt trace r ≡ false
+    bad-next : r < total → undecidedAfter image trace r ≡ true → markedAt (formOf trace) trace r ≡ false
     unfolding goesOn stateAfterRecords
     bad-next l o =
-        let f = firstFailing (goesOn true image fresh trace) 0 total in
+        let f = firstFailing (goesOn true image fresh (formOf trace) trace) 0 total in
         let below : f < 0 + total = omega (arith, t .count) in
-        rw o at (rw (← t .count) at (failing-fails (goesOn true image fresh trace) 0 total below))
+        rw o at (rw (← t .count) at (failing-fails (goesOn true image fresh (formOf trace) trace) 0 total below))
 
     few-taken : length taken ≤ total
-    few-taken = rw (length-periodsOf trace r) stops-within
+    few-taken = rw (length-periodsOf (formOf trace) trace r) stops-within
 
     pub left-long : headBytes ≤ length later
     left-long = rw (t .leaves) (later-answering image fresh total ready taken few-taken .head)

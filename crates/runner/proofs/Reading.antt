@@ -13,7 +13,7 @@ use Rattle.records.specs.declared.Test.the-variants.{Passed, Refused}
 use Rattle.records.specs.Refusals.{firstFailing}
 use Rattle.records.proofs.Cases.{lt-or-le, true-or-false}
 use Rattle.records.proofs.Searches.{failing-max, failing-below, failing-fails, failing-is, all-pass}
-use Rattle.periods.specs.Traces.{periodRecords, periodAt, periodsOf, markedAt}
+use Rattle.periods.specs.Traces.{periodAt, periodsOf, markedAt, formOf, periodRecords, tracePeriods}
 use Rattle.periods.proofs.Traces.{length-periodsOf, periods-split, marks-pass, marks-refused}
 use Rattle.layout.specs.Images.{rowCount, imageOf}
 use Rattle.states.specs.States.{stateOf, freshBytes}
@@ -36,9 +36,9 @@ module _ (image trace : List ℕ) where
   unfolding recordsRead
   undecided-before k l = failing-below undecidedAfter 0 (periodRecords trace) k (omega arith) l
 
-  next-state : (k : ℕ) → stateAfterRecords image trace (suc k) ≡ afterPeriod (imageOf image) (periodAt trace k) (stateAfterRecords image trace k)
+  next-state : (k : ℕ) → stateAfterRecords image trace (suc k) ≡ afterPeriod (imageOf image) (periodAt (formOf trace) trace k) (stateAfterRecords image trace k)
   unfolding stateAfterRecords periodsOf
-  next-state k = after-snoc (imageOf image) (stateOf (freshBytes (rowCount image))) (periodsOf trace k) (periodAt trace k)
+  next-state k = after-snoc (imageOf image) (stateOf (freshBytes (rowCount image))) (tracePeriods trace k) (periodAt (formOf trace) trace k)
 
   undecided-first : undecidedAfter 0 ≡ true
   unfolding stateAfterRecords periodsOf afterPeriods
@@ -47,15 +47,15 @@ module _ (image trace : List ℕ) where
   taken-after : (k : ℕ) → stateAfterRecords image trace k .periods ≡ k
   unfolding stateAfterRecords
   taken-after k =
-      periods-afterPeriods (imageOf image) (stateOf (freshBytes (rowCount image))) (periodsOf trace k)
-      ∙ rw (fresh-read (rowCount image), length-periodsOf trace k) (zero-add k)
+      periods-afterPeriods (imageOf image) (stateOf (freshBytes (rowCount image))) (tracePeriods trace k)
+      ∙ rw (fresh-read (rowCount image), length-periodsOf (formOf trace) trace k) (zero-add k)
 
   -- a period after which the state is decided for the first time is the decision period
   decision-here : (k : ℕ) → undecidedAfter k ≡ true → undecidedAfter (suc k) ≡ false → stateAfterRecords image trace (suc k) .decision ≡ suc k
   decision-here k o d =
       let s = stateAfterRecords image trace k in
       rw (next-state k)
-      (decides-now (imageOf image) (periodAt trace k) s (eqb-true (s .outcome) 0 o) (rw (next-state k) at (eqb-false (stateAfterRecords image trace (suc k) .outcome) 0 d))
+      (decides-now (imageOf image) (periodAt (formOf trace) trace k) s (eqb-true (s .outcome) 0 o) (rw (next-state k) at (eqb-false (stateAfterRecords image trace (suc k) .outcome) 0 d))
       ∙ rw (taken-after k) (add-one k))
 
   -- a state that is undecided was so before
@@ -65,10 +65,10 @@ module _ (image trace : List ℕ) where
       ⊎-elim (λ t. t)
       (λ f. let s = stateAfterRecords image trace j in
       let no = eqb-false (s .outcome) 0 f in
-      let v = periods-split trace j k l in
+      let v = periods-split (formOf trace) trace j k l in
       let same = stays-decided (imageOf image) s (v .0) no in
       let is = eqb-true (stateAfterRecords image trace k .outcome) 0 o in
-      absurd (no (sym (same .outcome-same) ∙ rw (v .1, after-append (imageOf image) (stateOf (freshBytes (rowCount image))) (periodsOf trace j) (v .0)) at is)))
+      absurd (no (sym (same .outcome-same) ∙ rw (v .1, after-append (imageOf image) (stateOf (freshBytes (rowCount image))) (tracePeriods trace j) (v .0)) at is)))
       (true-or-false (undecidedAfter j))
 
   -- so a record is read where those before it leave the state undecided, and only there
@@ -111,13 +111,13 @@ module _ (image trace : List ℕ) where
 
 -- the first record of another mark refuses exactly where those before it leave the state undecided
 module _ (image trace : List ℕ) (u : unreadTest image trace ≡ Passed) (k : ℕ) (i : k < periodRecords trace)
-    (m : (j : ℕ) → j < k → markedAt trace j ≡ true) (bad : markedAt trace k ≡ false) where
+    (m : (j : ℕ) → j < k → markedAt (formOf trace) trace j ≡ true) (bad : markedAt (formOf trace) trace k ≡ false) where
   pub bad-mark-refused : undecided (stateAfterRecords image trace k) ≡ true → decideTest image trace ≡ Refused BadPeriod k
   unfolding decideTest
-  bad-mark-refused o = rw u (marks-refused trace (recordsRead image trace) k (read-on image trace k i o) m bad)
+  bad-mark-refused o = rw u (marks-refused (formOf trace) trace (recordsRead image trace) k (read-on image trace k i o) m bad)
 
   pub bad-mark-unread : undecided (stateAfterRecords image trace k) ≡ false → decideTest image trace ≡ Passed
   unfolding decideTest
   bad-mark-unread o =
       let l = read-no-more image trace k o in
-      rw u (marks-pass trace (recordsRead image trace) (λ j h. m j (omega arith)))
+      rw u (marks-pass (formOf trace) trace (recordsRead image trace) (λ j h. m j (omega arith)))

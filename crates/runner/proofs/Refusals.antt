@@ -12,8 +12,8 @@ use Rattle.records.specs.declared.Test.{Test}
 use Rattle.records.specs.declared.Test.the-variants.{Passed}
 use Rattle.records.specs.Refusals.{firstOf}
 use Rattle.records.proofs.Refusals.{first-passed, onlyFor, only-among, only-append, only-first}
-use Rattle.periods.specs.Traces.{periodRecords, markedAt, marksTest, periodTest, traceLengthTest, traceTest}
-use Rattle.periods.proofs.Traces.{marks-passed, trace-marks, period-one, periodFaults, marks-only, period-only, trace-length-only, trace-only}
+use Rattle.periods.specs.Traces.{markedAt, marksTest, formOf, periodRecords, startTest, traceTest, periodTest}
+use Rattle.periods.proofs.Traces.{marks-passed, trace-marks, period-one, periodFaults, marks-only, period-only, start-only, trace-only}
 use Rattle.layout.specs.Images.{rowCount}
 use Rattle.layout.specs.Refusals.{imageTest}
 use Rattle.layout.proofs.Images.{imageFaults, image-only}
@@ -67,21 +67,21 @@ pub run-ready : (image state trace : List ℕ) → runTest image state trace ≡
 unfolding runTest
 run-ready image state trace e = tests-ready image state (traceTest trace) (periodRecords trace) e .0
 
-pub run-marks : (image state trace : List ℕ) → runTest image state trace ≡ Passed → (i : ℕ) → i < periodRecords trace → markedAt trace i ≡ true
+pub run-marks : (image state trace : List ℕ) → runTest image state trace ≡ Passed → (i : ℕ) → i < periodRecords trace → markedAt (formOf trace) trace i ≡ true
 unfolding runTest
 run-marks image state trace e = trace-marks trace (tests-ready image state (traceTest trace) (periodRecords trace) e .1)
 
 -- decide's, before it reads a record
 pub unread-passed : (image trace : List ℕ) → unreadTest image trace ≡ Passed
-    → (imageTest image ≡ Passed) × (traceLengthTest trace ≡ Passed) × (periodRecords trace ≤ maxPeriods)
+    → (imageTest image ≡ Passed) × (startTest trace ≡ Passed) × (periodRecords trace ≤ maxPeriods)
 unfolding unreadTest
 unread-passed image trace e =
-    let a = first-passed (imageTest image) (firstOf (traceLengthTest trace) (countTest 0 (periodRecords trace))) e in
-    let b = first-passed (traceLengthTest trace) (countTest 0 (periodRecords trace)) (a .1) in
+    let a = first-passed (imageTest image) (firstOf (startTest trace) (countTest 0 (periodRecords trace))) e in
+    let b = first-passed (startTest trace) (countTest 0 (periodRecords trace)) (a .1) in
     let c = passed-count 0 (periodRecords trace) (b .1) in
     (a .0, b .0, omega arith)
 
-pub unread-passes : (image trace : List ℕ) → imageTest image ≡ Passed → traceLengthTest trace ≡ Passed → periodRecords trace ≤ maxPeriods
+pub unread-passes : (image trace : List ℕ) → imageTest image ≡ Passed → startTest trace ≡ Passed → periodRecords trace ≤ maxPeriods
     → unreadTest image trace ≡ Passed
 unfolding unreadTest
 unread-passes image trace g l n = rw (g, l) (passes-count 0 (periodRecords trace) (omega arith))
@@ -94,13 +94,13 @@ unread-ready image trace e =
 -- and with the marks of the records read
 pub decide-unread : (image trace : List ℕ) → decideTest image trace ≡ Passed → unreadTest image trace ≡ Passed
 unfolding decideTest
-decide-unread image trace e = first-passed (unreadTest image trace) (marksTest trace (recordsRead image trace)) e .0
+decide-unread image trace e = first-passed (unreadTest image trace) (marksTest (formOf trace) trace (recordsRead image trace)) e .0
 
-pub decide-marks : (image trace : List ℕ) → decideTest image trace ≡ Passed → (i : ℕ) → i < recordsRead image trace → markedAt trace i ≡ true
+pub decide-marks : (image trace : List ℕ) → decideTest image trace ≡ Passed → (i : ℕ) → i < recordsRead image trace → markedAt (formOf trace) trace i ≡ true
 unfolding decideTest
 decide-marks image trace e =
     let n = recordsRead image trace in
-    marks-passed trace n (first-passed (unreadTest image trace) (marksTest trace n) e .1)
+    marks-passed (formOf trace) trace n (first-passed (unreadTest image trace) (marksTest (formOf trace) trace n) e .1)
 
 -- ---- no test of these calls gives another fault
 
@@ -139,8 +139,8 @@ pub decide-only : (image trace : List ℕ) → onlyFor decideFaults (decideTest 
 unfolding decideTest unreadTest
 decide-only image trace =
     let n = recordsRead image trace in
-    only-first decideFaults (unreadTest image trace) (marksTest trace n)
-    (only-append imageFaults (periodFaults ++ countFaults) (imageTest image) (firstOf (traceLengthTest trace) (countTest 0 (periodRecords trace)))
+    only-first decideFaults (unreadTest image trace) (marksTest (formOf trace) trace n)
+    (only-append imageFaults (periodFaults ++ countFaults) (imageTest image) (firstOf (startTest trace) (countTest 0 (periodRecords trace)))
     (image-only image)
-    (only-append periodFaults countFaults (traceLengthTest trace) (countTest 0 (periodRecords trace)) (trace-length-only trace) (count-only 0 (periodRecords trace))))
-    (only-among imageFaults periodFaults countFaults (marksTest trace n) (marks-only trace n))
+    (only-append periodFaults countFaults (startTest trace) (countTest 0 (periodRecords trace)) (start-only trace) (count-only 0 (periodRecords trace))))
+    (only-among imageFaults periodFaults countFaults (marksTest (formOf trace) trace n) (marks-only (formOf trace) trace n))

@@ -20,9 +20,9 @@ use Rattle.records.proofs.Fields.{field-lt}
 use Rattle.records.proofs.Refusals.{first-refused}
 use Rattle.records.specs.Replies.{replyOf, After, written}
 use Rattle.records.proofs.Replies.{call-no-room, call-passed, call-refused}
-use Rattle.periods.specs.Forms.{periodBytes, formOf}
-use Rattle.periods.specs.Traces.{periodRecords, periodAt, markedAt, periodTest, traceTest, periodsOf, periodRecordAt}
-use Rattle.periods.proofs.Traces.{length-periodsOf, marks-pass, marks-refused, record-period, period-test, period-refused}
+use Rattle.periods.specs.Forms.{periodBytes}
+use Rattle.periods.specs.Traces.{recordAt, periodAt, periodsOf, markedAt, formOf, periodRecords, tracePeriods, startTest, traceTest, periodTest}
+use Rattle.periods.proofs.Traces.{start-refused, length-periodsOf, marks-pass, marks-refused, record-period, period-test, period-refused}
 use Rattle.layout.specs.Images.{imageOf}
 use Rattle.states.specs.Limits.{maxPeriods}
 use Rattle.states.specs.States.{stateOf, stateBytes}
@@ -81,50 +81,50 @@ module _ (image : List ℕ) where
 -- the first k steps are accepted, and leave what the first k periods leave
 pub record Accepts (image state trace reply : List ℕ) (k : ℕ) : Type 0 where
   pub all : acceptedCount image state (callsOf trace reply k) ≡ k
-  pub leaves : stateAfter image state (callsOf trace reply k) ≡ stateBytes (afterPeriods (imageOf image) (stateOf state) (periodsOf trace k))
+  pub leaves : stateAfter image state (callsOf trace reply k) ≡ stateBytes (afterPeriods (imageOf image) (stateOf state) (tracePeriods trace k))
 
 module _ (image state trace reply : List ℕ) (n : ℕ) (h : Ready image state n) (b : AllBytes state) (r : stepReplyBytes ≤ length reply) where
   -- the step after k periods is accepted with a marked record
-  next-accepted : (k : ℕ) → suc k ≤ n → k < periodRecords trace → markedAt trace k ≡ true
-      → accepted image (stateBytes (afterPeriods (imageOf image) (stateOf state) (periodsOf trace k))) (record { period = periodRecordAt trace k; reply = reply }) ≡ true
+  next-accepted : (k : ℕ) → suc k ≤ n → k < periodRecords trace → markedAt (formOf trace) trace k ≡ true
+      → accepted image (stateBytes (afterPeriods (imageOf image) (stateOf state) (tracePeriods trace k))) (record { period = recordAt (formOf trace) trace k; reply = reply }) ≡ true
   next-accepted k i f m =
-      let w = periodsOf trace k in
-      let e : length w ≡ k = length-periodsOf trace k in
+      let w = tracePeriods trace k in
+      let e : length w ≡ k = length-periodsOf (formOf trace) trace k in
       let l = stateBytes (afterPeriods (imageOf image) (stateOf state) w) in
       step-accepts image l (ready-less image l 1 (n - length w) (omega arith) (later-ready image state n h w (omega arith)))
-      (record { period = periodRecordAt trace k; reply = reply }) r (period-test trace k f m)
+      (record { period = recordAt (formOf trace) trace k; reply = reply }) r (period-test (formOf trace) trace k f m)
 
-  pub accepts : (k : ℕ) → k ≤ n → k ≤ periodRecords trace → ((i : ℕ) → i < k → markedAt trace i ≡ true) → Accepts image state trace reply k
+  pub accepts : (k : ℕ) → k ≤ n → k ≤ periodRecords trace → ((i : ℕ) → i < k → markedAt (formOf trace) trace i ≡ true) → Accepts image state trace reply k
   unfolding callsOf periodsOf afterPeriods acceptedCount stateAfter
   accepts zero i j m = record { all = refl; leaves = sym (stateBytes-stateOf state b (omega (arith, ready-long image state n h))) }
   accepts (suc k) i j m =
-      let w = periodsOf trace k in
-      let e : length w ≡ k = length-periodsOf trace k in
+      let w = tracePeriods trace k in
+      let e : length w ≡ k = length-periodsOf (formOf trace) trace k in
       let l = stateBytes (afterPeriods (imageOf image) (stateOf state) w) in
-      let c : StepCall = record { period = periodRecordAt trace k; reply = reply } in
+      let c : StepCall = record { period = recordAt (formOf trace) trace k; reply = reply } in
       let before = accepts k (omega arith) (omega arith) (λ x y. m x (omega arith)) in
       let f : k < periodRecords trace = omega arith in
       let next = next-accepted k i f (m k (omega arith)) in
       record {
         all = count-last image state (callsOf trace reply k) c ∙ rw (before .all, before .leaves, next) (add-one k);
         leaves = after-last image state (callsOf trace reply k) c
-            ∙ rw (before .leaves, taken-step image l c next, later-read image state n h w (omega arith), record-period trace k f)
-            (ap stateBytes (sym (after-snoc (imageOf image) (stateOf state) w (periodAt trace k))));
+            ∙ rw (before .leaves, taken-step image l c next, later-read image state n h w (omega arith), record-period (formOf trace) trace k f (m k (omega arith)))
+            (ap stateBytes (sym (after-snoc (imageOf image) (stateOf state) w (periodAt (formOf trace) trace k))));
       }
 
   -- the next step's reply
-  pub next-reply : (k : ℕ) → suc k ≤ n → k < periodRecords trace → ((i : ℕ) → i < suc k → markedAt trace i ≡ true)
-      → step image (stateAfter image state (callsOf trace reply k)) (periodRecordAt trace k) reply .reply
-      ≡ sets reply 0 (replyOf Passed (answer (afterPeriods (imageOf image) (stateOf state) (periodsOf trace (suc k)))))
+  pub next-reply : (k : ℕ) → suc k ≤ n → k < periodRecords trace → ((i : ℕ) → i < suc k → markedAt (formOf trace) trace i ≡ true)
+      → step image (stateAfter image state (callsOf trace reply k)) (recordAt (formOf trace) trace k) reply .reply
+      ≡ sets reply 0 (replyOf Passed (answer (afterPeriods (imageOf image) (stateOf state) (tracePeriods trace (suc k)))))
   unfolding periodsOf
   next-reply k i j m =
-      let w = periodsOf trace k in
-      let e : length w ≡ k = length-periodsOf trace k in
+      let w = tracePeriods trace k in
+      let e : length w ≡ k = length-periodsOf (formOf trace) trace k in
       let l = stateBytes (afterPeriods (imageOf image) (stateOf state) w) in
-      let c : StepCall = record { period = periodRecordAt trace k; reply = reply } in
+      let c : StepCall = record { period = recordAt (formOf trace) trace k; reply = reply } in
       let before = accepts k (omega arith) (omega arith) (λ x y. m x (omega arith)) in
       let f : k < periodRecords trace = omega arith in
-      rw (before .leaves, after-snoc (imageOf image) (stateOf state) w (periodAt trace k), ← record-period trace k f)
+      rw (before .leaves, after-snoc (imageOf image) (stateOf state) w (periodAt (formOf trace) trace k), ← record-period (formOf trace) trace k f (m k (omega arith)))
       (rw (later-read image state n h w (omega arith)) at
       (ap (λ (x : After (List ℕ)). x .reply) (accepted-step image l c (next-accepted k i f (m k (omega arith))))))
 
@@ -132,7 +132,7 @@ module _ (image state trace reply : List ℕ) (n : ℕ) (h : Ready image state n
 
 module _ (image state trace reply : List ℕ) (b : AllBytes state) (r : stepReplyBytes ≤ length reply) where
   run-written : runTest image state trace ≡ Passed
-      → let later = afterPeriods (imageOf image) (stateOf state) (periodsOf trace (periodRecords trace)) in
+      → let later = afterPeriods (imageOf image) (stateOf state) (tracePeriods trace (periodRecords trace)) in
       run image state trace reply ≡ written (stateBytes later) reply Passed (answer later)
   unfolding run
   run-written t = call-passed (runTest image state trace) _ _ _ reply r t
@@ -174,42 +174,42 @@ unfolding runTest stepTest
 refused-ready image state trace period h =
     first-refused (readyTest image state) _ h ∙ sym (first-refused (readyTest image state) _ h)
 
--- by the length: at 0
-pub refused-trace-length : (image state trace : List ℕ) → readyTest image state ≡ Passed → ¬ (length trace % periodBytes (formOf trace) ≡ 0)
+-- by what is tested before the later marks: at 0
+pub refused-start : (image state trace : List ℕ) → readyTest image state ≡ Passed → ¬ (startTest trace ≡ Passed)
     → runTest image state trace ≡ Refused BadPeriod 0
 unfolding runTest traceTest
-refused-trace-length image state trace h e = rw (h, ne-eqb (length trace % periodBytes (formOf trace)) 0 e)
+refused-start image state trace h e = rw (h, start-refused trace e)
 
-module _ (image state trace : List ℕ) (h : readyTest image state ≡ Passed) (e : length trace % periodBytes (formOf trace) ≡ 0) where
+module _ (image state trace : List ℕ) (h : readyTest image state ≡ Passed) (e : startTest trace ≡ Passed) where
   sound-ready : (n : ℕ) → stateOf state .periods + n ≤ maxPeriods → Ready image state n
   sound-ready n l = let p = ready-passed image state h in record { good = p .0; sound = p .1; room = omega arith }
 
   -- by a record's mark: at the first record of another mark, which its step refuses if the count lets the steps before it pass
-  module _ (k : ℕ) (i : k < periodRecords trace) (m : (j : ℕ) → j < k → markedAt trace j ≡ true) (bad : markedAt trace k ≡ false) where
+  module _ (k : ℕ) (i : k < periodRecords trace) (m : (j : ℕ) → j < k → markedAt (formOf trace) trace j ≡ true) (bad : markedAt (formOf trace) trace k ≡ false) where
     pub refused-mark : runTest image state trace ≡ Refused BadPeriod k
     unfolding runTest traceTest
-    refused-mark = rw (h, eq-eqb (length trace % periodBytes (formOf trace)) 0 e, marks-refused trace (periodRecords trace) k i m bad)
+    refused-mark = rw (h, e, marks-refused (formOf trace) trace (periodRecords trace) k i m bad)
 
     pub refused-mark-step : (reply : List ℕ) → AllBytes state → stepReplyBytes ≤ length reply → stateOf state .periods + k ≤ maxPeriods
         → RefusedAt image state trace reply k (Refused BadPeriod 0)
     refused-mark-step reply b r l =
         let ready = sound-ready k l in
-        let w = periodsOf trace k in
-        let q : length w ≡ k = length-periodsOf trace k in
+        let w = tracePeriods trace k in
+        let q : length w ≡ k = length-periodsOf (formOf trace) trace k in
         let a = accepts image state trace reply k ready b r k (omega arith) (omega arith) m in
         record {
           before = a .all;
           refuses = rw (a .leaves) (step-refuses image (stateBytes (afterPeriods (imageOf image) (stateOf state) w))
-              (later-ready image state k ready w (omega arith)) (periodRecordAt trace k) (period-refused trace k (omega arith) bad));
+              (later-ready image state k ready w (omega arith)) (recordAt (formOf trace) trace k) (period-refused (formOf trace) trace k (omega arith) bad));
         }
 
   -- by the count: at the first record too many, which its step refuses
-  module _ (m : (j : ℕ) → j < periodRecords trace → markedAt trace j ≡ true) (l : maxPeriods < stateOf state .periods + periodRecords trace) where
+  module _ (m : (j : ℕ) → j < periodRecords trace → markedAt (formOf trace) trace j ≡ true) (l : maxPeriods < stateOf state .periods + periodRecords trace) where
     pub refused-count : runTest image state trace ≡ Refused FullCount (maxPeriods - stateOf state .periods)
     unfolding runTest traceTest countTest
     refused-count =
         let n = periodRecords trace in
-        rw (h, eq-eqb (length trace % periodBytes (formOf trace)) 0 e, marks-pass trace n m, lt-leb (stateOf state .periods + n) maxPeriods l)
+        rw (h, e, marks-pass (formOf trace) trace n m, lt-leb (stateOf state .periods + n) maxPeriods l)
 
     pub refused-count-step : (reply : List ℕ) → AllBytes state → stepReplyBytes ≤ length reply
         → RefusedAt image state trace reply (maxPeriods - stateOf state .periods) (Refused FullCount 0)
@@ -217,8 +217,8 @@ module _ (image state trace : List ℕ) (h : readyTest image state ≡ Passed) (
         let small = small-periods state b in
         let k = maxPeriods - stateOf state .periods in
         let ready = sound-ready k (omega arith) in
-        let w = periodsOf trace k in
-        let q : length w ≡ k = length-periodsOf trace k in
+        let w = tracePeriods trace k in
+        let q : length w ≡ k = length-periodsOf (formOf trace) trace k in
         let a = accepts image state trace reply k ready b r k (omega arith) (omega arith) (λ j i. m j (omega arith)) in
         let last = stateBytes (afterPeriods (imageOf image) (stateOf state) w) in
         record {
@@ -226,5 +226,5 @@ module _ (image state trace : List ℕ) (h : readyTest image state ≡ Passed) (
           refuses = rw (a .leaves) (step-full image last
               (ready-less image last 0 (k - length w) (omega arith) (later-ready image state k ready w (omega arith)))
               (rw (later-read image state k ready w (omega arith), periods-afterPeriods (imageOf image) (stateOf state) w, q) (omega arith))
-              (periodRecordAt trace k) (period-test trace k (omega arith) (m k (omega arith))));
+              (recordAt (formOf trace) trace k) (period-test (formOf trace) trace k (omega arith) (m k (omega arith))));
         }

@@ -16,7 +16,7 @@ use Rattle.records.proofs.Cases.{lt-or-le, true-or-false}
 use Rattle.records.proofs.Refusals.{passed-first, passed-is, passed-not}
 use Rattle.records.specs.Replies.{alone, After, written, headSize}
 use Rattle.records.proofs.Replies.{call-no-room, call-passed, call-refused}
-use Rattle.periods.specs.Traces.{periodAt}
+use Rattle.periods.specs.Traces.{periodIn}
 use Rattle.layout.specs.Images.{rowCount, imageOf}
 use Rattle.layout.specs.Refusals.{imageTest}
 use Rattle.states.specs.Limits.{headBytes}
@@ -52,8 +52,8 @@ module _ (image state : List ℕ) (c : StepCall) where
   -- an accepted call takes its record's period
   pub accepted-step : accepted image state c ≡ true
       → step image state (c .period) (c .reply)
-      ≡ written (stateBytes (afterPeriod (imageOf image) (periodAt (c .period) 0) (stateOf state))) (c .reply) Passed
-      (answer (afterPeriod (imageOf image) (periodAt (c .period) 0) (stateOf state)))
+      ≡ written (stateBytes (afterPeriod (imageOf image) (periodIn (c .period)) (stateOf state))) (c .reply) Passed
+      (answer (afterPeriod (imageOf image) (periodIn (c .period)) (stateOf state)))
   unfolding step
   accepted-step e =
       call-passed (stepTest image state (c .period)) _ _ _ (c .reply) (accepted-room e) (accepted-passed e)
@@ -70,12 +70,12 @@ module _ (image state : List ℕ) (c : StepCall) where
       (lt-or-le (length (c .reply)) stepReplyBytes)
 
   -- an accepted call leaves the state's bytes of the period after
-  pub taken-step : accepted image state c ≡ true → stateAfterCall image state c ≡ stateBytes (afterPeriod (imageOf image) (periodAt (c .period) 0) (stateOf state))
+  pub taken-step : accepted image state c ≡ true → stateAfterCall image state c ≡ stateBytes (afterPeriod (imageOf image) (periodIn (c .period)) (stateOf state))
   unfolding stateAfterCall
   taken-step e = ap (λ (x : After (List ℕ)). x .buffers) (accepted-step e)
 
-  pub taken-read : accepted image state c ≡ true → stateOf (stateAfterCall image state c) ≡ afterPeriod (imageOf image) (periodAt (c .period) 0) (stateOf state)
-  taken-read e = rw (taken-step e) (step-read image state (step-ready image state (c .period) (accepted-passed e)) (periodAt (c .period) 0))
+  pub taken-read : accepted image state c ≡ true → stateOf (stateAfterCall image state c) ≡ afterPeriod (imageOf image) (periodIn (c .period)) (stateOf state)
+  taken-read e = rw (taken-step e) (step-read image state (step-ready image state (c .period) (accepted-passed e)) (periodIn (c .period)))
 
   -- which of the two it is
   pub either : (accepted image state c ≡ true) ⊎ (accepted image state c ≡ false)
@@ -91,7 +91,7 @@ call-ready : (image state : List ℕ) (c : StepCall) → accepted image state c 
 unfolding afterPeriods
 call-ready image state c e =
     rw (taken-step image state c e)
-    (later-ready image state 1 (step-ready image state (c .period) (accepted-passed image state c e)) (periodAt (c .period) 0 ∷ []) (omega arith))
+    (later-ready image state 1 (step-ready image state (c .period) (accepted-passed image state c e)) (periodIn (c .period) ∷ []) (omega arith))
 
 call-sound : (image state : List ℕ) (c : StepCall) → readyTest image state ≡ Passed → readyTest image (stateAfterCall image state c) ≡ Passed
 call-sound image state c h =
@@ -104,7 +104,7 @@ call-decision : (image state : List ℕ) (c : StepCall) → ¬ (stateOf state .o
     → SameDecision (stateOf state) (stateOf (stateAfterCall image state c))
 unfolding afterPeriods
 call-decision image state c d =
-    ⊎-elim (λ e. rw (taken-read image state c e) (stays-decided (imageOf image) (stateOf state) (periodAt (c .period) 0 ∷ []) d))
+    ⊎-elim (λ e. rw (taken-read image state c e) (stays-decided (imageOf image) (stateOf state) (periodIn (c .period) ∷ []) d))
     (λ e. rw (refused-step image state c e) (record { outcome-same = refl; blame-same = refl; decision-same = refl })) (either image state c)
 
 -- a sound state of the image's length stays one for ever
@@ -125,7 +125,7 @@ counts-accepted image state (c ∷ cs) =
     let next = stateAfterCall image state c in
     let more = acceptedCount image next cs in
     counts-accepted image next cs
-    ∙ ⊎-elim (λ e. rw (taken-read image state c e, periods-after (imageOf image) (periodAt (c .period) 0) (stateOf state), e) (add-assoc (stateOf state .periods) 1 more))
+    ∙ ⊎-elim (λ e. rw (taken-read image state c e, periods-after (imageOf image) (periodIn (c .period)) (stateOf state), e) (add-assoc (stateOf state .periods) 1 more))
     (λ e. rw (refused-step image state c e, e) (omega arith)) (either image state c)
 
 -- after the decision outcome, blame and decision period never change

@@ -7,9 +7,9 @@ use mathlib.Core.Path.{_≡_, sym, ap, _∙_}
 use lib.ListN.{length}
 use Rattle.records.specs.declared.Test.the-variants.{Passed}
 use Rattle.records.proofs.Replies.{call-passed}
-use Rattle.periods.specs.Traces.{periodRecords, periodsOf, markedAt, traceTest}
+use Rattle.periods.specs.Traces.{periodsOf, markedAt, formOf, periodRecords, tracePeriods, traceTest}
 use Rattle.periods.proofs.Traces.{length-periodsOf, marks-pass}
-use Rattle.periods.proofs.First.{first-count, first-length, first-marked, first-periods, first-long}
+use Rattle.periods.proofs.First.{first-count, first-start, first-marked, first-periods, first-long}
 use Rattle.layout.specs.Images.{rowCount, imageOf}
 use Rattle.states.specs.States.{stateOf, freshBytes}
 use Rattle.states.proofs.Refusals.{passes-count}
@@ -38,7 +38,7 @@ module _ (image trace area reply : List ℕ) (t : decideTest image trace ≡ Pas
   as-many : periodRecords front ≡ read
   as-many = first-count trace read (few-read image trace)
 
-  front-marked : (i : ℕ) → i < read → markedAt front i ≡ true
+  front-marked : (i : ℕ) → i < read → markedAt (formOf front) front i ≡ true
   front-marked i l = first-marked trace read (few-read image trace) i l ∙ decide-marks image trace t i l
 
   ready : Ready image fresh (periodRecords trace)
@@ -47,14 +47,14 @@ module _ (image trace area reply : List ℕ) (t : decideTest image trace ≡ Pas
   run-accepted : runTest image fresh front ≡ Passed
   unfolding runTest readyTest traceTest
   run-accepted =
-      rw (ready .good, ready .sound, first-length trace read (few-read image trace), as-many, marks-pass front read front-marked)
+      rw (ready .good, ready .sound, first-start trace read (few-read image trace) (unread-passed image trace (decide-unread image trace t) .1), as-many, marks-pass (formOf front) front read front-marked)
       (passes-count (stateOf fresh .periods) read (omega (arith, ready .room, few-read image trace)))
 
   left-by-run : stateOf (run image fresh front reply .buffers) ≡ stateAfterRecords image trace read
   unfolding run stateAfterRecords
   left-by-run =
-      let w = periodsOf trace read in
-      let e : length w ≡ read = length-periodsOf trace read in
+      let w = tracePeriods trace read in
+      let e : length w ≡ read = length-periodsOf (formOf trace) trace read in
       rw (call-passed (runTest image fresh front) _ fresh _ reply b run-accepted, as-many, first-periods trace read (few-read image trace) read (omega arith))
       (later-read image fresh (periodRecords trace) ready w (omega (arith, few-read image trace)))
 
@@ -76,15 +76,15 @@ module _ (image t u area : List ℕ) (p : decideTest image t ≡ Passed) (d : un
   u-long : last ≤ periodRecords u
   u-long = first-long t u last (few-read image t) (s .starts)
 
-  same-marks : (i : ℕ) → i < last → markedAt u i ≡ markedAt t i
+  same-marks : (i : ℕ) → i < last → markedAt (formOf u) u i ≡ markedAt (formOf t) t i
   same-marks i l =
-      sym (first-marked u last u-long i l) ∙ ap (λ (x : List ℕ). markedAt x i) (s .starts) ∙ first-marked t last (few-read image t) i l
+      sym (first-marked u last u-long i l) ∙ ap (λ (x : List ℕ). markedAt (formOf x) x i) (s .starts) ∙ first-marked t last (few-read image t) i l
 
   same-states : (j : ℕ) → j ≤ last → stateAfterRecords image u j ≡ stateAfterRecords image t j
   unfolding stateAfterRecords
   same-states j l =
       ap (afterPeriods (imageOf image) (stateOf (freshBytes (rowCount image))))
-      (sym (first-periods u last u-long j l) ∙ ap (λ (x : List ℕ). periodsOf x j) (s .starts) ∙ first-periods t last (few-read image t) j l)
+      (sym (first-periods u last u-long j l) ∙ ap (λ (x : List ℕ). tracePeriods x j) (s .starts) ∙ first-periods t last (few-read image t) j l)
 
   same-read : recordsRead image u ≡ last
   same-read =
@@ -94,7 +94,7 @@ module _ (image t u area : List ℕ) (p : decideTest image t ≡ Passed) (d : un
   unfolding decideTest
   accepted =
       rw (unread-passes image u (unread-passed image t (decide-unread image t p) .0) (s .whole) (s .few), same-read)
-      (marks-pass u last (λ i l. same-marks i l ∙ decide-marks image t p i l))
+      (marks-pass (formOf u) u last (λ i l. same-marks i l ∙ decide-marks image t p i l))
 
   pub same-whatever-follows : decide image u area ≡ decide image t area
   unfolding decide

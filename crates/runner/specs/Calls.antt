@@ -6,7 +6,7 @@ use mathlib.Core.List.{List, [], _∷_}
 use lib.ListN.{length, replicate}
 use Rattle.records.specs.Verdicts.{verdictNumber}
 use Rattle.records.specs.Replies.{four, Answer, alone, replyBytes, After, call}
-use Rattle.periods.specs.Traces.{periodRecords, periodAt, periodsOf}
+use Rattle.periods.specs.Traces.{periodRecords, tracePeriods, periodIn}
 use Rattle.layout.specs.Images.{imageOf}
 use Rattle.states.specs.States.{State, stateOf, stateBytes}
 use Rattle.states.specs.Verdicts.{verdict}
@@ -48,13 +48,13 @@ begin image state reply = call (beginTest image state) (alone 0) state (replicat
 -- "Step takes one period record."
 unfoldable pub step : (image state period reply : List ℕ) → After (List ℕ)
 step image state period reply =
-    let later = afterPeriod (imageOf image) (periodAt period 0) (stateOf state) in
+    let later = afterPeriod (imageOf image) (periodIn period) (stateOf state) in
     call (stepTest image state period) (answer later) state (stateBytes later) reply
 
 -- "Run takes a state and a trace of zero or more period records and ends as that many steps would."
 unfoldable pub run : (image state trace reply : List ℕ) → After (List ℕ)
 run image state trace reply =
-    let later = afterPeriods (imageOf image) (stateOf state) (periodsOf trace (periodRecords trace)) in
+    let later = afterPeriods (imageOf image) (stateOf state) (tracePeriods trace (periodRecords trace)) in
     call (runTest image state trace) (answer later) state (stateBytes later) reply
 
 -- "A new call takes an image and a trace and gives outcome, blame, decision period and the number of period records it read."

@@ -1,9 +1,10 @@
--- The tests of begin, step, run and decide, in their order. Document 01, "Replies that refuse"; document 02, "Stop reading once it is decided".
+-- The tests of begin, step, run and decide, in their order. Document 01, "Replies that refuse"; document 02, "Stop reading once it is decided" and
+-- "Thirty-two actions".
 use Prim.Native.Nat.{ℕ}
 use mathlib.Core.List.{List}
 use Rattle.records.specs.declared.Test.{Test}
 use Rattle.records.specs.Refusals.{firstOf}
-use Rattle.periods.specs.Traces.{periodRecords, marksTest, periodTest, traceLengthTest, traceTest}
+use Rattle.periods.specs.Traces.{marksTest, formOf, periodRecords, startTest, traceTest, periodTest}
 use Rattle.layout.specs.Images.{rowCount}
 use Rattle.layout.specs.Refusals.{imageTest}
 use Rattle.states.specs.States.{stateOf}
@@ -25,11 +26,12 @@ unfoldable pub runTest : List ℕ → List ℕ → List ℕ → Test
 runTest image state trace =
     firstOf (readyTest image state) (firstOf (traceTest trace) (countTest (stateOf state .periods) (periodRecords trace)))
 
--- what decide tests before it reads a record: "After 9, length is still tested first. A trace of more than 4,294,967,295 records meets 12 next."
+-- what decide tests before it reads a record: "After 9, length is still tested first", and before it now "the first record's mark"; "A trace of more than
+-- 4,294,967,295 records meets 12 next."
 unfoldable pub unreadTest : List ℕ → List ℕ → Test
 unreadTest image trace =
-    firstOf (imageTest image) (firstOf (traceLengthTest trace) (countTest 0 (periodRecords trace)))
+    firstOf (imageTest image) (firstOf (startTest trace) (countTest 0 (periodRecords trace)))
 
 -- then the marks of the records read: "Records after the decision aren't looked at, so a bad mark there is no refusal in this call."
 unfoldable pub decideTest : List ℕ → List ℕ → Test
-decideTest image trace = firstOf (unreadTest image trace) (marksTest trace (recordsRead image trace))
+decideTest image trace = firstOf (unreadTest image trace) (marksTest (formOf trace) trace (recordsRead image trace))

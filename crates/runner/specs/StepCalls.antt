@@ -11,7 +11,7 @@ use Rattle.records.specs.declared.Test.{Test}
 use Rattle.records.specs.declared.Test.the-variants.{Passed}
 use Rattle.records.specs.Refusals.{passed}
 use Rattle.records.specs.Replies.{replyOf}
-use Rattle.periods.specs.Traces.{periodRecords, periodRecordAt}
+use Rattle.periods.specs.Traces.{recordAt, formOf, periodRecords}
 use Rattle.states.specs.States.{stateOf}
 use Rattle.runner.specs.Refusals.{stepTest}
 use Rattle.runner.specs.Calls.{answer, stepReplyBytes, step, run}
@@ -45,7 +45,7 @@ acceptedCount image state (c ∷ cs) =
 -- a step call for each of a trace's first n records, each with an area of these bytes
 unfoldable pub callsOf : (trace reply : List ℕ) → ℕ → List StepCall
 callsOf trace reply zero = []
-callsOf trace reply (suc n) = callsOf trace reply n ++ (record { period = periodRecordAt trace n; reply = reply } ∷ [])
+callsOf trace reply (suc n) = callsOf trace reply n ++ (record { period = recordAt (formOf trace) trace n; reply = reply } ∷ [])
 
 -- A run ends as the steps of its records do: each of them is accepted, the state is the one that they leave, and the reply is the
 -- last one's, or the state's own answer where there is none.
@@ -54,9 +54,9 @@ pub record EndsAsSteps (image state trace reply : List ℕ) : Type 0 where
   pub same-state : run image state trace reply .buffers ≡ stateAfter image state (callsOf trace reply (periodRecords trace))
   pub own-answer : periodRecords trace ≡ 0 → run image state trace reply .reply ≡ sets reply 0 (replyOf Passed (answer (stateOf state)))
   pub last-reply : (k : ℕ) → periodRecords trace ≡ suc k
-      → run image state trace reply .reply ≡ step image (stateAfter image state (callsOf trace reply k)) (periodRecordAt trace k) reply .reply
+      → run image state trace reply .reply ≡ step image (stateAfter image state (callsOf trace reply k)) (recordAt (formOf trace) trace k) reply .reply
 
 -- the steps of a trace's first k records are accepted, and the next one is refused by this test
 pub record RefusedAt (image state trace reply : List ℕ) (k : ℕ) (t : Test) : Type 0 where
   pub before : acceptedCount image state (callsOf trace reply k) ≡ k
-  pub refuses : stepTest image (stateAfter image state (callsOf trace reply k)) (periodRecordAt trace k) ≡ t
+  pub refuses : stepTest image (stateAfter image state (callsOf trace reply k)) (recordAt (formOf trace) trace k) ≡ t

@@ -5,7 +5,7 @@ use mathlib.Core.Path.{_≡_}
 use lib.Seq.{sets}
 use Rattle.records.specs.declared.Test.the-variants.{Passed}
 use Rattle.records.specs.Replies.{replyOf}
-use Rattle.periods.specs.Traces.{periodRecords, firstRecords, traceLengthTest}
+use Rattle.periods.specs.Traces.{firstRecords, formOf, periodRecords, startTest}
 use Rattle.layout.specs.Images.{rowCount}
 use Rattle.states.specs.Limits.{maxPeriods}
 use Rattle.states.specs.States.{stateOf, freshBytes}
@@ -15,7 +15,7 @@ use Rattle.runner.specs.Calls.{answerAfter, run, decide}
 
 -- the records that decide reads
 abbrev pub readFirst : (image trace : List ℕ) → List ℕ
-readFirst image trace = firstRecords trace (recordsRead image trace)
+readFirst image trace = firstRecords (formOf trace) trace (recordsRead image trace)
 
 -- "On a fresh state, run over just the records read leaves the same outcome, blame and decision.": that run takes as many records and is accepted,
 -- and decide replies with outcome, blame and decision period of the state whose bytes it leaves
@@ -27,6 +27,6 @@ pub record SameAsRun (image trace area reply : List ℕ) : Type 0 where
 
 -- u is a trace that starts with the records that decide reads of t, and goes on in any way
 pub record StartsAs (image t u : List ℕ) : Type 0 where
-  pub starts : firstRecords u (recordsRead image t) ≡ readFirst image t
-  pub whole : traceLengthTest u ≡ Passed
+  pub starts : firstRecords (formOf u) u (recordsRead image t) ≡ readFirst image t
+  pub whole : startTest u ≡ Passed
   pub few : periodRecords u ≤ maxPeriods

@@ -81,7 +81,7 @@ fn run_test(image: &[u8], state: &[u8], trace: &[u8]) -> Test
     states::count_test(records::get4(state, 2), periods::period_records(trace))
 }
 
-// Decide, before it reads a record: the image, the trace's length, the number of its records.
+// Decide, before it reads a record: the image, the first record's mark, the trace's length, the number of its records.
 fn unread_test(image: &[u8], trace: &[u8]) -> Test
     ensures { λ r. ⌜ r ≡ unreadTest (now (image .entry)) (now (trace .entry)) ⌝ }
 {
@@ -89,7 +89,7 @@ fn unread_test(image: &[u8], trace: &[u8]) -> Test
     let Test::Passed = t else {
         return t;
     };
-    let u = periods::trace_length_test(trace);
+    let u = periods::start_test(trace);
     let Test::Passed = u else {
         return u;
     };
@@ -117,7 +117,7 @@ fn put_answer(reply: &mut [u8], state: &[u8])
         reply,
         Test::Passed,
         states::verdict(state),
-        records::wide(state[1]),
+        records::widened(state[1]),
         records::get4(state, 6),
     );
 }
@@ -140,8 +140,8 @@ fn put_outcome(reply: &mut [u8], state: &[u8], read: u32)
     put_decide_reply(
         reply,
         Test::Passed,
-        records::wide(state[0]),
-        records::wide(state[1]),
+        records::widened(state[0]),
+        records::widened(state[1]),
         records::get4(state, 6),
         read,
     );

@@ -54,8 +54,8 @@ fn sound(state: &[u8]) -> bool
 {
     let periods = records::get4(state, 2);
     if !sound_head(
-        records::wide(state[0]),
-        records::wide(state[1]),
+        records::widened(state[0]),
+        records::widened(state[1]),
         periods,
         records::get4(state, 6),
     ) {

@@ -4,9 +4,11 @@
 //! The earlier archive is linked beside today's where `MONITOR_BEFORE` names its folder at the build.
 //! The first form makes every call of `compare`'s cases with both archives on equal copies of what
 //! is lent, but for decide where the earlier one lacks it; all must be the same at the call's end.
-//! Case number i is that of the seed S + i, so `before --seed S --cases 1` repeats one case. The
-//! second form times both archives on the benchmark's inputs, but for those that the earlier one
-//! refuses; the third measures the stack that the calls use.
+//! Where one of them reads no wide records, the cases have narrow ones instead, and actions up to 15:
+//! of what is left both mean the same. Case number i is that of the seed S + i, so
+//! `before --seed S --cases 1` repeats one case. The second form times both archives on the
+//! benchmark's inputs, whose records are narrow, but for those that the earlier one refuses; the
+//! third measures the stack that the calls use.
 
 #![deny(unsafe_code)]
 #![warn(clippy::undocumented_unsafe_blocks)]
@@ -15,6 +17,7 @@
 mod archive;
 #[cfg(test)]
 mod archives;
+mod narrow;
 #[allow(unsafe_code)]
 mod painted;
 mod same;
@@ -64,12 +67,13 @@ fn compare_bytes(sides: &Sides, seed: u64, cases: u64) -> ExitCode {
         before: sides.before.places[0],
         now: Archive::of_hosts(),
     };
+    let limit = limit(&pair);
     let mut tally = Tally::default();
     for number in 0..cases {
         let seed = seed.wrapping_add(number);
-        let case = Case::of_seed(seed);
+        let case = limit(Case::of_seed(seed));
         if pair.check(&case, &mut tally).is_err() {
-            print_difference(&pair, seed, case);
+            print_difference(&pair, limit, seed, case);
             return ExitCode::FAILURE;
         }
     }
@@ -77,11 +81,22 @@ fn compare_bytes(sides: &Sides, seed: u64, cases: u64) -> ExitCode {
     ExitCode::SUCCESS
 }
 
+/// Changes a case to one by which both archives mean the same.
+type Limit = fn(Case) -> Case;
+
+fn limit(pair: &Pair) -> Limit {
+    if [pair.before, pair.now].iter().all(narrow::reads_wide) {
+        return |case| case;
+    }
+    println!("One of them reads no wide records: the cases have narrow ones, and actions 0 to 15.");
+    narrow::narrowed
+}
+
 /// Prints the seed, and the smallest case that it could be shrunk to.
-fn print_difference(pair: &Pair, seed: u64, case: Case) {
+fn print_difference(pair: &Pair, limit: Limit, seed: u64, case: Case) {
     println!("seed {seed}: a difference");
-    let check = |case: &Case| pair.check(case, &mut Tally::default());
-    let smaller = shrink::case(case, &mut |case| check(case).is_err());
+    let check = |case: &Case| pair.check(&limit(case.clone()), &mut Tally::default());
+    let smaller = limit(shrink::case(case, &mut |case| check(case).is_err()));
     report::print_case(&smaller);
     if let Err(difference) = check(&smaller) {
         difference.print();

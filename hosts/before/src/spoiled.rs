@@ -24,11 +24,12 @@ pub fn spoiled<const FAULT: u8>() -> Vec<(Archive, &'static str)> {
     archives.into_iter().zip(calls).take(faulty).collect()
 }
 
-/// Today's archive, but compile and begin refuse whatever they are given.
+/// Today's archive, but compile, begin and step refuse whatever they are given.
 pub fn refusing() -> Archive {
     Archive {
         compile: refuse,
         begin: refuse,
+        step: refuse_period,
         ..Archive::of_hosts()
     }
 }
@@ -44,6 +45,20 @@ unsafe extern "C" fn refuse(
     _: usize,
 ) -> u32 {
     *reply = 1;
+    1
+}
+
+unsafe extern "C" fn refuse_period(
+    _: *const u8,
+    _: usize,
+    _: *mut u8,
+    _: usize,
+    _: *const u8,
+    _: usize,
+    reply: *mut u8,
+    _: usize,
+) -> u32 {
+    *reply = 11;
     1
 }
 

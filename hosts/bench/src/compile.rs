@@ -4,7 +4,7 @@ use crate::contracts::{clause, Family, FAMILIES};
 use crate::inputs::{self, Random};
 use crate::product::{self, LONGEST_IMAGE, PERIOD};
 use crate::timing::{exponent, nanoseconds, number, Plan, Side};
-use reference::{Monitor, Period};
+use reference::Monitor;
 use std::array;
 
 /// The numbers of records that are measured of each family.
@@ -71,8 +71,7 @@ pub fn check(contract: &[u8]) {
     let answer = inputs::any(&mut Random::new(), 20)
         .chunks_exact(PERIOD)
         .map(|record| {
-            let period = Period::of_record(record);
-            monitor.step(period.one, period.two);
+            inputs::take(&mut monitor, record);
             product::step(&image, &mut state, record)
         })
         .last()

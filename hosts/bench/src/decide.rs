@@ -34,7 +34,7 @@ pub fn measure(plan: &Plan) {
 fn measure_lengths(plan: &Plan, contract: &Open) {
     let image = product::image_of(&contract.bytes);
     let lengths = LENGTHS.map(|records| plan.size(records, LENGTHS[0]));
-    let open = contract.kept.to_bytes().repeat(DECISION - 2);
+    let open = inputs::narrow(&[contract.kept; DECISION - 2]);
     let trace = inputs::violated(&mut Random::new(), open, lengths[lengths.len() - 1]);
     let rows = product::rows_of(&image);
     plan.say(&format!("\n   {}: {rows} rows", contract.name));

@@ -1,10 +1,11 @@
 //! Traces, and an image by hand.
 
+use crate::plain::attempts;
 use crate::product::ROW;
 use monitor::Period;
 use reference::{Clause, Decision, Monitor};
 
-/// An image and a trace.
+/// An image and a narrow trace.
 pub struct Input {
     pub name: String,
     pub image: Vec<u8>,
@@ -30,25 +31,44 @@ impl Random {
         ((self.next() >> 16) % limit as u64) as usize
     }
 
-    fn mask(&mut self) -> u16 {
-        (self.next() >> 24) as u16
+    /// Attempts at lower actions.
+    fn mask(&mut self) -> u32 {
+        u32::from((self.next() >> 24) as u16)
     }
 
     /// Each bit is set in one of eight draws.
-    fn few_bits(&mut self) -> u16 {
+    fn few_bits(&mut self) -> u32 {
         self.mask() & self.mask() & self.mask()
     }
 }
 
-fn masks(period: Period) -> (u16, u16) {
+fn masks(period: Period) -> (u32, u32) {
     (
         period.mask(monitor::Party::One),
         period.mask(monitor::Party::Two),
     )
 }
 
-fn bytes(periods: &[Period]) -> Vec<u8> {
+/// The narrow records of these periods, in which nobody tries an upper action.
+pub fn narrow(periods: &[Period]) -> Vec<u8> {
+    let record = |period: &Period| {
+        let (one, two) = masks(*period);
+        let [one, two] = [one, two].map(u32::to_le_bytes);
+        [0x54, 0x50, one[0], one[1], two[0], two[1]]
+    };
+    periods.iter().flat_map(record).collect()
+}
+
+/// The wide records with the attempts of these narrow ones.
+pub fn wide(trace: &[u8]) -> Vec<u8> {
+    let periods = Period::from_trace(trace).expect("a trace");
     periods.iter().flat_map(|p| p.to_bytes()).collect()
+}
+
+/// The reference's monitor takes a narrow record.
+pub fn take(monitor: &mut Monitor, record: &[u8]) {
+    let [_, one, two] = attempts(record);
+    monitor.step(one.into(), two.into());
 }
 
 /// Any periods.
@@ -56,7 +76,7 @@ pub fn any(random: &mut Random, periods: usize) -> Vec<u8> {
     let drawn: Vec<Period> = (0..periods)
         .map(|_| Period::from_masks(random.mask(), random.mask()))
         .collect();
-    bytes(&drawn)
+    narrow(&drawn)
 }
 
 /// Periods that leave the clause open, near one that always does.
@@ -68,13 +88,13 @@ pub fn open(random: &mut Random, clause: &Clause, kept: Period, periods: usize) 
         drawn.push(period);
         monitor = next;
     }
-    bytes(&drawn)
+    narrow(&drawn)
 }
 
 /// Periods that leave a repaired duty open, two without any attempt, which violate it, then any.
 pub fn violated(random: &mut Random, open: Vec<u8>, periods: usize) -> Vec<u8> {
     let mut trace = open;
-    trace.extend(bytes(&[Period::default(); 2]));
+    trace.extend(narrow(&[Period::default(); 2]));
     trace.extend(any(random, periods));
     trace
 }

@@ -7,15 +7,16 @@ use std::arch::asm;
 use std::hint::unreachable_unchecked;
 use std::mem::swap;
 
-// The safety of every unchecked index: the image is good, so a row's fields name rows of the image,
-// parties 1 and 2 or actions 0 to 15, its kind is at most 6, and each buffer has a value per row.
+// The safety of every unchecked index: the image is good and names no upper action, so a row's fields
+// name rows of the image, parties 1 and 2 or actions 0 to 15, its kind is at most 6, and each buffer
+// has a value per row.
 
 /// A row machine with its image.
 pub trait Machine {
     fn name(&self) -> &'static str;
     /// Sets the state to zeros.
     fn begin(&mut self);
-    /// Takes the periods of a trace.
+    /// Takes the periods of a narrow trace.
     fn run(&mut self, trace: &[u8]);
     /// The state as the calls write it.
     fn state(&self) -> Vec<u8>;
@@ -127,9 +128,9 @@ impl Head {
     }
 }
 
-/// Both parties' attempts, by the party's number.
+/// Both parties' attempts in a narrow record, by the party's number.
 #[inline(always)]
-fn attempts(record: &[u8]) -> [u16; 3] {
+pub fn attempts(record: &[u8]) -> [u16; 3] {
     [0, two_bytes(record, 2), two_bytes(record, 4)]
 }
 

@@ -6,7 +6,7 @@ use monitor::calls;
 pub const ROW: usize = 8;
 /// Bytes of a state before its row values.
 pub const HEAD: usize = 10;
-/// Bytes of a period record.
+/// Bytes of a narrow period record.
 pub const PERIOD: usize = 6;
 /// The most rows of an image.
 pub const MAX_ROWS: usize = 32 * 64 + 64 + 4 * 15 * 64;

@@ -1,4 +1,5 @@
-//! Section 3: a call of `step` for each period against one call of `run`.
+//! Section 3: a call of `step` for each period, and a wide trace, against one call of `run` over a
+//! narrow one.
 
 use crate::contracts;
 use crate::inputs::{self, Input, Random};
@@ -6,14 +7,28 @@ use crate::product::{self, Answer, MAX_ROWS, PERIOD};
 use crate::timing::{nanoseconds, Plan};
 
 pub fn measure(plan: &Plan) {
+    let inputs = inputs(plan);
     plan.say(
         "\n3. `step` for each period against one `run`: nanoseconds for each period\n   \
          No trace decides. Step checks image, state and record at each call. The ratio is that of\n   \
          `step` to `run`.\n",
     );
     line(plan, ["image", "rows", "run", "step", "ratio"]);
-    for input in inputs(plan) {
-        measure_input(plan, &input);
+    for input in &inputs {
+        measure_against_run(plan, input, |state| {
+            by_steps(&input.image, state, &input.trace)
+        });
+    }
+    plan.say(
+        "\n   `run` over wide records against narrow ones with the same attempts: nanoseconds for each period\n   \
+         The ratio is that of the wide records to the narrow ones.\n",
+    );
+    line(plan, ["image", "rows", "narrow", "wide", "ratio"]);
+    for input in &inputs {
+        let wide = inputs::wide(&input.trace);
+        measure_against_run(plan, input, |state| {
+            product::run(&input.image, state, &wide)
+        });
     }
 }
 
@@ -44,22 +59,23 @@ pub fn inputs(plan: &Plan) -> Vec<Input> {
     inputs
 }
 
-fn measure_input(plan: &Plan, input: &Input) {
+/// Other work on the same state, which has to end as `run` over the input's trace does.
+fn measure_against_run(plan: &Plan, input: &Input, other: impl Fn(&mut [u8]) -> Answer) {
     let Input { name, image, trace } = input;
-    let (mut ran, mut stepped) = (product::begin(image), product::begin(image));
-    let (mut at_once, mut at_last) = (Answer::default(), Answer::default());
+    let (mut ran, mut left) = (product::begin(image), product::begin(image));
+    let (mut answer, mut other_answer) = (Answer::default(), Answer::default());
     let times = plan.measure(&mut [
         Box::new(|| {
             ran.fill(0);
-            nanoseconds(|| at_once = product::run(image, &mut ran, trace))
+            nanoseconds(|| answer = product::run(image, &mut ran, trace))
         }),
         Box::new(|| {
-            stepped.fill(0);
-            nanoseconds(|| at_last = by_steps(image, &mut stepped, trace))
+            left.fill(0);
+            nanoseconds(|| other_answer = other(&mut left))
         }),
     ]);
-    assert_eq!(at_once, at_last, "{name}: step replies otherwise");
-    assert!(ran == stepped, "{name}: step leaves another state");
+    assert_eq!(answer, other_answer, "{name}: another reply than run's");
+    assert!(ran == left, "{name}: another state than run's");
     let periods = trace.len() / PERIOD;
     line(
         plan,
@@ -82,8 +98,8 @@ pub fn by_steps(image: &[u8], state: &mut [u8], trace: &[u8]) -> Answer {
     last
 }
 
-fn line(plan: &Plan, [name, rows, run, step, ratio]: [&str; 5]) {
+fn line(plan: &Plan, [name, rows, run, other, ratio]: [&str; 5]) {
     plan.say(&format!(
-        "   {name:<32}{rows:>6}{run:>17}{step:>17}{ratio:>13}"
+        "   {name:<32}{rows:>6}{run:>17}{other:>17}{ratio:>13}"
     ));
 }

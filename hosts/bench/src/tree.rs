@@ -4,7 +4,7 @@ use crate::contracts::{self, Open};
 use crate::inputs::{self, Random};
 use crate::product::{self, Answer, PERIOD};
 use crate::timing::{nanoseconds, Plan};
-use reference::{Clause, Monitor, Period};
+use reference::{Clause, Monitor};
 
 pub fn measure(plan: &Plan) {
     plan.say(
@@ -70,8 +70,7 @@ fn measure_contract(plan: &Plan, contract: &Open, trace: &[u8]) {
 fn by_tree(clause: &Clause, trace: &[u8]) -> Answer {
     let mut monitor = Monitor::new(clause);
     for record in trace.chunks_exact(PERIOD) {
-        let period = Period::of_record(record);
-        monitor.step(period.one, period.two);
+        inputs::take(&mut monitor, record);
     }
     Answer {
         verdict: monitor.verdict().number(),

@@ -7,7 +7,7 @@ use crate::traces;
 use reference::calls::{decide, DECIDE_REPLY};
 use reference::contract::{least_buffer, read, sum_of_windows};
 use reference::image::MAX_BYTES;
-use reference::records::four_bytes;
+use reference::records::{four_bytes, Form};
 use reference::{Monitor, Period};
 
 #[derive(Clone, Copy, Debug, PartialEq, Eq)]
@@ -49,6 +49,17 @@ pub enum Call {
     Step { period: Vec<u8>, reply: usize },
     Run { trace: Vec<u8>, reply: usize },
     Decide { trace: Vec<u8>, reply: usize },
+}
+
+impl Call {
+    /// The period records that it is given.
+    pub fn records_mut(&mut self) -> Option<&mut Vec<u8>> {
+        match self {
+            Call::Begin { .. } => None,
+            Call::Step { period, .. } => Some(period),
+            Call::Run { trace, .. } | Call::Decide { trace, .. } => Some(trace),
+        }
+    }
 }
 
 #[derive(Clone)]
@@ -155,14 +166,14 @@ fn take(random: &mut Random, periods: &[Period], calls: &mut Vec<Call>) {
         if random.percent(runs) {
             let (now, later) = rest.split_at(random.below(rest.len().min(30) + 1));
             calls.push(Call::Run {
-                trace: traces::bytes(now),
+                trace: traces::told(random, now),
                 reply: room(random, 24),
             });
             rest = later;
         } else {
             let (now, later) = rest.split_at(1);
             calls.push(Call::Step {
-                period: traces::bytes(now),
+                period: traces::told(random, now),
                 reply: room(random, 24),
             });
             rest = later;
@@ -178,14 +189,15 @@ fn take(random: &mut Random, periods: &[Period], calls: &mut Vec<Call>) {
 
 /// A call that is refused, mostly.
 fn refused_call(random: &mut Random, rest: &[Period]) -> Call {
-    let some = traces::bytes(&rest[..random.between(1, rest.len().min(20))]);
+    let some = random.between(1, rest.len().min(20));
+    let some = traces::told(random, &rest[..some]);
     match random.below(4) {
         0 => Call::Step {
             period: traces::bad_period(random),
             reply: any_room(random, 24),
         },
         1 => Call::Step {
-            period: traces::bytes(&rest[..1]),
+            period: traces::told(random, &rest[..1]),
             reply: random.below(24),
         },
         2 => Call::Run {
@@ -232,7 +244,7 @@ fn decision_of_contract(contract: &[u8], periods: &[Period]) -> usize {
 /// The decision period of an image on these periods; 0 for none, or if the image isn't good.
 fn decision_of_image(image: &[u8], periods: &[Period]) -> usize {
     let mut reply = [0; DECIDE_REPLY];
-    decide(image, &traces::bytes(periods), &mut reply);
+    decide(image, &traces::bytes(Form::Wide, periods), &mut reply);
     four_bytes(&reply, 20) as usize
 }
 
@@ -322,7 +334,7 @@ fn damaged_image_case(random: &mut Random) -> Parts {
     for _ in 0..random.between(1, 3) {
         let length = random.below(16);
         let periods = traces::any(random, length);
-        let mut trace = traces::bytes(&periods);
+        let mut trace = traces::told(random, &periods);
         if trace_fault {
             traces::damage(random, &mut trace);
         }
@@ -355,7 +367,8 @@ fn step_record(random: &mut Random, fault: bool) -> Vec<u8> {
     if fault {
         traces::bad_period(random)
     } else {
-        traces::bytes(&traces::any(random, 1))
+        let periods = traces::any(random, 1);
+        traces::told(random, &periods)
     }
 }
 
@@ -363,31 +376,99 @@ fn step_record(random: &mut Random, fault: bool) -> Vec<u8> {
 mod tests {
     use super::*;
     use reference::records::read_trace;
+    use std::collections::BTreeSet;
 
     const QUIET: Period = Period { one: 0, two: 0 };
     const BOTH: Period = Period { one: 1, two: 1 };
 
     #[test]
     fn every_family_has_decides_of_every_sort() {
-        // Without room, empty, good, with a bad length, with a bad mark.
-        let mut counts = [[0; 5]; FAMILIES.len()];
-        for case in (0..3000).map(Case::of_seed) {
+        // Without room, empty, good in each form; with a bad first mark, a bad length, a bad mark
+        // later, and one of the other form.
+        let mut counts = [[0; 8]; FAMILIES.len()];
+        for case in (0..5000).map(Case::of_seed) {
             for call in &case.calls {
                 let Call::Decide { trace, reply } = call else {
                     continue;
                 };
-                let sort = match read_trace(trace) {
+                let form = traces::form_of(trace);
+                let unit = traces::unit_of(trace);
+                let sort = match (form, read_trace(trace)) {
                     _ if *reply < DECIDE_REPLY => 0,
-                    Ok(periods) if periods.is_empty() => 1,
-                    Ok(_) => 2,
-                    Err(_) if !trace.len().is_multiple_of(6) => 3,
-                    Err(_) => 4,
+                    (None, Ok(_)) => 1,
+                    (Some(form), Ok(_)) => 2 + form as usize,
+                    (None, Err(_)) => 4,
+                    (Some(_), Err(_)) if !trace.len().is_multiple_of(unit) => 5,
+                    (Some(_), Err(refusal)) => {
+                        let record = &trace[refusal.place as usize * unit..];
+                        6 + usize::from(traces::form_of(record).is_some())
+                    }
                 };
                 counts[case.family as usize][sort] += 1;
             }
         }
         let all = counts.as_flattened();
         assert!(all.iter().all(|count| *count > 10), "{counts:?}");
+    }
+
+    /// The number of each call that is given records, their form as a number, and their length.
+    fn given(case: &Case) -> impl Iterator<Item = (usize, Option<usize>, usize)> + '_ {
+        case.calls.iter().filter_map(|call| {
+            let (call, records) = match call {
+                Call::Begin { .. } => return None,
+                Call::Step { period, .. } => (0, period),
+                Call::Run { trace, .. } => (1, trace),
+                Call::Decide { trace, .. } => (2, trace),
+            };
+            let form = traces::form_of(records).map(|form| form as usize);
+            Some((call, form, records.len()))
+        })
+    }
+
+    #[test]
+    fn both_forms_meet_contracts_with_and_without_upper_actions() {
+        let mut counts = [[[0; 2]; 2]; 3];
+        for case in (0..2000).map(Case::of_seed) {
+            let Start::Contract { bytes, .. } = &case.start else {
+                continue;
+            };
+            let names_upper = bytes.chunks_exact(6).any(|record| record[4] >= 16);
+            for (call, form, _) in given(&case) {
+                if let Some(form) = form {
+                    counts[call][form][usize::from(names_upper)] += 1;
+                }
+            }
+        }
+        let all = counts.as_flattened().as_flattened();
+        assert!(all.iter().all(|count| *count > 200), "{counts:?}");
+    }
+
+    #[test]
+    fn steps_alternate_between_forms() {
+        let alternates = |case: &Case| {
+            let steps = given(case).filter(|(call, _, _)| *call == 0);
+            let forms: Vec<usize> = steps.filter_map(|(_, form, _)| form).collect();
+            forms.windows(2).filter(|pair| pair[0] != pair[1]).count() > 4
+        };
+        let cases = (0..1000).map(Case::of_seed).filter(alternates).count();
+        assert!(cases > 100, "{cases}");
+    }
+
+    #[test]
+    fn every_short_length_is_given_to_every_call() {
+        let mut seen = BTreeSet::new();
+        for case in (0..20000).map(Case::of_seed) {
+            seen.extend(given(&case));
+        }
+        for call in 0..3 {
+            for length in 2..22 {
+                for form in [None, Some(0), Some(1)] {
+                    let given = (call, form, length);
+                    assert!(seen.contains(&given), "{given:?}");
+                }
+            }
+            assert!((0..2).all(|length| seen.contains(&(call, None, length))));
+        }
     }
 
     #[test]

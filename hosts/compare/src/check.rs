@@ -2,15 +2,16 @@
 
 use crate::cases::{Call, Case, Start};
 use crate::guard::Lent;
-use crate::images::rows_of;
+use crate::images::{rows_of, ROW};
 use crate::random::Random;
 use crate::report::{Difference, Tally};
+use crate::traces;
 use monitor::calls as product;
 use reference::calls::{self, short_reply, DECIDE_REPLY, LONG_REPLY, SHORT_REPLY};
 use reference::contract::{compile, least_buffer, max_rows};
-use reference::records::{four_bytes, PERIOD_MARK, RECORD_BYTES};
+use reference::records::{four_bytes, Form};
 use reference::state::HEAD_BYTES;
-use reference::{image, Clause, Decision, Monitor, Period};
+use reference::{image, Clause, Decision, Monitor};
 use std::rc::Rc;
 
 /// Runs the case; an error is the first difference.
@@ -128,6 +129,49 @@ fn check_again(contract: &Lent, first: &[u8], random: &mut Random) -> Result<(),
     Ok(())
 }
 
+/// Step or run: its name, the product's and the reference's.
+struct Taking {
+    name: &'static str,
+    product: Take,
+    reference: Take,
+}
+
+/// Image, state, period records, reply area.
+type Take = fn(&[u8], &mut [u8], &[u8], &mut [u8]) -> u32;
+
+const STEP: Taking = Taking {
+    name: "step",
+    product: product::step,
+    reference: calls::step,
+};
+const RUN: Taking = Taking {
+    name: "run",
+    product: product::run,
+    reference: calls::run,
+};
+
+/// Records of the other form with the same attempts leave the same state and get the same reply,
+/// where there are such records.
+fn same_in_other_form(
+    call: &str,
+    trace: &[u8],
+    before: &[u8],
+    [state, reply]: [&[u8]; 2],
+    again: impl FnOnce(&[u8], &mut [u8], &mut [u8]),
+) -> Result<(), Difference> {
+    let Some(trace) = traces::in_other_form(trace) else {
+        return Ok(());
+    };
+    let (mut other_state, mut other_reply) = (before.to_vec(), vec![0; reply.len()]);
+    again(&trace, &mut other_state, &mut other_reply);
+    let same = |what, given: &[u8], other: &[u8]| {
+        Difference::unless_same(call, what, &given, &other)
+            .map_err(|difference| difference.between(&["given", "other"]))
+    };
+    same("the state, by the form of the records", state, &other_state)?;
+    same("the reply, by the form of the records", reply, &other_reply)
+}
+
 /// Calls on one image and one state.
 struct Calls {
     image: Lent,
@@ -136,16 +180,20 @@ struct Calls {
     clause: Option<Rc<Clause>>,
     /// The meaning of the periods since begin, where there is a clause.
     meaning: Option<Monitor>,
+    /// Whether a row names an upper action.
+    names_upper: bool,
     random: Random,
 }
 
 impl Calls {
     fn new(image: &[u8], state: &[u8], clause: Option<Rc<Clause>>, mut random: Random) -> Calls {
+        let names_upper = |row: &[u8]| row[2] == 2 && row[6] >= 16;
         Calls {
             image: Lent::new("image", image, &mut random),
             state: Lent::new("state", state, &mut random),
             clause,
             meaning: None,
+            names_upper: image.chunks_exact(ROW).any(names_upper),
             random,
         }
     }
@@ -157,10 +205,16 @@ impl Calls {
                     self.begin(&format!("call {number}, begin"), *reply, tally)?;
                 }
                 Call::Step { period, reply } => {
-                    self.step(&format!("call {number}, step"), period, *reply, tally)?;
+                    self.take(
+                        &format!("call {number}, step"),
+                        &STEP,
+                        period,
+                        *reply,
+                        tally,
+                    )?;
                 }
                 Call::Run { trace, reply } => {
-                    self.run(&format!("call {number}, run"), trace, *reply, tally)?;
+                    self.take(&format!("call {number}, run"), &RUN, trace, *reply, tally)?;
                 }
                 Call::Decide { trace, reply } => {
                     self.decide(&format!("call {number}, decide"), trace, *reply, tally)?;
@@ -193,53 +247,24 @@ impl Calls {
         Ok(())
     }
 
-    fn step(
+    fn take(
         &mut self,
         call: &str,
-        period: &[u8],
-        reply: usize,
-        tally: &mut Tally,
-    ) -> Result<(), Difference> {
-        let period = Lent::new("period record", period, &mut self.random);
-        let mut reply = Lent::random("reply area", reply, &mut self.random);
-        let came = product::step(
-            self.image.product(),
-            self.state.product_mut(),
-            period.product(),
-            reply.product_mut(),
-        );
-        let expected = calls::step(
-            self.image.reference(),
-            self.state.reference_mut(),
-            period.reference(),
-            reply.reference_mut(),
-        );
-        results(call, expected, came)?;
-        period.compare(call)?;
-        self.compare(call, &reply)?;
-        if tally.result("step", expected, reply.reference()) {
-            self.taken(call, period.reference(), reply.product(), tally)?;
-        }
-        Ok(())
-    }
-
-    fn run(
-        &mut self,
-        call: &str,
+        taking: &Taking,
         trace: &[u8],
         reply: usize,
         tally: &mut Tally,
     ) -> Result<(), Difference> {
         let before = self.state.product().to_vec();
-        let trace = Lent::new("trace", trace, &mut self.random);
+        let trace = Lent::new("period records", trace, &mut self.random);
         let mut reply = Lent::random("reply area", reply, &mut self.random);
-        let came = product::run(
+        let came = (taking.product)(
             self.image.product(),
             self.state.product_mut(),
             trace.product(),
             reply.product_mut(),
         );
-        let expected = calls::run(
+        let expected = (taking.reference)(
             self.image.reference(),
             self.state.reference_mut(),
             trace.reference(),
@@ -248,9 +273,19 @@ impl Calls {
         results(call, expected, came)?;
         trace.compare(call)?;
         self.compare(call, &reply)?;
-        if tally.result("run", expected, reply.reference()) {
-            self.taken(call, trace.reference(), reply.product(), tally)?;
-            self.same_as_steps(call, before, trace.reference(), reply.product())?;
+        let (trace, reply) = (trace.reference(), reply.product());
+        if expected == 1 {
+            let left = [self.state.product(), &reply[..LONG_REPLY]];
+            same_in_other_form(call, trace, &before, left, |trace, state, reply| {
+                (taking.product)(self.image.product(), state, trace, reply);
+            })?;
+        }
+        if tally.result(taking.name, expected, reply) {
+            tally.form(traces::form_of(trace), self.names_upper);
+            self.taken(call, trace, reply, tally)?;
+            if taking.name == RUN.name {
+                self.same_as_steps(call, before, trace, reply)?;
+            }
         }
         Ok(())
     }
@@ -273,31 +308,41 @@ impl Calls {
         results(call, expected, came)?;
         trace.compare(call)?;
         self.compare(call, &reply)?;
+        let (trace, reply) = (trace.reference(), reply.product());
         if expected == 1 {
-            if let Some((number, decision)) = self.first_bad_mark(trace.reference()) {
+            if let Some((number, decision)) = self.first_bad_mark(trace) {
                 tally.bad_mark(number, decision);
             }
+            let left = [&[], &reply[..DECIDE_REPLY]];
+            same_in_other_form(call, trace, &[], left, |trace, _, reply| {
+                product::decide(self.image.product(), trace, reply);
+            })?;
         }
-        if tally.result("decide", expected, reply.reference()) {
-            tally.decide(four_bytes(reply.product(), 4));
-            self.decided(call, trace.reference(), reply.product())?;
-            self.same_as_run(call, trace.reference(), reply.product())?;
+        if tally.result("decide", expected, reply) {
+            tally.form(traces::form_of(trace), self.names_upper);
+            tally.decide(four_bytes(reply, 4));
+            self.decided(call, trace, reply)?;
+            self.same_as_run(call, trace, reply)?;
         }
         Ok(())
     }
 
     /// The number of the first record with a bad mark, and the decision period of the trace with
-    /// good marks, if image and length are good.
+    /// good marks, if image and length are good. Where the first mark is bad, the length tells the
+    /// form.
     fn first_bad_mark(&self, trace: &[u8]) -> Option<(usize, usize)> {
+        let fits = |form: &Form| trace.len().is_multiple_of(traces::record_bytes(*form));
+        let form = traces::form_of(trace).or_else(|| traces::FORMS.into_iter().find(fits))?;
+        let unit = traces::record_bytes(form);
         let mut good = trace.to_vec();
-        for record in good.chunks_exact_mut(RECORD_BYTES) {
-            record[..2].copy_from_slice(&PERIOD_MARK);
+        for record in good.chunks_exact_mut(unit) {
+            record[..2].copy_from_slice(&traces::mark(form));
         }
         let at = trace.iter().zip(&good).position(|(was, is)| was != is)?;
         let mut reply = [0; DECIDE_REPLY];
         calls::decide(self.image.reference(), &good, &mut reply);
         let decision = four_bytes(&reply, 20) as usize;
-        (four_bytes(&reply, 0) == 0).then_some((at / RECORD_BYTES, decision))
+        (four_bytes(&reply, 0) == 0).then_some((at / unit, decision))
     }
 
     fn compare(&self, call: &str, reply: &Lent) -> Result<(), Difference> {
@@ -318,8 +363,7 @@ impl Calls {
         let Some(meaning) = &mut self.meaning else {
             return Ok(());
         };
-        for record in trace.chunks(RECORD_BYTES) {
-            let period = Period::of_record(record);
+        for period in traces::periods(trace) {
             meaning.step(period.one, period.two);
         }
         let expected = [
@@ -338,11 +382,10 @@ impl Calls {
             return Ok(());
         };
         let mut meaning = Monitor::new(clause);
-        for record in trace.chunks(RECORD_BYTES) {
+        for period in traces::periods(trace) {
             if meaning.decision() != Decision::Undecided {
                 break;
             }
-            let period = Period::of_record(record);
             meaning.step(period.one, period.two);
         }
         let expected = [
@@ -361,7 +404,7 @@ impl Calls {
     fn same_as_run(&self, call: &str, trace: &[u8], reply: &[u8]) -> Result<(), Difference> {
         let image = self.image.product();
         let read = four_bytes(reply, 24) as usize;
-        let read = &trace[..trace.len().min(read * RECORD_BYTES)];
+        let read = &trace[..trace.len().min(read * traces::unit_of(trace))];
         let mut state = vec![0xff; HEAD_BYTES + rows_of(image)];
         product::begin(image, &mut state, &mut [0; SHORT_REPLY]);
         product::run(image, &mut state, read, &mut [0; LONG_REPLY]);
@@ -382,7 +425,7 @@ impl Calls {
         reply: &[u8],
     ) -> Result<(), Difference> {
         let mut last = [0; LONG_REPLY];
-        for record in trace.chunks(RECORD_BYTES) {
+        for record in trace.chunks(traces::unit_of(trace)) {
             product::step(self.image.product(), &mut state, record, &mut last);
         }
         let same = |what, steps: &[u8], run: &[u8]| {
@@ -460,7 +503,7 @@ mod tests {
         let mut calls = calls(&DUTY);
         calls.begin("begin", 16, tally).unwrap();
         calls.state.product_mut()[0] ^= 1;
-        assert!(calls.step("step", &QUIET, 24, tally).is_err());
+        assert!(calls.take("step", &STEP, &QUIET, 24, tally).is_err());
     }
 
     #[test]
@@ -469,7 +512,7 @@ mod tests {
         let mut calls = calls(&DUTY);
         calls.begin("begin", 16, tally).unwrap();
         let before = calls.state.product().to_vec();
-        calls.step("step", &QUIET, 24, tally).unwrap();
+        calls.take("step", &STEP, &QUIET, 24, tally).unwrap();
         let mut reply = [0; LONG_REPLY];
         product::step(
             calls.image.product(),
@@ -483,6 +526,20 @@ mod tests {
         assert!(same(&[], &reply).is_err(), "another state");
         reply[4] ^= 1;
         assert!(same(&QUIET, &reply).is_err(), "another reply");
+    }
+
+    #[test]
+    fn another_end_in_the_other_form_is_a_difference() {
+        let ends = |state: u8, reply: u8| {
+            let left: [&[u8]; 2] = [&[1], &[2]];
+            same_in_other_form("step", &QUIET, &[0], left, |trace, states, replies| {
+                assert_eq!(trace, [0x54, 0x51, 0, 0, 0, 0, 0, 0, 0, 0]);
+                (states[0], replies[0]) = (state, reply);
+            })
+        };
+        ends(1, 2).unwrap();
+        assert!(ends(0, 2).is_err(), "another state");
+        assert!(ends(1, 0).is_err(), "another reply");
     }
 
     #[test]
@@ -529,6 +586,14 @@ mod tests {
             Some((2, 1))
         );
         assert_eq!(found(&[QUIET, BAD].concat()[..11]), None, "a bad length");
+
+        let wide = [0x54, 0x51, 0, 0, 0, 0, 0, 0, 0, 0];
+        let mut trace = [wide, wide, wide].concat();
+        assert_eq!(found(&trace), None);
+        trace[21] = 0x50;
+        assert_eq!(found(&trace), Some((2, 1)));
+        trace[0] = 0;
+        assert_eq!(found(&trace[..20]), Some((0, 1)), "by the length");
     }
 
     #[test]

@@ -23,6 +23,8 @@ const LONGEST: &[u8] = &[15];
 
 /// What the fields of records are drawn from.
 struct Fields {
+    /// The lowest action, and how many there are from it on.
+    first: usize,
     actions: usize,
     /// The owners of duties, as often as they are drawn; 3 is both parties.
     owners: &'static [u8],
@@ -54,10 +56,12 @@ impl Style {
             Shape::RightDeep,
             Shape::Balanced,
         ];
+        let actions = random.pick(&[1, 1, 2, 2, 3, 4, 16, 32]);
         Style {
             shape: random.pick(&shapes),
             fields: Fields {
-                actions: random.pick(&[1, 1, 2, 2, 3, 4, 16]),
+                first: first_of(random, actions),
+                actions,
                 owners: random.pick(&[&[1, 2], &[1, 2], &[1, 2, 3], &[1, 2, 3, 3, 3], &[3]]),
                 windows: random.pick(&[SHORT, SHORT, MIDDLING, ALL, LONGEST]),
             },
@@ -86,6 +90,15 @@ impl Style {
             Shape::Balanced => records / 2,
         };
         (left, records - left)
+    }
+}
+
+/// The lowest of so many actions, often 0.
+fn first_of(random: &mut Random, actions: usize) -> usize {
+    if random.percent(50) {
+        0
+    } else {
+        random.between(0, 32 - actions)
     }
 }
 
@@ -175,7 +188,7 @@ fn push_kind(random: &mut Random, fields: &Fields, kind: u8, out: &mut Vec<u8>) 
         Parties::One => random.pick(&[1, 2]),
         Parties::OneOrBoth => random.pick(fields.owners),
     };
-    let action = random.below(fields.actions) as u8;
+    let action = (fields.first + random.below(fields.actions)) as u8;
     let window = random.pick(fields.windows);
     let field = |used: bool, value: u8| if used { value } else { 0 };
     out.extend([0x54, 0x43, kind, party]);
@@ -275,6 +288,7 @@ pub fn soup(random: &mut Random) -> Vec<u8> {
     let fitting = random.percent(70);
     let faults = random.pick(&[0, 0, 3, 10]);
     let fields = Fields {
+        first: first_of(random, 4),
         actions: 4,
         owners: &[1, 2, 3],
         windows: ALL,
@@ -304,14 +318,17 @@ fn damage_field(random: &mut Random, out: &mut [u8]) {
         0 => out[last + 2] = random.byte(),
         1 => out[last + 2] = random.pick(&[10, 11]),
         2 => out[last + 3] = random.below(5) as u8,
-        3 => {
-            out[last + 4] = if random.percent(50) {
-                16
-            } else {
-                random.byte()
-            }
-        }
+        3 => out[last + 4] = action(random),
         _ => out[last + 5] = last_byte(random),
+    }
+}
+
+/// An action at the limits, or any byte.
+fn action(random: &mut Random) -> u8 {
+    if random.percent(75) {
+        random.pick(&[0, 15, 16, 31, 32, 33])
+    } else {
+        random.byte()
     }
 }
 
@@ -335,6 +352,10 @@ fn some_of(random: &mut Random, bytes: &[u8], such: fn(u8) -> bool) -> Option<us
 
 fn uses_party(kind: u8) -> bool {
     kind_of(kind).is_some_and(|kind| kind.parties != Parties::None)
+}
+
+fn uses_action(kind: u8) -> bool {
+    kind_of(kind).is_some_and(|kind| kind.action)
 }
 
 /// A contract with one to three faults, which may turn out to be none.
@@ -364,6 +385,7 @@ pub fn damage(random: &mut Random, bytes: &mut Vec<u8>) {
     let deadline = some(|kind| kind == 10);
     let duty = some(|kind| kind == 1);
     let with_party = some(uses_party);
+    let with_action = some(uses_action);
     match random.below(19) {
         0 => {
             let byte = random.below(bytes.len());
@@ -382,8 +404,8 @@ pub fn damage(random: &mut Random, bytes: &mut Vec<u8>) {
         7 => bytes[at + 2] = random.byte(),
         8 => bytes[at + 2] = random.between(0, 24) as u8,
         9 => bytes[at + 3] = random.below(5) as u8,
-        10 => bytes[at + 4] = random.byte(),
-        11 => bytes[at + 4] = random.between(0, 17) as u8,
+        10 => bytes[at + 4] = action(random),
+        11 => bytes[with_action + 4] = action(random),
         12 => bytes[at + 5] = last_byte(random),
         13 => bytes[deadline + 5] = last_byte(random),
         14 => bytes[deadline + 2] = 11,
@@ -505,18 +527,47 @@ mod tests {
     }
 
     #[test]
-    fn damage_reaches_parties() {
-        // Kind and party of the records at which refusal 4 is given.
+    fn every_action_comes_up() {
+        let mut actions = [0; 32];
+        for seed in 0..2000 {
+            let contract = good(&mut Random::new(seed));
+            let records = contract.chunks(RECORD);
+            for record in records.filter(|record| uses_action(record[2])) {
+                actions[usize::from(record[4])] += 1;
+            }
+        }
+        assert!(actions.iter().all(|count| *count > 50), "{actions:?}");
+    }
+
+    /// The kind of the records at which damaged contracts are refused by 4, and that byte of them.
+    fn refused_with(byte: usize) -> BTreeSet<(u8, u8)> {
         let mut refused = BTreeSet::new();
         for seed in 0..20000 {
             let contract = damaged(&mut Random::new(seed));
             if let Err(refusal) = read(&contract) {
                 if refusal.number == 4 {
                     let at = refusal.place as usize * RECORD;
-                    refused.insert((contract[at + 2], contract[at + 3]));
+                    refused.insert((contract[at + 2], contract[at + byte]));
                 }
             }
         }
+        refused
+    }
+
+    #[test]
+    fn damage_reaches_actions() {
+        let refused = refused_with(4);
+        for kind in KINDS.iter().filter(|kind| kind.action) {
+            for action in [32, 33] {
+                let fault = (kind.number, action);
+                assert!(refused.contains(&fault), "kind and action {fault:?}");
+            }
+        }
+    }
+
+    #[test]
+    fn damage_reaches_parties() {
+        let refused = refused_with(3);
         let of_both = KINDS
             .iter()
             .filter(|kind| kind.parties == Parties::One)

@@ -43,7 +43,7 @@ fn compiled(random: &mut Random) -> Vec<u8> {
 /// A good image of random rows.
 fn of_rows(random: &mut Random, least: usize, most: usize) -> Vec<u8> {
     let rows = random.between(least, most);
-    let actions = random.pick(&[1, 2, 16]);
+    let actions = random.pick(&[1, 2, 16, 32, 32]);
     let mut out = Vec::with_capacity(ROW * (rows + 1));
     for number in 0..rows {
         row(random, number, rows, actions, &mut out);
@@ -138,7 +138,8 @@ pub fn damage(random: &mut Random, image: &mut Vec<u8>) {
         9 => {
             image[at + 2] = 2;
             field(image, at + 4, random.pick(&[0, 1, 2, 3, 257, 65535]));
-            field(image, at + 6, random.pick(&[0, 15, 16, 256, 65535]));
+            let action = random.pick(&[0, 15, 16, 31, 32, 33, 256, 288, 65535]);
+            field(image, at + 6, action);
         }
         10 => field(image, at + 6, random.pick(&[1, 256])),
         11 => field(image, at + 4, random.pick(&[1, 256])),

@@ -10,6 +10,7 @@ pub mod guard;
 mod images;
 pub mod random;
 pub mod report;
+pub mod short;
 pub mod shrink;
 pub mod small;
 mod traces;

@@ -3,13 +3,14 @@
 //! `compare [--cases N] [--seed S] [--watch PATH] [--watch-cases M] [--small R]`: case number i is
 //! that of the seed S + i, so `compare --seed S --cases 1` repeats one case, and
 //! `compare --seed S --cases 0 --watch PATH --watch-cases 1` one input of `watch`. With `--small R`
-//! every contract of at most R records on one action, with windows of 2 or 3, is compared too.
+//! every short trace is compared too, and every contract of at most R records on one action, with
+//! windows of 2 or 3.
 
 #![forbid(unsafe_code)]
 
 use compare::cases::{Case, Start, FAMILIES};
 use compare::report::{self, Summary, Tally};
-use compare::{check, shrink, small, watch};
+use compare::{check, short, shrink, small, watch};
 use std::env;
 use std::path::{Path, PathBuf};
 use std::process::ExitCode;
@@ -63,13 +64,33 @@ fn compare_case(seed: u64, summary: &mut Summary) -> bool {
         return true;
     }
     println!("seed {seed}: a difference");
+    print_smaller(case);
+    false
+}
+
+/// Prints the smallest case that a difference could be shrunk to.
+fn print_smaller(case: Case) {
     let mut differs = |case: &Case| check::check(case, &mut Tally::default()).is_err();
     let smaller = shrink::case(case, &mut differs);
     report::print_case(&smaller);
     if let Err(difference) = check::check(&smaller, &mut Tally::default()) {
         difference.print();
     }
-    false
+}
+
+/// Compares every short trace; false after a difference, which is printed.
+fn compare_short() -> bool {
+    let mut tally = Tally::default();
+    for case in short::cases() {
+        tally.case();
+        if check::check(&case, &mut tally).is_err() {
+            println!("a short trace: a difference");
+            print_smaller(case);
+            return false;
+        }
+    }
+    tally.print("every short trace");
+    true
 }
 
 /// Compares one input of `watch`; false after a difference, which is printed.
@@ -116,7 +137,7 @@ fn main() -> ExitCode {
         }
     }
     summary.print();
-    if options.small > 0 && !small::compare(options.small) {
+    if options.small > 0 && !(compare_short() && small::compare(options.small)) {
         return ExitCode::FAILURE;
     }
     println!("compared {} cases, no difference", options.cases + watched);

@@ -1,7 +1,10 @@
 //! What was seen, and what differed.
 
 use crate::cases::{Call, Case, Start, FAMILIES};
+use crate::traces;
+use crate::watch::split;
 use reference::contract::{sum_of_windows, KINDS};
+use reference::records::Form;
 use reference::Monitor;
 use std::cmp::Ordering;
 use std::collections::BTreeMap;
@@ -108,11 +111,11 @@ pub fn print_case(case: &Case) {
             }
             Call::Run { trace, reply } => {
                 println!("call {number}: run, reply area of {reply}");
-                print_lines("  trace", trace, 6);
+                print_lines("  trace", trace, traces::unit_of(trace));
             }
             Call::Decide { trace, reply } => {
                 println!("call {number}: decide, reply area of {reply}");
-                print_lines("  trace", trace, 6);
+                print_lines("  trace", trace, traces::unit_of(trace));
             }
         }
     }
@@ -120,7 +123,9 @@ pub fn print_case(case: &Case) {
 
 /// Prints an input of `watch`.
 pub fn print_input(input: &[u8]) {
-    print_lines("input", input, 6);
+    let (contract, trace) = split(input);
+    print_lines("input's contract", contract, 6);
+    print_lines("input's trace", trace, traces::unit_of(trace));
 }
 
 /// Counts of one family, or of `watch`.
@@ -129,6 +134,8 @@ pub struct Tally {
     cases: usize,
     /// By call and number; 99 stands for a reply area without room.
     replies: BTreeMap<(&'static str, u32), usize>,
+    /// Accepted calls with records: narrow ones, narrow ones where a row names an upper action, wide.
+    forms: [usize; 3],
     verdicts: [usize; 5],
     /// Accepted decides by outcome: undecided, satisfied, violated.
     decides: [usize; 3],
@@ -183,6 +190,17 @@ impl Tally {
         number == 0
     }
 
+    /// Counts an accepted call by the form of its records, and by whether a row names an upper
+    /// action.
+    pub fn form(&mut self, form: Option<Form>, names_upper: bool) {
+        let kind = match form {
+            None => return,
+            Some(Form::Narrow) => usize::from(names_upper),
+            Some(Form::Wide) => 2,
+        };
+        self.forms[kind] += 1;
+    }
+
     pub fn verdict(&mut self, verdict: u32) {
         self.verdicts[verdict as usize] += 1;
     }
@@ -233,7 +251,7 @@ impl Tally {
         }
     }
 
-    fn print(&self, name: &str) {
+    pub fn print(&self, name: &str) {
         println!("{name}: {} cases", self.cases);
         for call in ["compile", "begin", "step", "run", "decide", "watch"] {
             let counts: Vec<String> = self
@@ -250,6 +268,8 @@ impl Tally {
                 println!("  {call}: {}", counts.join(", "));
             }
         }
+        let forms = ["narrow", "narrow where an upper action is named", "wide"];
+        print_counts("accepted, by the records' form", &forms, &self.forms);
         let verdicts = ["open", "met", "broken", "met-after", "broken-after"];
         print_counts("verdicts", &verdicts, &self.verdicts);
         let outcomes = ["undecided", "satisfied", "violated"];

@@ -3,10 +3,15 @@
 
 use crate::cases::{Call, Case, Start};
 use crate::images::{rows_of, ROW};
+use crate::traces::{form_of, unit_of};
+use crate::watch::split;
 use reference::contract::{kind_of, least_buffer};
 
 /// Most changes that are tried.
 const MAX_TRIED: usize = 60000;
+
+/// What is dropped of traces: wide records, narrow ones, bytes.
+const TRACE_UNITS: [usize; 3] = [10, 6, 1];
 
 struct Shrinker<'a, T> {
     now: T,
@@ -70,8 +75,9 @@ pub fn input(input: Vec<u8>, differs: &mut dyn FnMut(&Vec<u8>) -> bool) -> Vec<u
         quiet_periods(&mut s);
         while replace_in_input(&mut s) {}
         lower_fields(&mut s, |input| input);
-        drop_parts(&mut s, 6, |input| input);
-        drop_parts(&mut s, 1, |input| input);
+        for unit in TRACE_UNITS {
+            drop_parts(&mut s, unit, |input| input);
+        }
         for at in 0..s.now.len() {
             if s.now[at] != 0 {
                 let mut candidate = s.now.clone();
@@ -85,13 +91,7 @@ pub fn input(input: Vec<u8>, differs: &mut dyn FnMut(&Vec<u8>) -> bool) -> Vec<u
 
 /// Puts an operand in the place of what an operator of the contract completes.
 fn replace_in_input(s: &mut Shrinker<Vec<u8>>) -> bool {
-    let is_period = |record: &[u8]| record.starts_with(&[0x54, 0x50]);
-    let records = s
-        .now
-        .chunks_exact(6)
-        .take_while(|record| !is_period(record))
-        .count();
-    let (contract, trace) = s.now.split_at(records * 6);
+    let (contract, trace) = split(&s.now);
     let candidates: Vec<Vec<u8>> = smaller_trees(contract)
         .into_iter()
         .map(|smaller| [&smaller, trace].concat())
@@ -101,13 +101,15 @@ fn replace_in_input(s: &mut Shrinker<Vec<u8>>) -> bool {
 
 /// Takes the attempts out of many period records at once, and then of few.
 fn quiet_periods(s: &mut Shrinker<Vec<u8>>) {
-    let mut size = s.now.len() / 6;
+    let (contract, trace) = split(&s.now);
+    let (start, unit) = (contract.len(), unit_of(trace));
+    let mut size = trace.len() / unit;
     while size > 0 {
-        for from in (0..s.now.len()).step_by(size * 6) {
+        for from in (start..s.now.len()).step_by(size * unit) {
             let mut candidate = s.now.clone();
-            let to = (from + size * 6).min(candidate.len());
-            for record in candidate[from..to].chunks_exact_mut(6) {
-                if record.starts_with(&[0x54, 0x50]) {
+            let to = (from + size * unit).min(candidate.len());
+            for record in candidate[from..to].chunks_exact_mut(unit) {
+                if form_of(record).is_some() {
                     record[2..].fill(0);
                 }
             }
@@ -292,20 +294,16 @@ fn drop_row(bytes: &mut Vec<u8>, state: &mut Vec<u8>, number: usize) {
     }
 }
 
-fn call_bytes(call: &mut Call) -> Option<&mut Vec<u8>> {
-    match call {
-        Call::Begin { .. } => None,
-        Call::Step { period, .. } => Some(period),
-        Call::Run { trace, .. } | Call::Decide { trace, .. } => Some(trace),
-    }
-}
-
 /// Fewer records and an ample reply area.
 fn shrink_call(s: &mut Shrinker<Case>, call: usize) {
     if let Call::Run { .. } | Call::Decide { .. } = s.now.calls[call] {
-        drop_parts(s, 6, move |case| {
-            call_bytes(&mut case.calls[call]).expect("the call has a trace")
-        });
+        for unit in TRACE_UNITS {
+            drop_parts(s, unit, move |case| {
+                case.calls[call]
+                    .records_mut()
+                    .expect("the call has a trace")
+            });
+        }
     }
     let mut candidate = s.now.clone();
     let (reply, ample) = match &mut candidate.calls[call] {
@@ -325,7 +323,7 @@ fn byte_lists(case: &mut Case) -> Vec<&mut Vec<u8>> {
         Start::Contract { bytes, .. } => vec![bytes],
         Start::Image { bytes, state } => vec![bytes, state],
     };
-    lists.extend(case.calls.iter_mut().filter_map(call_bytes));
+    lists.extend(case.calls.iter_mut().filter_map(Call::records_mut));
     lists
 }
 
@@ -435,16 +433,20 @@ mod tests {
 
     #[test]
     fn an_input_gets_small() {
-        let period = [0x54, 0x50, 0, 0, 0, 0];
-        let differs = |input: &Vec<u8>| {
-            let records = input.chunks_exact(6);
-            records.filter(|record| record[..2] == period[..2]).count() >= 2
-        };
-        let found = (1..)
-            .map(input_of_seed)
-            .find(|input| (300..3000).contains(&input.len()) && differs(input))
-            .expect("such an input is drawn");
-        let smaller = input(found, &mut |input| differs(input));
-        assert_eq!(smaller, [period, period].concat());
+        for period in [
+            &[0x54, 0x50, 0, 0, 0, 0][..],
+            &[0x54, 0x51, 0, 0, 0, 0, 0, 0, 0, 0],
+        ] {
+            let differs = |input: &Vec<u8>| {
+                let records = split(input).1.chunks_exact(period.len());
+                records.filter(|record| record[..2] == period[..2]).count() >= 2
+            };
+            let found = (1..)
+                .map(input_of_seed)
+                .find(|input| (300..3000).contains(&input.len()) && differs(input))
+                .expect("such an input is drawn");
+            let smaller = input(found, &mut |input| differs(input));
+            assert_eq!(smaller, [period, period].concat());
+        }
     }
 }

@@ -1,5 +1,6 @@
 //! Every small contract, with windows that short lists outlast, on every short list of periods,
-//! through the Rust wrapper, and decide on each list that is just decided or stays undecided.
+//! through the Rust wrapper, whose steps take wide records, and decide on narrow ones of each list
+//! that is just decided or stays undecided.
 
 use monitor::{calls, Blame, Image, Monitor, Period};
 use reference::calls::DECIDE_REPLY;
@@ -126,7 +127,7 @@ fn follow(
         if !same {
             return Err(format!("{period}: expected {expected:?}, came {came:?}"));
         }
-        let trace = [trace, &next.to_bytes()].concat();
+        let trace = [trace, &[0x54, 0x50, one as u8, 0, two as u8, 0]].concat();
         let left = match meant.decision() {
             Decision::Undecided => left - 1,
             _ => (left - 1).min(1),

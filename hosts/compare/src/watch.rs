@@ -11,34 +11,41 @@ use std::path::Path;
 use std::process::{Command, Output, Stdio};
 use std::thread;
 
+/// The contract and the trace of an input: the trace begins at the first whole six bytes, counted in
+/// sixes, that start with the mark of either form.
+pub fn split(input: &[u8]) -> (&[u8], &[u8]) {
+    let starts = |six: &[u8]| traces::form_of(six).is_some();
+    let sixes = input.chunks_exact(6).position(starts);
+    input.split_at(sixes.map_or(input.len(), |sixes| sixes * 6))
+}
+
 /// The input of that number.
 pub fn input_of_seed(seed: u64) -> Vec<u8> {
     let mut random = Random::new(seed ^ 0x7761_7463_6800_0000);
     let random = &mut random;
-    let mut input = match random.below(20) {
+    let mut input = match random.below(22) {
         0..=9 => good(random),
         10 => long(random),
         11 => contracts::good(random),
         12 => {
             let mut input = contracts::damaged(random);
             let periods = traces::any(random, 3);
-            input.extend(traces::bytes(&periods));
+            input.extend(traces::told(random, &periods));
             input
         }
         13 => {
             let length = random.below(10);
-            traces::bytes(&traces::any(random, length))
+            let periods = traces::any(random, length);
+            traces::told(random, &periods)
         }
-        14 => unaligned(random),
-        15 => {
-            let length = random.below(80);
-            random.bytes(length)
-        }
-        16 => contracts::soup(random),
+        14 | 15 => with_mark(random),
+        16 => random.some_bytes(0, 79),
+        17 => contracts::soup(random),
+        18 => [contracts::good(random), traces::short(random)].concat(),
         _ => with_bad_trace(random),
     };
     if random.percent(10) {
-        let cut = random.below(12).min(input.len());
+        let cut = random.below(22).min(input.len());
         input.truncate(input.len() - cut);
     }
     input
@@ -50,13 +57,14 @@ fn good(random: &mut Random) -> Vec<u8> {
     let length = traces::length(random);
     let clause = read(&input).expect("the contract is taken");
     let periods = traces::for_clause(random, &clause, length);
-    input.extend(traces::bytes(&periods));
+    input.extend(traces::told(random, &periods));
     input
 }
 
-/// An input of the greatest length or a little more.
+/// An input of the greatest length, or a little less or more; at times only whole records of it.
 fn long(random: &mut Random) -> Vec<u8> {
     let mut input = good(random);
+    let form = traces::form_of(split(&input).1).unwrap_or_else(|| random.pick(&traces::FORMS));
     let length = random.pick(&[65514, 65519, 65520, 65520, 65520, 65521, 65526, 70000]);
     let period = traces::period(random, 4);
     while input.len() < length {
@@ -65,20 +73,25 @@ fn long(random: &mut Random) -> Vec<u8> {
         } else {
             period
         };
-        input.extend(next.record());
+        input.extend(traces::bytes(form, &[next]));
     }
-    input.truncate(length);
+    if random.percent(50) {
+        input.truncate(length);
+    } else if input.len() > length {
+        input.truncate(input.len() - traces::record_bytes(form));
+    }
     input
 }
 
-/// `54 50` anywhere but at the start of a six.
-fn unaligned(random: &mut Random) -> Vec<u8> {
+/// The mark of a period record anywhere, mostly not at the start of a six.
+fn with_mark(random: &mut Random) -> Vec<u8> {
     let mut input = good(random);
-    let at = random.below(input.len() / 6) * 6 + random.between(1, 4);
+    let at = random.below(input.len() - 1);
+    let mark = traces::mark(random.pick(&traces::FORMS));
     if random.percent(50) {
-        input[at..at + 2].copy_from_slice(&[0x54, 0x50]);
+        input[at..at + 2].copy_from_slice(&mark);
     } else {
-        input.splice(at..at, [0x54, 0x50]);
+        input.splice(at..at, mark);
     }
     input
 }
@@ -86,7 +99,8 @@ fn unaligned(random: &mut Random) -> Vec<u8> {
 fn with_bad_trace(random: &mut Random) -> Vec<u8> {
     let mut input = contracts::good(random);
     let length = random.below(30);
-    let mut trace = traces::bytes(&traces::any(random, length));
+    let periods = traces::any(random, length);
+    let mut trace = traces::told(random, &periods);
     traces::damage(random, &mut trace);
     input.extend(trace);
     input
@@ -187,6 +201,7 @@ fn tally_text(text: &str, tally: &mut Tally) {
 #[cfg(test)]
 mod tests {
     use super::*;
+    use reference::records::read_trace;
     use std::os::unix::process::ExitStatusExt;
     use std::process::ExitStatus;
 
@@ -209,6 +224,41 @@ mod tests {
         for text in ["", "decided 0", "decided 1\n", "decided 0\n\n"] {
             assert!(differs(0, text, ""), "{text:?}");
         }
+    }
+
+    #[test]
+    fn an_input_is_split_at_a_six_with_a_mark_of_either_form() {
+        let contract = [0x54, 0x43, 1, 1, 0, 0];
+        for form in traces::FORMS {
+            let mark = traces::mark(form);
+            let started = [&contract[..], &mark, &[0; 4]].concat();
+            assert_eq!(split(&started).0, contract);
+            assert_eq!(split(&[&started[..], &contract].concat()).0, contract);
+            // Less than six bytes, and off the grid.
+            assert_eq!(split(&started[..11]).1, []);
+            assert_eq!(split(&started[1..]).1, []);
+        }
+    }
+
+    #[test]
+    fn inputs_of_both_forms_come_up() {
+        // By the form that the trace starts with, and by what is refused: nothing, the contract, the
+        // trace.
+        let mut counts = [[0; 3]; 2];
+        for seed in 0..2000 {
+            let input = input_of_seed(seed);
+            let (contract, trace) = split(&input);
+            if let Some(form) = traces::form_of(trace) {
+                let refused = match (read(contract), read_trace(trace)) {
+                    (Err(_), _) => 1,
+                    (_, Err(_)) => 2,
+                    _ => 0,
+                };
+                counts[form as usize][refused] += 1;
+            }
+        }
+        let all = counts.as_flattened();
+        assert!(all.iter().all(|count| *count > 50), "{counts:?}");
     }
 
     #[test]

@@ -5,7 +5,7 @@
 
 use crate::image;
 use crate::records::{
-    count_records, read_record, read_trace, refused, Period, Refusal, PERIOD_MARK, RECORD_BYTES,
+    count_records, form_of, read_record, read_trace, refused, Form, Period, Refusal,
 };
 use crate::state::{check_length, State};
 
@@ -99,35 +99,39 @@ pub fn decide(image: &[u8], trace: &[u8], reply: &mut [u8]) -> u32 {
 /// and 12. The periods taken are the records read.
 fn read_to_decision(image: &[u8], trace: &[u8]) -> Result<State, Refusal> {
     let image = image::read(image)?;
-    check_trace_length(trace.len())?;
     let mut state = State::fresh(&image);
-    for (number, record) in trace.chunks(RECORD_BYTES).enumerate() {
+    let Some(form) = form_of(trace)? else {
+        return Ok(state);
+    };
+    check_trace_length(form, trace.len())?;
+    for (number, record) in trace.chunks(form.record_bytes()).enumerate() {
         // "Records after the decision aren't looked at."
         if state.outcome != 0 {
             break;
         }
-        state.step(&image, read_record(record, number)?);
+        state.step(&image, read_record(form, record, number)?);
     }
     Ok(state)
 }
 
-/// "After 9, length is still tested first. A trace of more than 4,294,967,295 records meets 12
-/// next", with the "first record too many" as its place.
-pub fn check_trace_length(length: usize) -> Result<(), Refusal> {
+/// The length of a trace of that form, or refusal 11. "A trace of more than 4,294,967,295 records
+/// meets 12 next", with the "first record too many" as its place.
+pub fn check_trace_length(form: Form, length: usize) -> Result<(), Refusal> {
     let most = u32::MAX as usize;
-    if count_records(length)? > most {
+    if count_records(form, length)? > most {
         return refused(12, most);
     }
     Ok(())
 }
 
-/// The one period of a step, or refusal 11: "wrong mark (its number), or a length that isn't 6 in
-/// step".
+/// The one period of a step, or refusal 11 for all but one whole record of either form.
 fn read_period(period: &[u8]) -> Result<Vec<Period>, Refusal> {
-    if period.len() != RECORD_BYTES || period[..2] != PERIOD_MARK {
-        return refused(11, 0);
+    match form_of(period)? {
+        Some(form) if period.len() == form.record_bytes() => {
+            Ok(vec![Period::of_record(form, period)])
+        }
+        _ => refused(11, 0),
     }
-    Ok(vec![Period::of_record(period)])
 }
 
 /// Step and run, which differ in what they read.

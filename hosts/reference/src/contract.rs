@@ -1,7 +1,7 @@
 //! Reading a contract's bytes, with refusals 1 to 8.
 
 use crate::clause::{Clause, Expression, Owner, Shape};
-use crate::records::{refused, Party, Refusal, CONTRACT_MARK, RECORD_BYTES};
+use crate::records::{refused, Party, Refusal, CONTRACT_MARK, MAX_ACTION, RECORD_BYTES};
 use std::rc::Rc;
 
 /// "A contract is 1 to 64 records."
@@ -150,8 +150,8 @@ fn read_record(record: &[u8], number: usize, stack: &mut Vec<Operand>) -> Result
     Ok(())
 }
 
-/// "Party (1 or 2), action (0 to 15)", "a duty (kind 1 only) may name party 3", "a window d of 1 to
-/// 15 in the record's last byte". "A field that a kind doesn't use is 0."
+/// "Party (1 or 2)", "a duty (kind 1 only) may name party 3", "actions run from 0 to 31", "a window
+/// d of 1 to 15 in the record's last byte". "A field that a kind doesn't use is 0."
 fn fields_are_good(kind: &Kind, record: &[u8]) -> bool {
     let party = match kind.parties {
         Parties::None => record[3] == 0,
@@ -159,7 +159,7 @@ fn fields_are_good(kind: &Kind, record: &[u8]) -> bool {
         Parties::OneOrBoth => Owner::of_number(record[3].into()).is_some(),
     };
     let action = if kind.action {
-        record[4] <= 15
+        record[4] <= MAX_ACTION
     } else {
         record[4] == 0
     };

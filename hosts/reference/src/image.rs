@@ -1,6 +1,6 @@
 //! Images and their rows, with refusal 9.
 
-use crate::records::{refused, two_bytes, Party, Refusal, END_MARK, ROW_MARK};
+use crate::records::{refused, two_bytes, Party, Refusal, END_MARK, MAX_ACTION, ROW_MARK};
 
 /// Bytes of a row, and of the end record.
 pub const ROW_BYTES: usize = 8;
@@ -74,7 +74,7 @@ fn read_row(row: &[u8], number: usize, count: usize) -> Option<Row> {
     match row[2] {
         0 if x == 0 && y == 0 => Some(Row::False),
         1 if x == 0 && y == 0 => Some(Row::First),
-        2 if y <= 15 => Some(Row::Tries(Party::of_number(x)?, y as u8)),
+        2 if y <= MAX_ACTION.into() => Some(Row::Tries(Party::of_number(x)?, y as u8)),
         3 if lower(x) && y == 0 => Some(Row::Not(x)),
         4 if lower(x) && lower(y) => Some(Row::And(x, y)),
         5 if lower(x) && lower(y) => Some(Row::Or(x, y)),

@@ -1,6 +1,6 @@
 //! The plugin contract monitor a second time, from document 01 and document 02's "Duties with a
-//! deadline", "Duties that both parties own" and "Stop reading once it is decided", and not from its
-//! code, to compare the monitor with.
+//! deadline", "Duties that both parties own", "Stop reading once it is decided" and "Thirty-two
+//! actions", and not from its code, to compare the monitor with.
 //!
 //! Quotations in the comments are these documents' words. The meaning of a contract is here twice:
 //! [`definition`] decides whole lists of periods as the text says it, slowly; [`monitor`] goes from
@@ -22,4 +22,4 @@ pub mod watch;
 
 pub use clause::{Clause, Decision, Expression, Owner, Shape, Verdict};
 pub use monitor::Monitor;
-pub use records::{Party, Period, Refusal};
+pub use records::{Form, Party, Period, Refusal};

@@ -152,7 +152,7 @@ impl Monitor {
     }
 
     /// Reads one period: the attempts of party 1, and those of party 2.
-    pub fn step(&mut self, one: u16, two: u16) {
+    pub fn step(&mut self, one: u32, two: u32) {
         self.periods += 1;
         let period = self.periods;
         if let Some(rest) = self.rest.take() {

@@ -3,7 +3,7 @@
 use crate::clause::Clause;
 use crate::contract;
 use crate::monitor::Monitor;
-use crate::records::{read_trace, refused, Period, Refusal, PERIOD_MARK, RECORD_BYTES};
+use crate::records::{read_trace, refused, Form, Period, Refusal, RECORD_BYTES};
 use std::fmt::Write;
 use std::rc::Rc;
 
@@ -29,12 +29,12 @@ fn read(input: &[u8]) -> Result<(Rc<Clause>, Vec<Period>), Refusal> {
     Ok((contract::read(contract)?, read_trace(trace)?))
 }
 
-/// "The contract is what precedes the first six-byte record marked `54 50`, the rest the trace.
-/// Without such a record all is contract." Records are counted in sixes from the start.
+/// "`watch` begins its trace at the first whole six bytes, counted in sixes, that start with either
+/// mark." Without these "all is contract".
 fn contract_length(input: &[u8]) -> usize {
     let first = input
         .chunks_exact(RECORD_BYTES)
-        .position(|record| record[..2] == PERIOD_MARK);
+        .position(|six| Form::of_mark(&six[..2]).is_some());
     match first {
         Some(records) => records * RECORD_BYTES,
         None => input.len(),

@@ -5,12 +5,7 @@ mod common;
 
 use common::*;
 use reference::calls::{begin, check_trace_length, decide, run};
-use reference::Refusal;
-
-/// Repeat (duty 1 a), by hand: never satisfied, so S is a false row.
-fn repeated_duty() -> Vec<u8> {
-    [duty_rows(), row(0, 0, 0), end(6, 3, 5)].concat()
-}
+use reference::{Form, Refusal};
 
 /// Repeat (duty 3 a), by hand: each party that doesn't try is blamed.
 fn repeated_joint_duty() -> Vec<u8> {
@@ -64,7 +59,7 @@ fn marked(trace: &[u8], number: usize, mark: [u8; 2]) -> Vec<u8> {
 
 /// Marks that no period record has: the other records' among them.
 const BAD_MARKS: [[u8; 2]; 7] = [
-    [0x54, 0x51],
+    [0x54, 0x4f],
     [0x55, 0x50],
     [0x50, 0x54],
     [0x54, 0x43],
@@ -72,9 +67,6 @@ const BAD_MARKS: [[u8; 2]; 7] = [
     [0x54, 0x45],
     [0, 0],
 ];
-
-/// Decided by repeat (duty 1 a) at period 3, by record 2, with blame 2.
-const DECIDED: &str = "a/a, ab/a, a/-, a/a, -/-";
 
 #[test]
 fn a_violation_before_the_end() {
@@ -334,13 +326,19 @@ fn the_longest_image() {
 #[test]
 fn lengths_of_traces() {
     let refusal = |number, place| Err(Refusal { number, place });
-    for length in [0, 6, 12, 6 * 4_294_967_295] {
-        assert_eq!(check_trace_length(length), Ok(()));
-    }
-    for length in [1, 5, 7, 25_769_803_769, 25_769_803_771, 25_769_803_777] {
-        assert_eq!(check_trace_length(length), refusal(11, 0));
-    }
-    for records in [4_294_967_296, 4_294_967_297, 8_589_934_592] {
-        assert_eq!(check_trace_length(6 * records), refusal(12, 4_294_967_295));
+    for (form, bytes) in [(Form::Narrow, 6), (Form::Wide, 10)] {
+        for records in [0, 1, 2, 4_294_967_294, 4_294_967_295] {
+            assert_eq!(check_trace_length(form, bytes * records), Ok(()));
+        }
+        for records in [4_294_967_296, 4_294_967_297, 8_589_934_592] {
+            let refused = check_trace_length(form, bytes * records);
+            assert_eq!(refused, refusal(12, 4_294_967_295));
+        }
+        for records in [0, 1, 4_294_967_294, 4_294_967_295, 4_294_967_296] {
+            for more in 1..bytes {
+                let refused = check_trace_length(form, bytes * records + more);
+                assert_eq!(refused, refusal(11, 0));
+            }
+        }
     }
 }

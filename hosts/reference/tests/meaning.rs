@@ -10,6 +10,14 @@ use reference::records::Period;
 use reference::{Clause, Decision, Expression, Monitor};
 use std::rc::Rc;
 
+/// What clauses and lists are about: the first few of these actions.
+const ACTIONS: [u8; 3] = [0, 16, 31];
+
+/// A random one of the first `actions` of them.
+fn action(random: &mut Random, actions: u64) -> u8 {
+    ACTIONS[random.below(actions) as usize]
+}
+
 /// A random expression of so many atoms at most, on `actions` actions.
 fn expression(random: &mut Random, atoms: u64, actions: u64) -> Rc<Expression> {
     if atoms > 1 && random.below(5) > 0 {
@@ -25,7 +33,7 @@ fn expression(random: &mut Random, atoms: u64, actions: u64) -> Rc<Expression> {
     if atoms > 0 && random.below(4) == 0 {
         return star(expression(random, atoms, actions));
     }
-    let (party, action) = (1 + random.below(2) as usize, random.below(actions) as u8);
+    let (party, action) = (1 + random.below(2) as usize, action(random, actions));
     match random.below(5) {
         0 => any(),
         1 => tries(party, action),
@@ -46,7 +54,7 @@ fn without_empty(random: &mut Random, atoms: u64, actions: u64) -> Rc<Expression
 }
 
 fn clause(random: &mut Random, depth: u64, actions: u64) -> Rc<Clause> {
-    let (party, action) = (1 + random.below(2) as usize, random.below(actions) as u8);
+    let (party, action) = (1 + random.below(2) as usize, action(random, actions));
     if depth == 0 {
         return match random.below(6) {
             0 => duty(party, action),
@@ -85,12 +93,12 @@ fn clause(random: &mut Random, depth: u64, actions: u64) -> Rc<Clause> {
 
 /// A list with many attempts, or with few, so that windows end.
 fn list(random: &mut Random, length: u64, actions: u64) -> Vec<Period> {
-    let mask = (1 << actions) - 1;
+    let mask: u32 = ACTIONS[..actions as usize].iter().map(|a| 1 << a).sum();
     let many = random.below(3) > 0;
     let attempts = |random: &mut Random| {
         let (one, two) = (random.next(), random.next());
         let drawn = if many { one | two } else { one & two };
-        (drawn & mask) as u16
+        drawn as u32 & mask
     };
     (0..length)
         .map(|_| Period {

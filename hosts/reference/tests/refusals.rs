@@ -39,15 +39,15 @@ fn one_to_three() {
 fn fields() {
     refuses(&contract(&[(1, 4, 0)]), 4, 0);
     refuses(&contract(&[(1, 0, 0)]), 4, 0);
-    refuses(&contract(&[(1, 1, 16)]), 4, 0);
-    refuses(&contract(&[(1, 3, 16)]), 4, 0);
+    refuses(&contract(&[(1, 1, 32)]), 4, 0);
+    refuses(&contract(&[(1, 3, 32)]), 4, 0);
     refuses(&contract(&[(19, 1, 0)]), 4, 0);
     refuses(&contract(&[(16, 0, 1)]), 4, 0);
     refuses(&contract(&[(1, 1, 0), (7, 0, 1)]), 4, 1);
     refuses(&[0x54, 0x43, 1, 1, 0, 1], 4, 0);
     refuses(&[0x54, 0x43, 1, 3, 0, 1], 4, 0);
-    assert!(read(&contract(&[(1, 2, 15)])).is_ok());
-    assert!(read(&contract(&[(1, 3, 15)])).is_ok());
+    assert!(read(&contract(&[(1, 2, 31)])).is_ok());
+    assert!(read(&contract(&[(1, 3, 31)])).is_ok());
 }
 
 #[test]
@@ -102,15 +102,15 @@ fn parties_in_later_records() {
 #[test]
 fn windows() {
     for window in 1..=15 {
-        let clause = read(&deadline_record(2, 15, window)).expect("a good window");
-        assert_eq!(clause, deadline(2, 15, window));
+        let clause = read(&deadline_record(2, 31, window)).expect("a good window");
+        assert_eq!(clause, deadline(2, 31, window));
     }
     for window in [0, 16, 17, 128, 255] {
         refuses(&deadline_record(1, 0, window), 4, 0);
     }
     refuses(&deadline_record(0, 0, 1), 4, 0);
     refuses(&deadline_record(3, 0, 1), 4, 0);
-    refuses(&deadline_record(1, 16, 1), 4, 0);
+    refuses(&deadline_record(1, 32, 1), 4, 0);
     refuses(&[deadline_record(1, 0, 1), record(10, 1, 0)].concat(), 4, 1);
 }
 
@@ -170,8 +170,8 @@ fn order_within_a_contract() {
     );
     // 4 goes before 5 in one record.
     refuses(&contract(&[(7, 1, 0)]), 4, 0);
-    refuses(&[0x54, 0x44, 11, 3, 16, 1], 2, 0);
-    refuses(&[0x54, 0x43, 11, 3, 16, 1], 3, 0);
+    refuses(&[0x54, 0x44, 11, 3, 32, 1], 2, 0);
+    refuses(&[0x54, 0x43, 11, 3, 32, 1], 3, 0);
     // A bad window goes before 5 at the next record, and a good one makes a clause.
     let repeat_any = contract(&[(16, 0, 0), (7, 0, 0)]);
     refuses(
@@ -257,7 +257,7 @@ fn images() {
     image_refused(&[row(1, 1, 0), end(0, 0, 0)].concat(), 0);
     image_refused(&[row(2, 0, 0), end(0, 0, 0)].concat(), 0);
     image_refused(&[row(2, 3, 0), end(0, 0, 0)].concat(), 0);
-    image_refused(&[row(2, 1, 16), end(0, 0, 0)].concat(), 0);
+    image_refused(&[row(2, 1, 32), end(0, 0, 0)].concat(), 0);
     image_refused(&[row(6, 1, 0), end(0, 0, 0)].concat(), 0);
     image_refused(&[row(6, 0, 1), end(0, 0, 0)].concat(), 0);
     image_refused(&[row(7, 0, 0), end(0, 0, 0)].concat(), 0);

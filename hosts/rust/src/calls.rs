@@ -97,7 +97,7 @@ pub fn begin(image: &[u8], state: &mut [u8], reply: &mut [u8]) -> u32 {
     }
 }
 
-/// Takes one period record. Its reply has 24 bytes.
+/// Takes one period record of either form. Its reply has 24 bytes.
 pub fn step(image: &[u8], state: &mut [u8], period: &[u8], reply: &mut [u8]) -> u32 {
     // SAFETY: as in `compile`.
     unsafe {
@@ -114,7 +114,7 @@ pub fn step(image: &[u8], state: &mut [u8], period: &[u8], reply: &mut [u8]) -> 
     }
 }
 
-/// Takes a trace of zero or more period records. Its reply has 24 bytes.
+/// Takes a trace of zero or more period records of one form. Its reply has 24 bytes.
 pub fn run(image: &[u8], state: &mut [u8], trace: &[u8], reply: &mut [u8]) -> u32 {
     // SAFETY: as in `compile`.
     unsafe {
@@ -131,7 +131,7 @@ pub fn run(image: &[u8], state: &mut [u8], trace: &[u8], reply: &mut [u8]) -> u3
     }
 }
 
-/// Reads a trace from its first record to the decision. Its reply has 32 bytes.
+/// Reads such a trace from its first record to the decision. Its reply has 32 bytes.
 pub fn decide(image: &[u8], trace: &[u8], reply: &mut [u8]) -> u32 {
     // SAFETY: as in `compile`.
     unsafe {

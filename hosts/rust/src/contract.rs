@@ -62,15 +62,15 @@ impl From<Party> for Owner {
     }
 }
 
-/// An action, 0 to 15. It succeeds in a period in which both parties try it.
+/// An action, 0 to 31. It succeeds in a period in which both parties try it.
 #[derive(Clone, Copy, Debug, PartialEq, Eq, Hash, PartialOrd, Ord)]
 pub struct Action(u8);
 
 impl Action {
     /// How many actions there are.
-    pub const COUNT: u8 = 16;
+    pub const COUNT: u8 = 32;
 
-    /// The action of this number, if it is below 16.
+    /// The action of this number, if it is below 32.
     ///
     /// As a constant it is checked when the host is built:
     ///
@@ -88,14 +88,14 @@ impl Action {
         }
     }
 
-    /// 0 to 15.
+    /// 0 to 31.
     #[must_use]
     pub const fn number(self) -> u8 {
         self.0
     }
 
     /// The bit that stands for the action in a mask of attempts.
-    pub(crate) const fn bit(self) -> u16 {
+    pub(crate) const fn bit(self) -> u32 {
         1 << self.0
     }
 }

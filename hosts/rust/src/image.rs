@@ -68,12 +68,12 @@ impl Image {
         self.decide_bytes(Period::trace(periods))
     }
 
-    /// Decides a trace, any number of period records as they stand. Records after the one that
-    /// decides aren't looked at, so a wrong mark there is no fault.
+    /// Decides a trace, any number of period records of one form as they stand. Records after the
+    /// one that decides aren't looked at, so a wrong mark there is no fault.
     ///
     /// # Errors
-    /// Refusal 11, if the length isn't that of a list of records, or a record that is read has a
-    /// wrong mark; 12 as [`decide`](Image::decide).
+    /// Refusal 11, if the length isn't that of a list of records of the first one's form, or a
+    /// record that is read has another mark; 12 as [`decide`](Image::decide).
     pub fn decide_bytes(&self, trace: &[u8]) -> Result<DecideReply, Refusal> {
         answers::decide(self.as_bytes(), trace)
     }

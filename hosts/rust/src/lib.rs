@@ -5,7 +5,7 @@
 //! is given both parties' attempts and says whether the contract is open, met or broken, since
 //! which period, and who is to blame. `docs/FORMAT.md` says what contracts, periods, images and
 //! states are; it says what "document 01" says, which these pages cite, and of deadlines, joint
-//! duties and decide document 02.
+//! duties, decide and thirty-two actions document 02.
 //!
 //! A host builds a [`Clause`] and makes a [`Contract`] from it, compiles that to an [`Image`] once,
 //! begins a [`Monitor`] for each spreadsheet under the contract, and steps each of them with
@@ -59,7 +59,8 @@
 //! ```
 //!
 //! [`Image::decide`] decides a list of periods without a monitor, and [`Image::decide_bytes`] a
-//! stored trace, their bytes. Both read no further than the period that decides:
+//! stored trace, the bytes of records of either form. Both read no further than the period that
+//! decides:
 //!
 //! ```
 //! # use monitor::{Action, Clause, Contract, Image, Party, Period, Refusal};

@@ -54,7 +54,7 @@ impl Monitor {
         self.step_bytes(&period.to_bytes())
     }
 
-    /// Takes one period record as it stands.
+    /// Takes one period record of either form as it stands.
     ///
     /// # Errors
     /// Refusal 11, if it isn't a period record, and 12 as [`step`](Monitor::step).
@@ -70,10 +70,11 @@ impl Monitor {
         self.run_bytes(Period::trace(periods))
     }
 
-    /// Takes a trace, any number of period records as they stand, all of them or none.
+    /// Takes a trace, any number of period records of one form as they stand, all of them or none.
     ///
     /// # Errors
-    /// Refusal 11, if it isn't a list of period records, and 12 as [`run`](Monitor::run).
+    /// Refusal 11, if it isn't a list of period records of one form, and 12 as
+    /// [`run`](Monitor::run).
     pub fn run_bytes(&mut self, trace: &[u8]) -> Result<RunReply, Refusal> {
         answers::run(self.image.as_bytes(), &mut self.state, trace)
     }

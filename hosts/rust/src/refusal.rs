@@ -32,8 +32,8 @@ pub enum Fault {
     BadImage = 9,
     /// The state's length is wrong, or it is not sound. Place: 0.
     BadState = 10,
-    /// A period record's mark is wrong, and the place is its number; or the length of what was
-    /// given is wrong, place 0.
+    /// A period record's mark is wrong, and the place is its number; the first record's mark fixes
+    /// the form of all. Or the length of what was given is wrong, place 0.
     BadPeriod = 11,
     /// Periods taken would pass 4,294,967,295, or a trace to decide has more records. Place: the
     /// first record too many.

@@ -7,6 +7,8 @@ use monitor::{
 
 mod common;
 use common::Random;
+mod narrow;
+use narrow::narrow;
 
 const A: Action = Action::new(0).unwrap();
 const B: Action = Action::new(1).unwrap();
@@ -54,28 +56,32 @@ fn up_to_the_decision() {
     }
 }
 
-/// A wrong mark is refused up to the record that decides, and is nothing after it.
+/// A wrong mark is refused up to the record that decides, and is nothing after it. With its last
+/// bit changed, a mark's second byte is that of the other form.
 #[test]
 fn records_after_the_decision_are_not_looked_at() {
     let image = watched();
     let decided = image.decide(&WATCHED);
-    for record in 0..WATCHED.len() {
-        for byte in 0..2 {
-            let mut trace = bytes(&WATCHED);
-            trace[Period::BYTES * record + byte] ^= 1;
-            let spoiled = image.decide_bytes(&trace);
-            if record < 3 {
-                let refusal = spoiled.unwrap_err();
-                assert_eq!((refusal.fault.number(), refusal.place), (11, record as u64));
-            } else {
-                assert_eq!(spoiled, decided);
+    for good in [bytes(&WATCHED), narrow(&WATCHED)] {
+        assert_eq!(image.decide_bytes(&good), decided);
+        for record in 0..WATCHED.len() {
+            for byte in 0..2 {
+                let mut trace = good.clone();
+                trace[good.len() / WATCHED.len() * record + byte] ^= 1;
+                let spoiled = image.decide_bytes(&trace);
+                if record < 3 {
+                    let refusal = spoiled.unwrap_err();
+                    assert_eq!((refusal.fault.number(), refusal.place), (11, record as u64));
+                } else {
+                    assert_eq!(spoiled, decided);
+                }
             }
         }
     }
 }
 
 /// Over just the records read a run leaves a fresh monitor with the same outcome, blame and
-/// decision. Of a list, and of its bytes, decide and run say the same.
+/// decision. Of a list, and of its bytes in either form, decide and run say the same.
 #[test]
 fn a_run_over_the_records_read_agrees() {
     let duty = || Clause::duty(Owner::Both, A);
@@ -91,14 +97,16 @@ fn a_run_over_the_records_read_agrees() {
     for image in clauses.map(image) {
         for _ in 0..500 {
             let periods: Vec<Period> = (0..random.below(8))
-                .map(|_| [random.below(4), random.below(4)].map(|mask| mask as u16))
+                .map(|_| [random.below(4), random.below(4)].map(|mask| mask as u32))
                 .map(|[one, two]| Period::from_masks(one, two))
                 .collect();
             let decided = image.decide(&periods).unwrap();
-            assert_eq!(image.decide_bytes(&bytes(&periods)), Ok(decided));
+            for trace in [bytes(&periods), narrow(&periods)] {
+                assert_eq!(image.decide_bytes(&trace), Ok(decided));
+            }
 
             let read = &periods[..decided.records as usize];
-            let [mut listed, mut stored] = [&image, &image].map(Monitor::begin);
+            let mut listed = Monitor::begin(&image);
             let reply = listed.run(read).unwrap().reply;
             let verdict = match decided.outcome {
                 Outcome::Undecided => Verdict::Open,
@@ -108,8 +116,11 @@ fn a_run_over_the_records_read_agrees() {
             assert_eq!(reply.verdict, verdict, "{periods:?}");
             assert_eq!(reply.blame, decided.blame, "{periods:?}");
             assert_eq!(reply.decision, decided.decision, "{periods:?}");
-            stored.run_bytes(&bytes(read)).unwrap();
-            assert_eq!(listed, stored);
+            for trace in [bytes(read), narrow(read)] {
+                let mut stored = Monitor::begin(&image);
+                stored.run_bytes(&trace).unwrap();
+                assert_eq!(listed, stored);
+            }
 
             let all = periods.len() as u32;
             let read = decided.decision.map_or(all, |period| period.get());

@@ -9,6 +9,8 @@ use monitor::{
 
 mod common;
 use common::Random;
+mod narrow;
+use narrow::narrow;
 
 const A: Action = Action::new(0).unwrap();
 const B: Action = Action::new(1).unwrap();
@@ -119,6 +121,33 @@ fn a_resumed_monitor_goes_on_as_if_never_stored() {
     assert_eq!(straight.look().decision.unwrap().get(), 4);
 }
 
+/// Whichever form each record has, the state is the same.
+#[test]
+fn forms_alternate_from_call_to_call() {
+    let image = compile(&[DUTY, Record::Repeat]);
+    let periods = [GOOD, GOOD, GOOD, BAD];
+    let mut straight = Monitor::begin(&image);
+    straight.run(&periods).unwrap();
+    for forms in 0..16 {
+        let mut stepped = Monitor::begin(&image);
+        for (number, period) in periods.into_iter().enumerate() {
+            let record = match forms >> number & 1 {
+                0 => narrow(&[period]),
+                _ => period.to_bytes().to_vec(),
+            };
+            stepped.step_bytes(&record).unwrap();
+        }
+        assert_eq!(stepped, straight);
+    }
+    for wide in 0..=periods.len() {
+        let (first, rest) = periods.split_at(wide);
+        let mut ran = Monitor::begin(&image);
+        ran.run(first).unwrap();
+        ran.run_bytes(&narrow(rest)).unwrap();
+        assert_eq!(ran, straight);
+    }
+}
+
 #[test]
 fn monitors_of_one_image_are_apart() {
     let image = compile(&[DUTY, Record::Repeat]);
@@ -175,7 +204,7 @@ fn a_look_is_a_run_of_no_records() {
             let mut monitor = Monitor::begin(&image);
             seen.push(look(&monitor));
             for _ in 0..6 {
-                let [one, two] = [random.below(4), random.below(4)].map(|mask| mask as u16);
+                let [one, two] = [random.below(4), random.below(4)].map(|mask| mask as u32);
                 let reply = monitor.step(Period::from_masks(one, two)).unwrap();
                 assert_eq!(look(&monitor), reply);
                 seen.push(reply);

@@ -12,6 +12,8 @@ use Record::*;
 
 mod common;
 use common::Random;
+mod narrow;
+use narrow::narrow;
 
 const A: Action = Action::new(0).unwrap();
 const B: Action = Action::new(1).unwrap();
@@ -64,7 +66,8 @@ fn image(tree: Clause, records: &[Record]) -> Image {
     Image::compile(contract).unwrap()
 }
 
-/// Holds the last of the steps over a trace, the run of it and what decides it to the reply.
+/// Holds the last of the steps over a trace of lower actions, the run of it in either form and what
+/// decides it to the reply.
 #[track_caller]
 fn hold(image: &Image, trace: &str, want: Reply) {
     let periods = periods(trace);
@@ -80,6 +83,10 @@ fn hold(image: &Image, trace: &str, want: Reply) {
     let mut run = Monitor::begin(image);
     assert_eq!(run.run(&periods).unwrap().reply, want, "run over {trace:?}");
     assert_eq!(run, stepped);
+
+    let mut narrow_run = Monitor::begin(image);
+    narrow_run.run_bytes(&narrow(&periods)).unwrap();
+    assert_eq!(narrow_run, stepped, "run over {trace:?}, narrow");
 
     let decided = image.decide(&periods).unwrap();
     let outcome = match want.verdict {
@@ -108,7 +115,7 @@ fn alike(clauses: &[Clause; 2], random: &mut Random) -> Vec<Reply> {
     for _ in 0..100 {
         let mut monitors = images.each_ref().map(Monitor::begin);
         for _ in 0..60 {
-            let [one, two] = [random.below(4), random.below(4)].map(|mask| mask as u16);
+            let [one, two] = [random.below(4), random.below(4)].map(|mask| mask as u32);
             let period = Period::from_masks(one, two);
             let [reply, want] = monitors.each_mut().map(|m| m.step(period).unwrap());
             assert_eq!(reply, want, "{clauses:?}");
@@ -375,6 +382,77 @@ fn a_deadline_until() {
     hold(&image, "-/-, -/-, a/b", broken(3, Blame::Two));
     hold(&image, "-/-, -/-, -/-", broken(3, Blame::One));
     hold(&image, "-/-, -/-, a/ab", met(3));
+}
+
+/// Each action is its own bit of the masks, the upper sixteen among them.
+#[test]
+fn every_action() {
+    for number in 0..Action::COUNT {
+        let action = Action::new(number).unwrap();
+        let image = image(Clause::duty(One, action), &[Duty(One.into(), action)]);
+        let bit = 1 << number;
+        let step = |one, two| {
+            let period = Period::from_masks(one, two);
+            Monitor::begin(&image).step(period).unwrap()
+        };
+        assert_eq!(step(bit, bit), met(1), "action {number}");
+        assert_eq!(step(!bit, bit), broken(1, Blame::One), "action {number}");
+        assert_eq!(step(bit, !bit), broken(1, Blame::Two), "action {number}");
+    }
+}
+
+/// A narrow record has no attempts at upper actions.
+#[test]
+fn narrow_records_and_upper_actions() {
+    const ALL: [u8; 6] = [0x54, 0x50, 0xff, 0xff, 0xff, 0xff];
+    for number in 0..Action::COUNT {
+        let action = Action::new(number).unwrap();
+        let duty = image(Clause::duty(Two, action), &[Duty(Two.into(), action)]);
+        let ban = image(Clause::ban(Two, action), &[Ban(Two, action)]);
+        let [duty, ban] = [duty, ban].map(|image| Monitor::begin(&image).step_bytes(&ALL).unwrap());
+        if number < 16 {
+            assert_eq!(
+                (duty, ban),
+                (met(1), broken(1, Blame::Two)),
+                "action {number}"
+            );
+        } else {
+            assert_eq!(
+                (duty, ban),
+                (broken(1, Blame::Two), met(1)),
+                "action {number}"
+            );
+        }
+    }
+}
+
+/// The example of "Watch" with upper actions in the place of its two.
+#[test]
+fn upper_actions() {
+    let [a, b] = [16, 31].map(|number| Action::new(number).unwrap());
+    let image = image(
+        Clause::duty(One, a).repair(Clause::duty(One, b)).repeat(),
+        &[Duty(One.into(), a), Duty(One.into(), b), Repair, Repeat],
+    );
+    // a/a, -/-, b/-, a/a
+    let trace = [
+        [0x54, 0x51, 0, 0, 0x01, 0, 0, 0, 0x01, 0],
+        [0x54, 0x51, 0, 0, 0, 0, 0, 0, 0, 0],
+        [0x54, 0x51, 0, 0, 0, 0x80, 0, 0, 0, 0],
+        [0x54, 0x51, 0, 0, 0x01, 0, 0, 0, 0x01, 0],
+    ];
+    let replies = [
+        open(),
+        open(),
+        broken(3, Blame::Two),
+        reply(Verdict::BrokenAfter, Some(Blame::Two), 3),
+    ];
+    let mut monitor = Monitor::begin(&image);
+    for (record, want) in trace.iter().zip(replies) {
+        assert_eq!(monitor.step_bytes(record), Ok(want));
+    }
+    let decided = image.decide_bytes(&trace.concat()).unwrap();
+    assert_eq!((decided.outcome, decided.records), (Outcome::Violated, 3));
 }
 
 /// A verdict after the decision is met-after or broken-after, and the rest of the reply stays.

@@ -44,7 +44,7 @@ fn records_at_fault() {
     hold(Image::compile([0x54, 0x44, 1, 1, 0, 0]), 2, 0);
     hold(Image::compile([0x54, 0x43, 11, 0, 0, 0]), 3, 0);
     hold(Image::compile([0x54, 0x43, 1, 4, 0, 0]), 4, 0);
-    hold(Image::compile([0x54, 0x43, 1, 1, 16, 0]), 4, 0);
+    hold(Image::compile([0x54, 0x43, 1, 1, 32, 0]), 4, 0);
     hold(Image::compile([0x54, 0x43, 1, 1, 0, 1]), 4, 0);
     hold(Image::compile([0x54, 0x43, 10, 1, 0, 0]), 4, 0);
     hold(Image::compile([0x54, 0x43, 10, 1, 0, 16]), 4, 0);
@@ -82,6 +82,36 @@ fn parties_of_every_kind() {
                 hold(compiled, 6, 1);
             } else {
                 assert!(compiled.is_ok(), "kind {kind}, party {party}: {compiled:?}");
+            }
+        }
+    }
+}
+
+/// Every kind that uses an action takes 0 to 31.
+#[test]
+fn actions_of_every_kind() {
+    let kinds = [
+        (1, 1, 0),
+        (2, 1, 0),
+        (3, 1, 0),
+        (10, 1, 1),
+        (17, 1, 0),
+        (18, 1, 0),
+        (19, 0, 0),
+        (20, 0, 0),
+    ];
+    for (kind, party, last) in kinds {
+        for action in 0..=255 {
+            let compiled = Image::compile([0x54, 0x43, kind, party, action, last]);
+            if action > 31 {
+                hold(compiled, 4, 0);
+            } else if kind > 16 {
+                hold(compiled, 6, 1);
+            } else {
+                assert!(
+                    compiled.is_ok(),
+                    "kind {kind}, action {action}: {compiled:?}"
+                );
             }
         }
     }
@@ -155,6 +185,25 @@ fn images() {
     hold(Image::from_bytes(image), 9, 3);
 }
 
+/// An attempt's action is a field of two bytes, 0 to 31.
+#[test]
+fn actions_of_rows() {
+    for action in 0..=u16::MAX {
+        let mut image = BY_HAND;
+        image[6..8].copy_from_slice(&action.to_le_bytes());
+        let image = Image::from_bytes(image);
+        if action > 31 {
+            hold(image, 9, 0);
+        } else {
+            let (bit, mut monitor) = (1 << action, Monitor::begin(&image.unwrap()));
+            let reply = monitor.step(Period::from_masks(bit, 0)).unwrap();
+            assert_eq!(reply.blame, None, "action {action}");
+            let reply = monitor.step(Period::from_masks(!bit, 0)).unwrap();
+            assert_eq!(reply.blame, Some(Blame::One), "action {action}");
+        }
+    }
+}
+
 #[test]
 fn states() {
     let image = by_hand();
@@ -174,44 +223,124 @@ fn states() {
     assert_eq!(state, [0xee; 12]);
 }
 
+/// Records of both forms: good ones, in which both try action 0, ones in which nobody tries
+/// anything, and ones of another mark.
+const GOOD: [&[u8]; 2] = [
+    &[0x54, 0x50, 1, 0, 1, 0],
+    &[0x54, 0x51, 1, 0, 0, 0, 1, 0, 0, 0],
+];
+const MISSED: [&[u8]; 2] = [
+    &[0x54, 0x50, 0, 0, 0, 0],
+    &[0x54, 0x51, 0, 0, 0, 0, 0, 0, 0, 0],
+];
+const BAD: [&[u8]; 2] = [
+    &[0x54, 0x43, 1, 0, 1, 0],
+    &[0x54, 0x43, 1, 0, 0, 0, 1, 0, 0, 0],
+];
+
 #[test]
 fn periods() {
     let image = by_hand();
     let mut monitor = Monitor::begin(&image);
-    let good = Period::from_masks(1, 1).to_bytes();
-    let bad = [0x54, 0x43, 1, 0, 1, 0];
-
-    hold(monitor.step_bytes(&[0; 7]), 11, 0);
     hold(monitor.step_bytes(&[]), 11, 0);
-    hold(monitor.step_bytes(&[good, good].concat()), 11, 0);
-    hold(monitor.step_bytes(&bad), 11, 0);
-    hold(monitor.run_bytes(&[0; 7]), 11, 0);
-    hold(monitor.run_bytes(&[good, good, bad, good].concat()), 11, 2);
+    for bytes in [&[0x54][..], &[0; 7], BAD[0], BAD[1]] {
+        hold(monitor.step_bytes(bytes), 11, 0);
+        hold(monitor.run_bytes(bytes), 11, 0);
+    }
+    for (good, bad) in GOOD.into_iter().zip(BAD) {
+        hold(monitor.step_bytes(&[good, good].concat()), 11, 0);
+        hold(monitor.run_bytes(&[good, good, bad, good].concat()), 11, 2);
+        hold(monitor.run_bytes(&[bad, good].concat()), 11, 0);
+    }
     assert_eq!(monitor, Monitor::begin(&image));
 
-    monitor.step_bytes(&good).unwrap();
-    monitor.run_bytes(&[good, good].concat()).unwrap();
-    assert_eq!(monitor.periods(), 3);
+    for good in GOOD {
+        monitor.step_bytes(good).unwrap();
+        monitor.run_bytes(&[good, good].concat()).unwrap();
+    }
+    assert_eq!(monitor.periods(), 6);
+}
+
+/// All lengths up to 21 bytes, after each form's mark and after another.
+#[test]
+fn lengths_of_periods() {
+    let image = by_hand();
+    for mark in [0x50, 0x51, 0x52] {
+        let record = match mark {
+            0x50 => 6,
+            0x51 => 10,
+            // No length is one of this mark.
+            _ => usize::MAX,
+        };
+        for length in 0..=21 {
+            let mut bytes = vec![0; length];
+            for at in (0..length).step_by(record) {
+                let end = length.min(at + 2);
+                bytes[at..end].copy_from_slice(&[0x54, mark][..end - at]);
+            }
+            let mut monitor = Monitor::begin(&image);
+            if length == record {
+                monitor.step_bytes(&bytes).unwrap();
+                assert_eq!(Period::from_bytes(&bytes), Ok(Period::default()));
+            } else {
+                hold(monitor.step_bytes(&bytes), 11, 0);
+                hold(Period::from_bytes(&bytes), 11, 0);
+            }
+            let mut monitor = Monitor::begin(&image);
+            if length % record == 0 {
+                monitor.run_bytes(&bytes).unwrap();
+                assert_eq!(monitor.periods() as usize, length / record);
+                image.decide_bytes(&bytes).unwrap();
+                assert_eq!(Period::from_trace(&bytes).unwrap().len(), length / record);
+            } else {
+                hold(monitor.run_bytes(&bytes), 11, 0);
+                hold(image.decide_bytes(&bytes), 11, 0);
+                hold(Period::from_trace(&bytes), 11, 0);
+            }
+        }
+    }
+}
+
+/// A trace is wholly of the first record's form: its length is tested by that form, then each later
+/// record.
+#[test]
+fn mixed_traces() {
+    let image = by_hand();
+    let refused = |trace: &[u8], place| {
+        hold(Monitor::begin(&image).run_bytes(trace), 11, place);
+        hold(image.decide_bytes(trace), 11, place);
+        hold(Period::from_trace(trace), 11, place);
+    };
+    let [narrow, wide] = GOOD;
+    refused(&[narrow, wide].concat(), 0);
+    refused(&[wide, narrow].concat(), 0);
+    // Five narrow records are as long as three wide ones.
+    refused(&[narrow.repeat(5), wide.repeat(3)].concat(), 5);
+    refused(&[wide.repeat(3), narrow.repeat(5)].concat(), 3);
+    for (record, other) in [(narrow, 0x51), (wide, 0x50)] {
+        for place in 1..5 {
+            let mut trace = record.repeat(5);
+            trace[place * record.len() + 1] = other;
+            refused(&trace, place as u64);
+            // The length before the later marks.
+            trace.push(0x54);
+            refused(&trace, 0);
+        }
+    }
 }
 
 #[test]
 fn traces_to_decide() {
     let image = by_hand();
-    let good = Period::from_masks(1, 1).to_bytes();
-    let missed = Period::from_masks(0, 1).to_bytes();
-    let bad = [0x54, 0x43, 0, 0, 1, 0];
-
     hold(image.decide_bytes(&[0; 7]), 11, 0);
-    hold(image.decide_bytes(&[&missed[..], &[0x54]].concat()), 11, 0);
-    hold(
-        image.decide_bytes(&[&good[..], &bad, &[0x54]].concat()),
-        11,
-        0,
-    );
-    hold(image.decide_bytes(&[good, good, bad, good].concat()), 11, 2);
-    hold(image.decide_bytes(&[good, bad, missed].concat()), 11, 1);
-    let decided = image.decide_bytes(&[good, missed, bad].concat()).unwrap();
-    assert_eq!((decided.records, decided.blame), (2, Some(Blame::One)));
+    for ((good, missed), bad) in GOOD.into_iter().zip(MISSED).zip(BAD) {
+        hold(image.decide_bytes(&[missed, &[0x54]].concat()), 11, 0);
+        hold(image.decide_bytes(&[good, bad, &[0x54]].concat()), 11, 0);
+        hold(image.decide_bytes(&[good, good, bad, good].concat()), 11, 2);
+        hold(image.decide_bytes(&[good, bad, missed].concat()), 11, 1);
+        let decided = image.decide_bytes(&[good, missed, bad].concat()).unwrap();
+        assert_eq!((decided.records, decided.blame), (2, Some(Blame::One)));
+    }
 
     // An image of wrong length, before a trace of wrong length.
     let mut reply = [0xee; 33];
@@ -229,10 +358,12 @@ fn full_count() {
 
     let mut monitor = Monitor::resume(&image, state).unwrap();
     hold(monitor.run(&[period, period, period]), 12, 1);
+    hold(monitor.run_bytes(&GOOD[0].repeat(3)), 12, 1);
     assert_eq!(monitor.state(), state);
     monitor.step(period).unwrap();
     assert_eq!(monitor.periods(), u32::MAX);
     hold(monitor.step(period), 12, 0);
+    hold(monitor.step_bytes(GOOD[0]), 12, 0);
     monitor.run(&[]).unwrap();
 }
 

@@ -8,7 +8,7 @@ use common::Random;
 
 const A: Action = Action::new(0).unwrap();
 const B: Action = Action::new(1).unwrap();
-const LAST: Action = Action::new(15).unwrap();
+const LAST: Action = Action::new(31).unwrap();
 const SHORTEST: Window = Window::new(1).unwrap();
 const LONGEST: Window = Window::new(15).unwrap();
 
@@ -32,7 +32,7 @@ fn operands() -> [(Clause, Vec<[u8; 6]>); 2] {
         (Clause::duty(Two, A), vec![bytes(1, 2, 0)]),
         (
             Clause::ban(One, LAST).repeat(),
-            vec![bytes(2, 1, 15), bytes(7, 0, 0)],
+            vec![bytes(2, 1, 31), bytes(7, 0, 0)],
         ),
     ]
 }
@@ -42,7 +42,7 @@ fn expressions() -> [(Expression, Vec<[u8; 6]>); 2] {
     [
         (
             Expression::fails(LAST).star(),
-            vec![bytes(20, 0, 15), bytes(23, 0, 0)],
+            vec![bytes(20, 0, 31), bytes(23, 0, 0)],
         ),
         (Expression::idle(Two, B), vec![bytes(18, 2, 1)]),
     ]
@@ -51,13 +51,13 @@ fn expressions() -> [(Expression, Vec<[u8; 6]>); 2] {
 #[test]
 fn clauses_of_one_record() {
     hold(&Clause::duty(One, B), &[bytes(1, 1, 1)]);
-    hold(&Clause::duty(Two, LAST), &[bytes(1, 2, 15)]);
+    hold(&Clause::duty(Two, LAST), &[bytes(1, 2, 31)]);
     hold(&Clause::duty(Owner::Party(Two), A), &[bytes(1, 2, 0)]);
-    hold(&Clause::duty(Owner::Both, LAST), &[bytes(1, 3, 15)]);
+    hold(&Clause::duty(Owner::Both, LAST), &[bytes(1, 3, 31)]);
     hold(&Clause::ban(Two, B), &[bytes(2, 2, 1)]);
-    hold(&Clause::power(One, LAST), &[bytes(3, 1, 15)]);
+    hold(&Clause::power(One, LAST), &[bytes(3, 1, 31)]);
     let deadline = Clause::deadline(One, LAST, SHORTEST);
-    hold(&deadline, &[[0x54, 0x43, 10, 1, 15, 1]]);
+    hold(&deadline, &[[0x54, 0x43, 10, 1, 31, 1]]);
     let deadline = Clause::deadline(Two, B, LONGEST);
     hold(&deadline, &[[0x54, 0x43, 10, 2, 1, 15]]);
 }
@@ -106,9 +106,9 @@ fn expressions_of_every_kind() {
     };
     hold(&Expression::any(), &[bytes(16, 0, 0)]);
     hold(&Expression::tries(One, B), &[bytes(17, 1, 1)]);
-    hold(&Expression::idle(Two, LAST), &[bytes(18, 2, 15)]);
+    hold(&Expression::idle(Two, LAST), &[bytes(18, 2, 31)]);
     hold(&Expression::succeeds(B), &[bytes(19, 0, 1)]);
-    hold(&Expression::fails(LAST), &[bytes(20, 0, 15)]);
+    hold(&Expression::fails(LAST), &[bytes(20, 0, 31)]);
     let operators: [fn(Expression, Expression) -> Expression; 2] =
         [Expression::seq, Expression::or];
     for (operator, kind) in operators.into_iter().zip(21..) {
@@ -211,7 +211,7 @@ use Tree::{Clause as C, Expression as E};
 fn leaf(random: &mut Random) -> (Tree, Record) {
     let p = [One, Two][random.below(2)];
     let o = [p.into(), Owner::Both][random.below(2)];
-    let a = Action::new(random.below(16) as u8).unwrap();
+    let a = Action::new(random.below(32) as u8).unwrap();
     let d = Window::new(1 + random.below(15) as u8).unwrap();
     match random.below(9) {
         0 => (C(Clause::duty(o, a)), Record::Duty(o, a)),

@@ -9,22 +9,22 @@ use Rattle.emitter.proofs.put_record.Lts as lts
 use Rattle.emitter.proofs.bases.Reads as bases-reads
 use Rattle.emitter.proofs.block_of.Reads as block-of-reads
 use Rattle.emitter.proofs.put_own.Reads as put-own-reads
-use Rattle.records.proofs.wide.Reads as wide-reads
+use Rattle.records.proofs.widened.Reads as widened-reads
 
-wide-requires : tie.Need-wide-requires
-wide-requires c κs = search needs
+widened-requires : tie.Need-widened-requires
+widened-requires c κs = search needs
 
-wide-requires-2 : tie.Need-wide-requires-2
-wide-requires-2 c κs = search needs
+widened-requires-2 : tie.Need-widened-requires-2
+widened-requires-2 c κs = search needs
 
 bases-requires : tie.Need-bases-requires
 bases-requires c κs = search needs
 
 -- the numbers that the bases stand for
-meant : (c : lts.After-bases (wide-reads.Asked, wide-reads.Learnt, bases-reads.Asked, bases-reads.Learnt, put-own-reads.Asked, put-own-reads.Learnt, block-of-reads.Asked, block-of-reads.Learnt) reads.Pre reads.Post)
+meant : (c : lts.After-bases (widened-reads.Asked, widened-reads.Learnt, bases-reads.Asked, bases-reads.Learnt, put-own-reads.Asked, put-own-reads.Learnt, block-of-reads.Asked, block-of-reads.Learnt) reads.Pre reads.Post)
     → let a = c .before .before .before .before .args in
     c .bases .result ≡ basesOf (a .at) (a .s) (a .k) (a .left) (a .right) (a .r .party) (a .r .action)
-meant c = rw (c .bases .ensures, c .before .wide2 .ensures .0, c .before .before .wide .ensures .0)
+meant c = rw (c .bases .ensures, c .before .widened2 .ensures .0, c .before .before .widened .ensures .0)
 
 put-own-requires : tie.Need-put-own-requires
 put-own-requires c κs = rw (meant (c .before .before)) (c .before .before .before .before .before .before .pre)
@@ -47,8 +47,8 @@ pub put-record-spec : {M : Type 1} → statement M
 put-record-spec =
     tie.close
     (tie.spec
-    wide-requires
-    wide-requires-2
+    widened-requires
+    widened-requires-2
     bases-requires
     put-own-requires
     block-of-requires

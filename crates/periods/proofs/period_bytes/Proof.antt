@@ -1,10 +1,19 @@
 -- `periods::period_bytes` meets its contract, form by form.
-use Rattle.periods.proofs.Forms.{is-short}
+use borrow.Author.Needs.{needs}
 use Rattle.periods.proofs.period_bytes.Statement.{statement}
 use Rattle.periods.proofs.period_bytes.Tie as tie
 
+enum-told : tie.Need-enum-told
+enum-told c = search needs
+
+enum-told-2 : tie.Need-enum-told-2
+enum-told-2 c = search needs
+
 returns : tie.Need-returns
-returns c = rw (is-short (c .args .form))
+returns c = rw (c .enum-told .given .1)
+
+returns-2 : tie.Need-returns-2
+returns-2 c = rw (c .enum-told2 .given .1)
 
 pub period-bytes-spec : {M : Type 1} → statement M
-period-bytes-spec = tie.close (tie.spec returns)
+period-bytes-spec = tie.close (tie.spec enum-told enum-told-2 returns returns-2)

@@ -1,22 +1,18 @@
--- `periods::read_period` meets its contract: record k is inside the trace, and its attempts are read where it starts.
+-- `periods::read_period` meets its contract: record k is inside the bytes, and its attempts are read where it starts.
 use borrow.Author.Needs.{needs}
 use Rattle.periods.specs.Traces.{periodAt}
 use Rattle.periods.proofs.read_period.Statement.{statement}
 use Rattle.periods.proofs.read_period.Tie as tie
 
-form-of-requires : tie.Need-form-of-requires
-form-of-requires c κs = search needs
-
 record-start-requires : tie.Need-record-start-requires
-record-start-requires c κs = rw (c .form-of .ensures) (c .before .before .pre)
+record-start-requires c κs = search needs
 
 read-from-requires : tie.Need-read-from-requires
 read-from-requires c κs = search needs
 
 returns : tie.Need-returns
 unfolding periodAt
-returns c = rw (← c .before .before .form-of .ensures, ← c .before .record-start .ensures .0) (c .read-from .ensures)
+returns c = rw (← c .before .record-start .ensures .0) (c .read-from .ensures)
 
 pub read-period-spec : {M : Type 1} → statement M
-read-period-spec =
-    tie.close (tie.spec form-of-requires record-start-requires read-from-requires returns)
+read-period-spec = tie.close (tie.spec record-start-requires read-from-requires returns)

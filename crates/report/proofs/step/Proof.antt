@@ -4,7 +4,8 @@ use Prim.Native.Nat.{_+_, _*_, _≤_}
 use native.Mathlib.Omega.{arith}
 use mathlib.Core.Path.{_≡_, refl, ap, _∙_}
 use lib.ListN.{length}
-use Rattle.periods.specs.Forms.{periodBytes, formOf}
+use Rattle.periods.specs.Forms.{periodBytes}
+use Rattle.periods.specs.Traces.{formOf}
 use Rattle.periods.proofs.Forms.{period-inside}
 use Rattle.report.proofs.Following.{stepped-on}
 use Rattle.report.proofs.step.Statement.{statement}

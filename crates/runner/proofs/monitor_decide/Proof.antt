@@ -6,7 +6,7 @@ use lib.ListN.{length, length-replicate}
 use Rattle.records.specs.declared.Test.the-variants.{Passed}
 use Rattle.records.proofs.Refusals.{is-refused, refused-first}
 use Rattle.records.proofs.Replies.{call-result, gives-no-room, gives-refused}
-use Rattle.periods.specs.Traces.{marksTest}
+use Rattle.periods.specs.Traces.{marksTest, formOf}
 use Rattle.layout.proofs.Images.{GoodImage, passed-good}
 use Rattle.states.proofs.Fresh.{zeros-part}
 use Rattle.runner.specs.Reading.{recordsRead}
@@ -42,7 +42,7 @@ returns-2 c =
     let a = b .before .before .before .before .before .args in
     let told = c .before .before .before .before .enum-told2 .given .1 in
     let t = b .unread-test .result in
-    let u = refused-first t _ (marksTest (a .trace .now) (recordsRead (a .image .now) (a .trace .now))) (b .unread-test .ensures) told in
+    let u = refused-first t _ (marksTest (formOf (a .trace .now)) (a .trace .now) (recordsRead (a .image .now) (a .trace .now))) (b .unread-test .ensures) told in
     rw (← u) (gives-refused t _ _ _ _ (b .before .if1 .left) (is-refused told) _ (c .before .before .put-decide-reply .ensures))
 
 -- the tests before reading are passed

@@ -7,7 +7,7 @@ use lib.ListN.{length}
 use Rattle.records.specs.declared.Test.the-variants.{Passed}
 use Rattle.records.proofs.Refusals.{is-refused}
 use Rattle.records.proofs.Replies.{gives-no-room, gives-refused, gives-passed}
-use Rattle.periods.specs.Traces.{periodRecords, periodsOf}
+use Rattle.periods.specs.Traces.{formOf, periodRecords, tracePeriods}
 use Rattle.periods.proofs.Traces.{length-periodsOf}
 use Rattle.machine.proofs.Steps.{later-read, later-answering}
 use Rattle.runner.specs.Refusals.{runTest}
@@ -71,8 +71,8 @@ put-answer-requires c κs =
     let a = c .before .before .before .before .before .before .before .before .before .before .before .before .before .before .before .before .args in
     let t = a .trace .now in
     let h = run-ready (a .image .now) (a .state .now) t (passed (c .before .before .before .before .before .before .before)) in
-    let w = periodsOf t (periodRecords t) in
-    let e : length w ≡ periodRecords t = length-periodsOf t (periodRecords t) in (
+    let w = tracePeriods t (periodRecords t) in
+    let e : length w ≡ periodRecords t = length-periodsOf (formOf t) t (periodRecords t) in (
       c .before .before .before .before .before .before .before .before .before .before .before .if1 .left,
       rw (c .before .before .before .before .take-periods .ensures, c .before .before .before .before .before .period-records .ensures) (later-answering (a .image .now) (a .state .now) (periodRecords t) h w (omega arith)),
     )
@@ -92,8 +92,8 @@ returns-3 c =
     let b = n .before .before in
     let h = run-ready (a .image .now) (a .state .now) t (passed n) in
     let took = rw (c .before .before .before .before .before .before .before .before .period-records .ensures) at (c .before .before .before .before .before .before .before .take-periods .ensures) in
-    let w = periodsOf t (periodRecords t) in
-    let e : length w ≡ periodRecords t = length-periodsOf t (periodRecords t) in
+    let w = tracePeriods t (periodRecords t) in
+    let e : length w ≡ periodRecords t = length-periodsOf (formOf t) t (periodRecords t) in
     rw (← b .run-test .ensures)
     (gives-passed (b .run-test .result) _ _ _ _ (b .before .before .if1 .left) (n .enum-told .given .1) _ _ took
     (rw (took, later-read (a .image .now) (a .state .now) (periodRecords t) h w (omega arith)) at (c .before .before .put-answer .ensures)))

@@ -5,7 +5,7 @@ use mathlib.Core.Path.{_≡_, sym, _∙_}
 use Rattle.records.specs.declared.Test.the-variants.{Passed}
 use Rattle.records.proofs.Refusals.{is-refused}
 use Rattle.records.proofs.Replies.{gives-no-room, gives-refused, gives-passed}
-use Rattle.periods.specs.Traces.{periodAt, periodsOf}
+use Rattle.periods.specs.Traces.{periodsOf, periodIn}
 use Rattle.machine.specs.Machine.{afterPeriods}
 use Rattle.machine.proofs.Steps.{step-answering, step-read}
 use Rattle.runner.specs.Refusals.{stepTest}
@@ -66,7 +66,7 @@ unfolding periodsOf afterPeriods
 put-answer-requires c κs =
     let a = c .before .before .before .before .before .before .before .before .before .before .before .before .before .before .before .args in
     let h = step-ready (a .image .now) (a .state .now) (a .period .now) (passed (c .before .before .before .before .before .before)) in
-    (c .before .before .before .before .before .before .before .before .before .before .if1 .left, rw (c .before .before .before .before .take-periods .ensures) (step-answering (a .image .now) (a .state .now) h (periodAt (a .period .now) 0)))
+    (c .before .before .before .before .before .before .before .before .before .before .if1 .left, rw (c .before .before .before .before .take-periods .ensures) (step-answering (a .image .now) (a .state .now) h (periodIn (a .period .now))))
 
 same-length-3 : tie.Need-same-length-3
 same-length-3 c = search needs
@@ -84,7 +84,7 @@ returns-3 c =
     let took = c .before .before .before .before .before .before .before .take-periods .ensures in
     rw (← b .step-test .ensures)
     (gives-passed (b .step-test .result) _ _ _ _ (b .before .before .if1 .left) (n .enum-told .given .1) _ _ took
-    (rw (took, step-read (a .image .now) (a .state .now) h (periodAt (a .period .now) 0)) at (c .before .before .put-answer .ensures)))
+    (rw (took, step-read (a .image .now) (a .state .now) h (periodIn (a .period .now))) at (c .before .before .put-answer .ensures)))
 
 pub monitor-step-spec : {M : Type 1} → statement M
 monitor-step-spec =

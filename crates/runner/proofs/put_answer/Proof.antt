@@ -7,11 +7,11 @@ use Rattle.runner.proofs.put_answer.Tie as tie
 verdict-requires : tie.Need-verdict-requires
 verdict-requires c κs = search needs
 
-shared-slice-read-wide : tie.Need-shared-slice-read-wide
-shared-slice-read-wide c = search needs
+shared-slice-read-widened : tie.Need-shared-slice-read-widened
+shared-slice-read-widened c = search needs
 
-wide-requires : tie.Need-wide-requires
-wide-requires c κs = search needs
+widened-requires : tie.Need-widened-requires
+widened-requires c κs = search needs
 
 get4-requires : tie.Need-get4-requires
 get4-requires c κs = search needs
@@ -31,8 +31,8 @@ put-answer-spec =
     tie.close
     (tie.spec
     verdict-requires
-    shared-slice-read-wide
-    wide-requires
+    shared-slice-read-widened
+    widened-requires
     get4-requires
     put-step-reply-requires
     same-length

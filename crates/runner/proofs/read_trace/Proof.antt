@@ -7,7 +7,7 @@ use mathlib.Core.Logic.{⊎-elim}
 use borrow.Author.Tests.{eqb-false}
 use Prim.Native.Nat.{_≤_}
 use lib.ListN.{length}
-use Rattle.periods.specs.Traces.{periodRecords}
+use Rattle.periods.specs.Traces.{formOf, periodRecords}
 use Rattle.layout.specs.Images.{rowCount}
 use Rattle.states.specs.Limits.{headBytes}
 use Rattle.states.specs.States.{freshBytes}
@@ -29,7 +29,7 @@ take-while-undecided-requires c κs =
 -- what the loop leaves of the fresh state
 took : (c : tie.After-take-while-undecided)
     → let a = c .before .before .before .before .before .before .before .args in
-    Takes true (a .image .now) (freshBytes (rowCount (a .image .now))) (a .trace .now) (periodRecords (a .trace .now)) (c .take-while-undecided .last .1 .0) (c .take-while-undecided .result)
+    Takes true (a .image .now) (freshBytes (rowCount (a .image .now))) (formOf (a .trace .now)) (a .trace .now) (periodRecords (a .trace .now)) (c .take-while-undecided .last .1 .0) (c .take-while-undecided .result)
 took c =
     rw (← c .before .before .before .before .before .before .before .pre .1 .0, ← c .before .before .period-records .ensures) (c .take-while-undecided .ensures)
 

@@ -20,8 +20,8 @@ returns c =
     let t = c .before .before .image-test in
     refused-first (t .result) _ _ (t .ensures) (c .enum-told2 .given .1)
 
-trace-length-test-requires : tie.Need-trace-length-test-requires
-trace-length-test-requires c κs = search needs
+start-test-requires : tie.Need-start-test-requires
+start-test-requires c κs = search needs
 
 enum-told-3 : tie.Need-enum-told-3
 enum-told-3 c = search needs
@@ -32,7 +32,7 @@ enum-told-4 c = search needs
 returns-2 : tie.Need-returns-2
 unfolding unreadTest
 returns-2 c =
-    let t = c .before .before .trace-length-test in
+    let t = c .before .before .start-test in
     rw (← c .before .before .before .before .before .image-test .ensures, c .before .before .before .enum-told .given .1) (refused-first (t .result) _ _ (t .ensures) (c .enum-told4 .given .1))
 
 period-records-requires : tie.Need-period-records-requires
@@ -44,7 +44,7 @@ count-test-requires c κs = search needs
 returns-3 : tie.Need-returns-3
 unfolding unreadTest
 returns-3 c =
-    let t = c .before .before .before .before .trace-length-test in
+    let t = c .before .before .before .before .start-test in
     rw (← c .before .before .before .before .before .before .before .image-test .ensures, c .before .before .before .before .before .enum-told .given .1, ← t .ensures, c .before .before .enum-told3 .given .1, ← c .before .period-records .ensures)
     (c .count-test .ensures)
 
@@ -56,7 +56,7 @@ unread-test-spec =
     enum-told
     enum-told-2
     returns
-    trace-length-test-requires
+    start-test-requires
     enum-told-3
     enum-told-4
     returns-2

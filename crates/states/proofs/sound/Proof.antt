@@ -6,7 +6,7 @@ use mathlib.Core.Path.{_≡_, sym, _∙_}
 use borrow.Author.Tests.{not-true, not-false}
 use Rattle.records.specs.Fields.{field}
 use Rattle.records.proofs.get4.Reads as get4-reads
-use Rattle.records.proofs.wide.Reads as wide-reads
+use Rattle.records.proofs.widened.Reads as widened-reads
 use Rattle.states.proofs.sound_head.Reads as sound-head-reads
 use Rattle.states.proofs.all_at_most.Reads as all-at-most-reads
 use Rattle.states.proofs.Soundness.{HeadSound, unsound-head, sound-none-taken, sound-some-taken}
@@ -19,17 +19,17 @@ use Rattle.states.proofs.sound.Lts as lts
 get4-requires : tie.Need-get4-requires
 get4-requires c κs = search needs
 
-shared-slice-read-wide : tie.Need-shared-slice-read-wide
-shared-slice-read-wide c = search needs
+shared-slice-read-widened : tie.Need-shared-slice-read-widened
+shared-slice-read-widened c = search needs
 
-wide-requires : tie.Need-wide-requires
-wide-requires c κs = search needs
+widened-requires : tie.Need-widened-requires
+widened-requires c κs = search needs
 
-shared-slice-read-wide-2 : tie.Need-shared-slice-read-wide-2
-shared-slice-read-wide-2 c = search needs
+shared-slice-read-widened-2 : tie.Need-shared-slice-read-widened-2
+shared-slice-read-widened-2 c = search needs
 
-wide-requires-2 : tie.Need-wide-requires-2
-wide-requires-2 c κs = search needs
+widened-requires-2 : tie.Need-widened-requires-2
+widened-requires-2 c κs = search needs
 
 get4-requires-2 : tie.Need-get4-requires-2
 get4-requires-2 c κs = search needs
@@ -38,10 +38,10 @@ sound-head-requires : tie.Need-sound-head-requires
 sound-head-requires c κs = search needs
 
 -- whether the head is sound
-head-tested : (c : lts.After-sound-head (get4-reads.Asked, get4-reads.Learnt, wide-reads.Asked, wide-reads.Learnt, sound-head-reads.Asked, sound-head-reads.Learnt, all-at-most-reads.Asked, all-at-most-reads.Learnt) reads.Pre reads.Post)
+head-tested : (c : lts.After-sound-head (get4-reads.Asked, get4-reads.Learnt, widened-reads.Asked, widened-reads.Learnt, sound-head-reads.Asked, sound-head-reads.Learnt, all-at-most-reads.Asked, all-at-most-reads.Learnt) reads.Pre reads.Post)
     → (c .sound-head .result ≡ true) ↔ HeadSound (c .before .before .before .before .before .before .before .before .args .state .now)
 head-tested c =
-    rw (← c .before .before .before .before .wide .ensures .0, ← c .before .before .wide2 .ensures .0, ← c .before .before .before .before .before .before .get4 .ensures .is, ← c .before .get42 .ensures .is)
+    rw (← c .before .before .before .before .widened .ensures .0, ← c .before .before .widened2 .ensures .0, ← c .before .before .before .before .before .before .get4 .ensures .is, ← c .before .get42 .ensures .is)
     (c .sound-head .ensures)
 
 returns : tie.Need-returns
@@ -92,10 +92,10 @@ sound-spec =
     tie.close
     (tie.spec
     get4-requires
-    shared-slice-read-wide
-    wide-requires
-    shared-slice-read-wide-2
-    wide-requires-2
+    shared-slice-read-widened
+    widened-requires
+    shared-slice-read-widened-2
+    widened-requires-2
     get4-requires-2
     sound-head-requires
     returns

@@ -2,7 +2,7 @@
 #![allow(dead_code)]
 
 use reference::definition::decision;
-use reference::{Clause, Decision, Expression, Monitor, Owner, Party, Period, Shape};
+use reference::{Clause, Decision, Expression, Form, Monitor, Owner, Party, Period, Shape};
 use std::rc::Rc;
 
 /// A contract record.
@@ -54,6 +54,14 @@ pub fn duty_image() -> Vec<u8> {
     [duty_rows(), end(2, 3, 5)].concat()
 }
 
+/// Repeat (duty 1 a), by hand: never satisfied, so S is a false row.
+pub fn repeated_duty() -> Vec<u8> {
+    [duty_rows(), row(0, 0, 0), end(6, 3, 5)].concat()
+}
+
+/// Decided by repeat (duty 1 a) at period 3, by record 2, with blame 2.
+pub const DECIDED: &str = "a/a, ab/a, a/-, a/a, -/-";
+
 /// The periods of a text such as "a/-, ab/b": "party 1 before the slash; - is no attempt".
 pub fn periods(text: &str) -> Vec<Period> {
     text.split(", ")
@@ -70,19 +78,29 @@ fn period(text: &str) -> Period {
     }
 }
 
-fn attempts(text: &str) -> u16 {
+/// Letters a to z are actions 0 to 25, and A to F actions 26 to 31.
+fn attempts(text: &str) -> u32 {
     text.bytes()
         .filter(|letter| *letter != b'-')
-        .map(|letter| 1 << (letter - b'a'))
+        .map(|letter| match letter {
+            b'a'..=b'z' => 1 << (letter - b'a'),
+            b'A'..=b'F' => 1 << (letter - b'A' + 26),
+            _ => panic!("{letter} is no action"),
+        })
         .sum()
 }
 
-/// The records of the periods of such a text.
-pub fn trace(text: &str) -> Vec<u8> {
+/// The records of the periods of such a text, in that form.
+pub fn trace_in(form: Form, text: &str) -> Vec<u8> {
     periods(text)
         .iter()
-        .flat_map(|period| period.record())
+        .flat_map(|period| period.record(form))
         .collect()
+}
+
+/// Its records in the narrow form.
+pub fn trace(text: &str) -> Vec<u8> {
+    trace_in(Form::Narrow, text)
 }
 
 /// Both meanings give this decision.

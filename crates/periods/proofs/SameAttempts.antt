@@ -1,0 +1,216 @@
+-- Traces with the same attempts: what follows from it, and that the wide trace of a good one has them. Document 02, "Thirty-two actions".
+use Prim.Native.Nat.{ℕ, zero, suc, _+_, _*_, _%_, _^_, _≤_, _<_}
+use native.Mathlib.Nat.{add-assoc, mul-zero, mod-eq-of-lt}
+use native.Mathlib.Numerals.{add-one}
+use native.Mathlib.Omega.{arith}
+use mathlib.Core.Bool.{true}
+use mathlib.Core.List.{List, [], _∷_, _++_, append-assoc, append-nil}
+use mathlib.Core.Logic.{⊎-elim}
+use mathlib.Core.Path.{_≡_, refl, sym, _∙_}
+use lib.ListN.{length, drop, length-append}
+use lib.Seq.{drop-at, drop-drop}
+use Rattle.records.specs.Fields.{bytes, field}
+use Rattle.records.specs.Marks.{marked}
+use Rattle.records.specs.Holding.{AllBytes}
+use Rattle.records.specs.declared.Test.the-variants.{Passed}
+use Rattle.records.proofs.Cases.{lt-or-le}
+use Rattle.records.proofs.Fields.{length-bytes, field-drop, field-lt}
+use Rattle.records.proofs.Marks.{marked-drop}
+use Rattle.records.proofs.Refusals.{first-passed}
+use Rattle.records.proofs.Searches.{failing-same}
+use Rattle.records.proofs.Written.{field-spelled}
+use Rattle.periods.specs.declared.Form.{Form}
+use Rattle.periods.specs.declared.Form.the-variants.{Narrow, Wide}
+use Rattle.periods.specs.Forms.{formMark, maskBytes, periodBytes, eitherMark}
+use Rattle.periods.specs.Periods.{Period, periodFrom}
+use Rattle.periods.specs.Traces.{wholePeriods, periodAt, periodsOf, markedAt, marksTest, recordOf, recordsOf, formOf, periodRecords, tracePeriods, startTest, traceTest, periodIn, periodTest}
+use Rattle.periods.specs.SameAttempts.{SameAttempts, inWide}
+use Rattle.periods.proofs.Forms.{wider, no-bytes, k-whole, form-marked, either-own}
+use Rattle.periods.proofs.Traces.{length-periodsOf, periods-split, start-whole, trace-marks, record-passes}
+
+-- ---- the same periods and the same tests
+
+module _ (t u : List ℕ) (s : SameAttempts t u) where
+  pub same-periods : (n : ℕ) → n ≤ periodRecords t → tracePeriods u n ≡ tracePeriods t n
+  unfolding periodsOf
+  same-periods zero h = refl
+  same-periods (suc n) h = rw (same-periods n (omega arith), s .attempts n h)
+
+  pub same-marks : (n : ℕ) → n ≤ periodRecords t → marksTest (formOf u) u n ≡ marksTest (formOf t) t n
+  unfolding marksTest
+  same-marks n h = rw (failing-same (markedAt (formOf u) u) (markedAt (formOf t) t) 0 n (λ k i. s .marks k (omega arith)))
+
+  pub same-test : traceTest u ≡ traceTest t
+  unfolding traceTest
+  same-test = rw (s .starts, s .as-many, same-marks (periodRecords t) (omega arith))
+
+-- ---- a record that was made of a period
+
+module _ (f : Form) (x : Period) where
+  abbrev made : List ℕ
+  made = recordOf f x
+
+  mark-two : (g : Form) → length (formMark g) ≡ 2
+  mark-two Narrow = refl
+  mark-two Wide = refl
+
+  pub length-recordOf : length made ≡ periodBytes f
+  unfolding recordOf
+  length-recordOf = simp (length-append, length-bytes, mark-two f) (omega arith)
+
+  module _ (rest : List ℕ) where
+    made-marked : marked (made ++ rest) 0 (formMark f) ≡ true
+    unfolding recordOf marked
+    made-marked = go f
+      where
+        go : (g : Form) → marked ((formMark g ++ bytes (maskBytes f) (x .attempts1) ++ bytes (maskBytes f) (x .attempts2)) ++ rest) 0 (formMark g) ≡ true
+        go Narrow = refl
+        go Wide = refl
+
+    made-first : field (made ++ rest) 2 (maskBytes f) ≡ x .attempts1 % 256 ^ maskBytes f
+    unfolding recordOf
+    made-first =
+        let one = bytes (maskBytes f) (x .attempts1) in
+        let two = bytes (maskBytes f) (x .attempts2) in
+        rw (append-assoc (formMark f ++ one) two rest, append-assoc (formMark f) one (two ++ rest))
+        (field-spelled (formMark f) (maskBytes f) (x .attempts1) (two ++ rest) 2 (mark-two f))
+
+    made-second : field (made ++ rest) (2 + maskBytes f) (maskBytes f) ≡ x .attempts2 % 256 ^ maskBytes f
+    unfolding recordOf
+    made-second =
+        let one = bytes (maskBytes f) (x .attempts1) in
+        let two = bytes (maskBytes f) (x .attempts2) in
+        rw (append-assoc (formMark f ++ one) two rest)
+        (field-spelled (formMark f ++ one) (maskBytes f) (x .attempts2) rest (2 + maskBytes f) (simp (length-append, length-bytes, mark-two f)))
+
+    made-at : x .attempts1 < 256 ^ maskBytes f → x .attempts2 < 256 ^ maskBytes f → periodAt f (made ++ rest) 0 ≡ x
+    unfolding periodAt periodFrom
+    made-at h i = rw (mul-zero, made-first, made-second, mod-eq-of-lt h, mod-eq-of-lt i)
+
+-- record k + 1, behind one that is as long as the form's
+module _ (f : Form) (r rest : List ℕ) (long : length r ≡ periodBytes f) (k : ℕ) where
+  next-start : periodBytes f * suc k ≡ periodBytes f + periodBytes f * k
+  next-start = go f
+    where
+      go : (g : Form) → periodBytes g * suc k ≡ periodBytes g + periodBytes g * k
+      go Narrow = omega arith
+      go Wide = omega arith
+
+  behind : drop (periodBytes f) (r ++ rest) ≡ rest
+  behind = drop-at r rest (periodBytes f) long
+
+  shifted-at : periodAt f (r ++ rest) (suc k) ≡ periodAt f rest k
+  unfolding periodAt periodFrom
+  shifted-at =
+      let start = periodBytes f * k in
+      rw (
+        next-start,
+        add-assoc (periodBytes f) start 2,
+        add-assoc (periodBytes f) (start + 2) (maskBytes f),
+        field-drop (r ++ rest) (periodBytes f) (start + 2) (maskBytes f),
+        field-drop (r ++ rest) (periodBytes f) (start + 2 + maskBytes f) (maskBytes f),
+        behind,
+      )
+
+  shifted-marked : markedAt f (r ++ rest) (suc k) ≡ markedAt f rest k
+  unfolding markedAt
+  shifted-marked =
+      rw next-start
+      (marked-drop (r ++ rest) (periodBytes f + periodBytes f * k) (formMark f)
+      ∙ rw (← drop-drop (periodBytes f * k) (periodBytes f) (r ++ rest), behind) (sym (marked-drop rest (periodBytes f * k) (formMark f))))
+
+-- ---- the records of a list of periods
+
+pub length-recordsOf : (f : Form) (w : List Period) → length (recordsOf f w) ≡ periodBytes f * length w
+unfolding recordsOf
+length-recordsOf f [] = sym (mul-zero (periodBytes f))
+length-recordsOf f (x ∷ w) =
+    simp (length-append, length-recordOf f x, length-recordsOf f w) (sym (next-start f (recordOf f x) [] (length-recordOf f x) (length w)))
+
+-- the record after those of the periods a
+module _ (f : Form) (x : Period) (b : List Period) where
+  pub records-marked : (a : List Period) → markedAt f (recordsOf f (a ++ x ∷ b)) (length a) ≡ true
+  unfolding recordsOf markedAt
+  records-marked [] = rw mul-zero (made-marked f x (recordsOf f b))
+  records-marked (y ∷ a) =
+      shifted-marked f (recordOf f y) (recordsOf f (a ++ x ∷ b)) (length-recordOf f y) (length a) ∙ records-marked a
+
+  pub records-at : x .attempts1 < 256 ^ maskBytes f → x .attempts2 < 256 ^ maskBytes f → (a : List Period) → periodAt f (recordsOf f (a ++ x ∷ b)) (length a) ≡ x
+  unfolding recordsOf
+  records-at h i [] = made-at f x (recordsOf f b) h i
+  records-at h i (y ∷ a) =
+      shifted-at f (recordOf f y) (recordsOf f (a ++ x ∷ b)) (length-recordOf f y) (length a) ∙ records-at h i a
+
+-- ---- the wide trace with the same attempts
+
+-- a record's masks fit into those of a wide one
+module _ (trace : List ℕ) (b : AllBytes trace) (k : ℕ) where
+  small1 : periodAt (formOf trace) trace k .attempts1 < 256 ^ maskBytes Wide
+  unfolding periodAt periodFrom
+  small1 = let f = formOf trace in wider f (field-lt trace (periodBytes f * k + 2) (maskBytes f) b)
+
+  small2 : periodAt (formOf trace) trace k .attempts2 < 256 ^ maskBytes Wide
+  unfolding periodAt periodFrom
+  small2 = let f = formOf trace in wider f (field-lt trace (periodBytes f * k + 2 + maskBytes f) (maskBytes f) b)
+
+module _ (trace : List ℕ) (b : AllBytes trace) (t : traceTest trace ≡ Passed) where
+  abbrev form : Form
+  form = formOf trace
+
+  abbrev total : ℕ
+  total = periodRecords trace
+
+  abbrev wide : List ℕ
+  wide = inWide trace
+
+  -- the periods around record k
+  module _ (k : ℕ) (h : k < total) where
+    around : (v : List Period) × (tracePeriods trace total ≡ periodsOf form trace k ++ (periodAt form trace k ∷ v))
+    unfolding periodsOf
+    around = let s = periods-split form trace (suc k) total h in (s .0, s .1 ∙ append-assoc (periodsOf form trace k) (periodAt form trace k ∷ []) (s .0))
+
+    wide-marked : markedAt Wide wide k ≡ true
+    wide-marked = rw (around .1) (rw (length-periodsOf form trace k) at (records-marked Wide (periodAt form trace k) (around .0) (periodsOf form trace k)))
+
+    wide-at : periodAt Wide wide k ≡ periodAt form trace k
+    wide-at =
+        rw (around .1)
+        (rw (length-periodsOf form trace k) at (records-at Wide (periodAt form trace k) (around .0) (small1 trace b k) (small2 trace b k) (periodsOf form trace k)))
+
+  wide-form : 0 < total → formOf wide ≡ Wide
+  unfolding markedAt
+  wide-form s = form-marked Wide wide (rw mul-zero at (wide-marked 0 s))
+
+  wide-bytes : length wide ≡ periodBytes (formOf wide) * total
+  wide-bytes =
+      let e : length wide ≡ periodBytes Wide * total = length-recordsOf Wide (tracePeriods trace total) ∙ rw (length-periodsOf form trace total) in
+      ⊎-elim (λ (s : 0 < total). rw (wide-form s) e) (λ (s : total ≤ 0). e ∙ no-bytes Wide (formOf wide) total s) (lt-or-le 0 total)
+
+  wide-count : periodRecords wide ≡ total
+  wide-count = k-whole (formOf wide) wide total wide-bytes .0
+
+  wide-starts : startTest wide ≡ Passed
+  unfolding markedAt
+  wide-starts = start-whole wide total wide-bytes (λ s. either-own wide ∙ rw (wide-form s) (rw mul-zero at (wide-marked 0 s)))
+
+  pub in-wide : SameAttempts trace wide
+  unfolding traceTest
+  in-wide =
+      record {
+        starts = wide-starts ∙ sym (first-passed (startTest trace) (marksTest form trace total) t .0);
+        as-many = wide-count;
+        marks = λ k h. rw (wide-form (omega arith)) (wide-marked k h ∙ sym (trace-marks trace t k h));
+        attempts = λ k h. rw (wide-form (omega arith)) (wide-at k h);
+      }
+
+-- ---- the same of a step's one record
+
+module _ (r : List ℕ) (b : AllBytes r) where
+  abbrev wide-record : List ℕ
+  wide-record = recordOf Wide (periodIn r)
+
+  pub record-in-wide : (periodTest wide-record ≡ Passed) × (periodIn wide-record ≡ periodIn r)
+  record-in-wide =
+      let x = periodIn r in
+      let m = rw append-nil at (made-marked Wide x []) in
+      (record-passes Wide wide-record (length-recordOf Wide x) m, rw (form-marked Wide wide-record m) (rw append-nil at (made-at Wide x [] (small1 r b 0) (small2 r b 0))))
