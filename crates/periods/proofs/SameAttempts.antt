@@ -1,7 +1,6 @@
 -- Traces with the same attempts: what follows from it, and that the wide trace of a good one has them. Document 02, "Thirty-two actions".
 use Prim.Native.Nat.{ℕ, zero, suc, _+_, _*_, _%_, _^_, _≤_, _<_}
 use native.Mathlib.Nat.{add-assoc, mul-zero, mod-eq-of-lt}
-use native.Mathlib.Numerals.{add-one}
 use native.Mathlib.Omega.{arith}
 use mathlib.Core.Bool.{true}
 use mathlib.Core.List.{List, [], _∷_, _++_, append-assoc, append-nil}
@@ -21,10 +20,10 @@ use Rattle.records.proofs.Searches.{failing-same}
 use Rattle.records.proofs.Written.{field-spelled}
 use Rattle.periods.specs.declared.Form.{Form}
 use Rattle.periods.specs.declared.Form.the-variants.{Narrow, Wide}
-use Rattle.periods.specs.Forms.{formMark, maskBytes, periodBytes, eitherMark}
+use Rattle.periods.specs.Forms.{formMark, maskBytes, periodBytes}
 use Rattle.periods.specs.Periods.{Period, periodFrom}
-use Rattle.periods.specs.Traces.{wholePeriods, periodAt, periodsOf, markedAt, marksTest, recordOf, recordsOf, formOf, periodRecords, tracePeriods, startTest, traceTest, periodIn, periodTest}
-use Rattle.periods.specs.SameAttempts.{SameAttempts, inWide}
+use Rattle.periods.specs.Traces.{periodAt, periodsOf, markedAt, marksTest, formOf, periodRecords, tracePeriods, startTest, traceTest, periodIn, periodTest}
+use Rattle.periods.specs.SameAttempts.{recordOf, recordsOf, SameAttempts, inWide}
 use Rattle.periods.proofs.Forms.{wider, no-bytes, k-whole, form-marked, either-own}
 use Rattle.periods.proofs.Traces.{length-periodsOf, periods-split, start-whole, trace-marks, record-passes}
 

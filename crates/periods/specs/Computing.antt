@@ -1,5 +1,5 @@
 -- What the program computes with: a period as two masks.
-use Prim.Native.Nat.{ℕ, _^_, _<_}
+use Prim.Native.Nat.{_^_, _<_}
 use mathlib.Core.Path.{_≡_}
 use Rattle.periods.specs.declared.Attempts.{Attempts}
 use Rattle.periods.specs.Limits.{actions}

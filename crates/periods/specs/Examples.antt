@@ -6,12 +6,12 @@ use mathlib.Core.Option.{none, some}
 use mathlib.Core.Path.{_≡_}
 use lib.ListN.{replicate, take}
 use Rattle.records.specs.Examples.{numberAndPlace}
-use Rattle.periods.specs.declared.Form.{Form}
 use Rattle.periods.specs.declared.Form.the-variants.{Narrow, Wide}
 use Rattle.periods.specs.Limits.{actions}
 use Rattle.periods.specs.Forms.{formMark, maskBytes, periodBytes, eitherMark}
 use Rattle.periods.specs.Periods.{party1, party2, partyNumber, partyOf, other, Period, tries, succeeds}
-use Rattle.periods.specs.Traces.{recordAt, firstRecords, marksTest, recordOf, recordsOf, formOf, periodRecords, tracePeriods, formTest, startTest, traceTest, periodIn, periodTest}
+use Rattle.periods.specs.Traces.{recordAt, firstRecords, marksTest, formOf, periodRecords, tracePeriods, formTest, startTest, traceTest, periodIn, periodTest}
+use Rattle.periods.specs.SameAttempts.{recordsOf}
 
 -- a narrow record, of masks below 256: "`54 50`, two bytes of party 1's attempts, two of party 2's"
 abbrev pub narrowRecord : (one two : ℕ) → List ℕ

@@ -5,14 +5,13 @@ use mathlib.Core.Bool.{Bool, not, _||_, cond}
 use mathlib.Core.List.{List, [], _∷_, _++_}
 use lib.Dec.{eqb}
 use lib.ListN.{length, take, drop}
-use Rattle.records.specs.Fields.{bytes}
 use Rattle.records.specs.Marks.{marked}
 use Rattle.records.specs.declared.Fault.the-variants.{BadPeriod}
 use Rattle.records.specs.declared.Test.{Test}
 use Rattle.records.specs.Refusals.{require, firstOf, firstFailing}
 use Rattle.periods.specs.declared.Form.{Form}
 use Rattle.periods.specs.declared.Form.the-variants.{Narrow, Wide}
-use Rattle.periods.specs.Forms.{formMark, maskBytes, periodBytes, eitherMark}
+use Rattle.periods.specs.Forms.{formMark, periodBytes, eitherMark}
 use Rattle.periods.specs.Periods.{Period, periodFrom}
 
 -- ---- bytes as records of one form
@@ -47,14 +46,6 @@ unfoldable pub marksTest : Form → List ℕ → (n : ℕ) → Test
 marksTest f l n =
     let bad = firstFailing (markedAt f l) 0 n in
     require (eqb bad n) BadPeriod bad
-
--- the record that holds a period, and those of a list of periods, one after the other
-unfoldable pub recordOf : Form → Period → List ℕ
-recordOf f x = formMark f ++ bytes (maskBytes f) (x .attempts1) ++ bytes (maskBytes f) (x .attempts2)
-
-unfoldable pub recordsOf : Form → List Period → List ℕ
-recordsOf f [] = []
-recordsOf f (x ∷ w) = recordOf f x ++ recordsOf f w
 
 -- ---- a trace
 

@@ -1,14 +1,14 @@
 -- A run ends as the steps of its records do. A refused one is refused as every step is, by the image or the state; at 0, by a length
 -- that leaves a record cut; or at the record whose step is refused first, except that a wrong mark anywhere (11) goes before the count
 -- (12).
-use Prim.Native.Nat.{ℕ, zero, suc, _+_, _-_, _%_, _≤_, _<_}
+use Prim.Native.Nat.{ℕ, zero, suc, _+_, _-_, _≤_, _<_}
 use native.Mathlib.Numerals.{add-one}
 use native.Mathlib.Omega.{arith}
 use mathlib.Core.Bool.{true, false, cond}
 use mathlib.Core.List.{List, [], _∷_, _++_}
 use mathlib.Core.Logic.{_⊎_, ⊎-elim}
 use mathlib.Core.Path.{_≡_, refl, sym, ap, _∙_}
-use borrow.Author.Tests.{le-leb, lt-leb, eq-eqb, ne-eqb}
+use borrow.Author.Tests.{le-leb, lt-leb}
 use lib.ListN.{length}
 use lib.Seq.{sets}
 use Rattle.records.specs.Holding.{AllBytes}
@@ -20,7 +20,6 @@ use Rattle.records.proofs.Fields.{field-lt}
 use Rattle.records.proofs.Refusals.{first-refused}
 use Rattle.records.specs.Replies.{replyOf, After, written}
 use Rattle.records.proofs.Replies.{call-no-room, call-passed, call-refused}
-use Rattle.periods.specs.Forms.{periodBytes}
 use Rattle.periods.specs.Traces.{recordAt, periodAt, periodsOf, markedAt, formOf, periodRecords, tracePeriods, startTest, traceTest, periodTest}
 use Rattle.periods.proofs.Traces.{start-refused, length-periodsOf, marks-pass, marks-refused, record-period, period-test, period-refused}
 use Rattle.layout.specs.Images.{imageOf}

@@ -8,8 +8,8 @@ use Rattle.records.specs.declared.Test.the-variants.{Passed}
 use Rattle.records.specs.Holding.{AllBytes}
 use Rattle.records.proofs.Searches.{failing-same}
 use Rattle.periods.specs.declared.Form.the-variants.{Wide}
-use Rattle.periods.specs.Traces.{recordOf, periodRecords, traceTest, periodIn, periodTest}
-use Rattle.periods.specs.SameAttempts.{SameAttempts, inWide}
+use Rattle.periods.specs.Traces.{periodRecords, traceTest, periodIn, periodTest}
+use Rattle.periods.specs.SameAttempts.{recordOf, SameAttempts, inWide}
 use Rattle.periods.proofs.SameAttempts.{same-periods, same-marks, same-test, in-wide, record-in-wide}
 use Rattle.layout.specs.Images.{rowCount, imageOf}
 use Rattle.states.specs.States.{stateOf, freshBytes}

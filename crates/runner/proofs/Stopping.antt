@@ -7,7 +7,7 @@ use mathlib.Core.Path.{_≡_, sym, ap, _∙_}
 use lib.ListN.{length}
 use Rattle.records.specs.declared.Test.the-variants.{Passed}
 use Rattle.records.proofs.Replies.{call-passed}
-use Rattle.periods.specs.Traces.{periodsOf, markedAt, formOf, periodRecords, tracePeriods, traceTest}
+use Rattle.periods.specs.Traces.{markedAt, formOf, periodRecords, tracePeriods, traceTest}
 use Rattle.periods.proofs.Traces.{length-periodsOf, marks-pass}
 use Rattle.periods.proofs.First.{first-count, first-start, first-marked, first-periods, first-long}
 use Rattle.layout.specs.Images.{rowCount, imageOf}
