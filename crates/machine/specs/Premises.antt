@@ -21,7 +21,8 @@ pub record Ready (image state : List ℕ) (n : ℕ) : Type 0 where
   pub sound : stateTest (rowCount image) state ≡ Passed
   pub room : stateOf state .periods + n ≤ maxPeriods
 
--- a state of this outcome takes record k of a form next: always or, where the taking stops, if it is undecided and the record has the mark
+-- a state of this outcome takes record k, counted in records of a form, next: always or, where the taking stops, if it is undecided and the record has
+-- the form's mark
 abbrev pub takesNext : (stops : Bool) (outcome : ℕ) → Form → (trace : List ℕ) (k : ℕ) → Bool
 takesNext stops outcome f trace k = cond stops (eqb outcome 0 && markedAt f trace k) true
 

@@ -149,7 +149,8 @@ fn advance(image: &[u8], state: &mut [u8], a: Attempts)
     }
 }
 
-// Whether the state takes record k of a form next: always or, where the taking stops, if it is undecided and the record has the mark.
+// Whether the state takes record k, counted in records of a form, next: always or, where the taking stops, if it is undecided and the
+// record has the form's mark.
 fn takes_next(state: &[u8], form: Form, trace: &[u8], k: usize, stops: bool) -> bool
     requires { ⌜ (headBytes ≤ length (now state)) × (k < wholePeriods form (now trace)) ⌝ }
     ensures { λ r. ⌜ r ≡ takesNext stops (getD (now (state .entry)) 0 0) form (now (trace .entry)) k ⌝ }
@@ -163,7 +164,8 @@ fn takes_next(state: &[u8], form: Form, trace: &[u8], k: usize, stops: bool) -> 
     periods::is_marked(form, trace, k)
 }
 
-// The periods of the first n records of a form, one after the other, as far as they are to be taken. Gives how many were.
+// The periods of the first n records, counted in records of a form, one after the other, as far as they are to be taken. Gives how
+// many were.
 fn take_records(
     image: &[u8],
     state: &mut [u8],

@@ -2,7 +2,7 @@
 use Prim.Native.Nat.{ℕ, _+_, _*_, _%_, _^_, _≤_, _<_}
 use native.Mathlib.Nat.{mul-add, mul-one, mul-zero}
 use native.Mathlib.Omega.{arith}
-use mathlib.Core.Bool.{Bool, true, false, _&&_, _||_, cond}
+use mathlib.Core.Bool.{Bool, true, false, _||_, and-false, or-true, or-false, cond}
 use mathlib.Core.List.{List, [], _∷_}
 use mathlib.Core.Path.{_≡_, refl, sym, _∙_}
 use lib.Dec.{eqb}
@@ -58,6 +58,11 @@ unfolding wholePeriods
 k-whole Narrow l k h = (omega arith, omega arith)
 k-whole Wide l k h = (omega arith, omega arith)
 
+pub whole-bytes : (f : Form) (l : List ℕ) → length l % periodBytes f ≡ 0 → length l ≡ periodBytes f * wholePeriods f l
+unfolding wholePeriods
+whole-bytes Narrow l h = omega arith
+whole-bytes Wide l h = omega arith
+
 pub has-whole : (f : Form) (l : List ℕ) (k : ℕ) → periodBytes f * k ≤ length l → k ≤ wholePeriods f l
 unfolding wholePeriods
 has-whole Narrow l k h = omega arith
@@ -86,14 +91,6 @@ pub either-own : (l : List ℕ) → eitherMark l 0 ≡ marked l 0 (formMark (for
 unfolding eitherMark formOf
 either-own l = go (marked l 0 (formMark Wide)) refl
   where
-    or-true : (a : Bool) → (a || true) ≡ true
-    or-true true = refl
-    or-true false = refl
-
-    or-false : (a : Bool) → (a || false) ≡ a
-    or-false true = refl
-    or-false false = refl
-
     go : (t : Bool) → marked l 0 (formMark Wide) ≡ t → (marked l 0 (formMark Narrow) || t) ≡ marked l 0 (formMark (cond t Wide Narrow))
     go true e = or-true (marked l 0 (formMark Narrow)) ∙ sym e
     go false e = or-false (marked l 0 (formMark Narrow))
@@ -107,13 +104,9 @@ pub form-take : (m : ℕ) (l : List ℕ) → 2 ≤ m → formOf (take m l) ≡ f
 unfolding formOf marked
 form-take m l h = rw (getD-take m l 0 0 (omega arith), getD-take m l 1 0 (omega arith))
 
--- fewer bytes have no mark
+-- a byte alone, or none, is no mark
 pub form-short : (l : List ℕ) → length l < 2 → formOf l ≡ Narrow
 unfolding formOf marked
 form-short [] h = refl
 form-short (b ∷ []) h = rw (and-false (eqb b 0x54))
-  where
-    and-false : (t : Bool) → (t && false) ≡ false
-    and-false true = refl
-    and-false false = refl
 form-short (b ∷ c ∷ l) h = absurd (omega arith)

@@ -1,4 +1,5 @@
--- The periods that records can hold, and what is left of any period without the bits above the last action. Document 01, "Records".
+-- The periods that records can hold, and what is left of any period without the bits above the last action. Document 01,
+-- "Records"; document 02, "Thirty-two actions".
 use Prim.Native.Nat.{ℕ, zero, suc, _+_, _-_, _/_, _%_, _^_, _<_}
 use native.Mathlib.Nat.{mod-lt}
 use native.Mathlib.Omega.{arith}

@@ -1,13 +1,13 @@
--- Traces with the same attempts: what follows from it, and that the wide trace of a good one has them. Document 02, "Thirty-two actions".
+-- Traces with the same attempts: what follows from it, and that the wide trace made of a trace's periods has them. Document 02, "Thirty-two actions".
 use Prim.Native.Nat.{ℕ, zero, suc, _+_, _*_, _%_, _^_, _≤_, _<_}
 use native.Mathlib.Nat.{add-assoc, mul-zero, mod-eq-of-lt}
 use native.Mathlib.Omega.{arith}
 use mathlib.Core.Bool.{true}
 use mathlib.Core.List.{List, [], _∷_, _++_, append-assoc, append-nil}
 use mathlib.Core.Logic.{⊎-elim}
-use mathlib.Core.Path.{_≡_, refl, sym, _∙_}
-use lib.ListN.{length, drop, length-append}
-use lib.Seq.{drop-at, drop-drop}
+use mathlib.Core.Path.{_≡_, refl, sym, ap, _∙_}
+use lib.ListN.{length, take, drop, length-append}
+use lib.Seq.{take-at, drop-at, drop-drop}
 use Rattle.records.specs.Fields.{bytes, field}
 use Rattle.records.specs.Marks.{marked}
 use Rattle.records.specs.Holding.{AllBytes}
@@ -15,33 +15,33 @@ use Rattle.records.specs.declared.Test.the-variants.{Passed}
 use Rattle.records.proofs.Cases.{lt-or-le}
 use Rattle.records.proofs.Fields.{length-bytes, field-drop, field-lt}
 use Rattle.records.proofs.Marks.{marked-drop}
-use Rattle.records.proofs.Refusals.{first-passed}
-use Rattle.records.proofs.Searches.{failing-same}
 use Rattle.records.proofs.Written.{field-spelled}
 use Rattle.periods.specs.declared.Form.{Form}
 use Rattle.periods.specs.declared.Form.the-variants.{Narrow, Wide}
 use Rattle.periods.specs.Forms.{formMark, maskBytes, periodBytes}
 use Rattle.periods.specs.Periods.{Period, periodFrom}
-use Rattle.periods.specs.Traces.{periodAt, periodsOf, markedAt, marksTest, formOf, periodRecords, tracePeriods, startTest, traceTest, periodIn, periodTest}
-use Rattle.periods.specs.SameAttempts.{recordOf, recordsOf, SameAttempts, inWide}
+use Rattle.periods.specs.Traces.{periodAt, periodsOf, markedAt, formOf, periodRecords, tracePeriods, startTest, periodIn, periodTest}
+use Rattle.periods.specs.SameAttempts.{recordOf, recordsOf, inWide, SameAttempts}
 use Rattle.periods.proofs.Forms.{wider, no-bytes, k-whole, form-marked, either-own}
-use Rattle.periods.proofs.Traces.{length-periodsOf, periods-split, start-whole, trace-marks, record-passes}
+use Rattle.periods.proofs.Traces.{length-periodsOf, periods-split, start-whole, record-passes}
 
--- ---- the same periods and the same tests
+-- ---- the first of the same periods
+
+-- the periods of the first records are the first periods
+periods-take : (f : Form) (l : List ℕ) (k n : ℕ) → k ≤ n → take k (periodsOf f l n) ≡ periodsOf f l k
+periods-take f l k n h =
+    let s = periods-split f l k n h in
+    rw (s .1) (take-at (periodsOf f l k) (s .0) k (length-periodsOf f l k))
 
 module _ (t u : List ℕ) (s : SameAttempts t u) where
+  pub as-many : periodRecords u ≡ periodRecords t
+  as-many =
+      sym (length-periodsOf (formOf u) u (periodRecords u)) ∙ ap length (s .periods) ∙ length-periodsOf (formOf t) t (periodRecords t)
+
   pub same-periods : (n : ℕ) → n ≤ periodRecords t → tracePeriods u n ≡ tracePeriods t n
-  unfolding periodsOf
-  same-periods zero h = refl
-  same-periods (suc n) h = rw (same-periods n (omega arith), s .attempts n h)
-
-  pub same-marks : (n : ℕ) → n ≤ periodRecords t → marksTest (formOf u) u n ≡ marksTest (formOf t) t n
-  unfolding marksTest
-  same-marks n h = rw (failing-same (markedAt (formOf u) u) (markedAt (formOf t) t) 0 n (λ k i. s .marks k (omega arith)))
-
-  pub same-test : traceTest u ≡ traceTest t
-  unfolding traceTest
-  same-test = rw (s .starts, s .as-many, same-marks (periodRecords t) (omega arith))
+  same-periods n h =
+      let m : n ≤ periodRecords u = rw as-many h in
+      sym (periods-take (formOf u) u n (periodRecords u) m) ∙ ap (take n) (s .periods) ∙ periods-take (formOf t) t n (periodRecords t) h
 
 -- ---- a record that was made of a period
 
@@ -53,7 +53,7 @@ module _ (f : Form) (x : Period) where
   mark-two Narrow = refl
   mark-two Wide = refl
 
-  pub length-recordOf : length made ≡ periodBytes f
+  length-recordOf : length made ≡ periodBytes f
   unfolding recordOf
   length-recordOf = simp (length-append, length-bytes, mark-two f) (omega arith)
 
@@ -120,7 +120,7 @@ module _ (f : Form) (r rest : List ℕ) (long : length r ≡ periodBytes f) (k :
 
 -- ---- the records of a list of periods
 
-pub length-recordsOf : (f : Form) (w : List Period) → length (recordsOf f w) ≡ periodBytes f * length w
+length-recordsOf : (f : Form) (w : List Period) → length (recordsOf f w) ≡ periodBytes f * length w
 unfolding recordsOf
 length-recordsOf f [] = sym (mul-zero (periodBytes f))
 length-recordsOf f (x ∷ w) =
@@ -152,7 +152,7 @@ module _ (trace : List ℕ) (b : AllBytes trace) (k : ℕ) where
   unfolding periodAt periodFrom
   small2 = let f = formOf trace in wider f (field-lt trace (periodBytes f * k + 2 + maskBytes f) (maskBytes f) b)
 
-module _ (trace : List ℕ) (b : AllBytes trace) (t : traceTest trace ≡ Passed) where
+module _ (trace : List ℕ) (b : AllBytes trace) where
   abbrev form : Form
   form = formOf trace
 
@@ -168,17 +168,20 @@ module _ (trace : List ℕ) (b : AllBytes trace) (t : traceTest trace ≡ Passed
     unfolding periodsOf
     around = let s = periods-split form trace (suc k) total h in (s .0, s .1 ∙ append-assoc (periodsOf form trace k) (periodAt form trace k ∷ []) (s .0))
 
-    wide-marked : markedAt Wide wide k ≡ true
-    wide-marked = rw (around .1) (rw (length-periodsOf form trace k) at (records-marked Wide (periodAt form trace k) (around .0) (periodsOf form trace k)))
+    made-mark : markedAt Wide wide k ≡ true
+    made-mark = rw (around .1) (rw (length-periodsOf form trace k) at (records-marked Wide (periodAt form trace k) (around .0) (periodsOf form trace k)))
 
-    wide-at : periodAt Wide wide k ≡ periodAt form trace k
-    wide-at =
+    made-period : periodAt Wide wide k ≡ periodAt form trace k
+    made-period =
         rw (around .1)
         (rw (length-periodsOf form trace k) at (records-at Wide (periodAt form trace k) (around .0) (small1 trace b k) (small2 trace b k) (periodsOf form trace k)))
 
   wide-form : 0 < total → formOf wide ≡ Wide
   unfolding markedAt
-  wide-form s = form-marked Wide wide (rw mul-zero at (wide-marked 0 s))
+  wide-form s = form-marked Wide wide (rw mul-zero at (made-mark 0 s))
+
+  pub wide-marked : (k : ℕ) → k < total → markedAt (formOf wide) wide k ≡ true
+  wide-marked k h = rw (wide-form (omega arith)) (made-mark k h)
 
   wide-bytes : length wide ≡ periodBytes (formOf wide) * total
   wide-bytes =
@@ -190,17 +193,15 @@ module _ (trace : List ℕ) (b : AllBytes trace) (t : traceTest trace ≡ Passed
 
   wide-starts : startTest wide ≡ Passed
   unfolding markedAt
-  wide-starts = start-whole wide total wide-bytes (λ s. either-own wide ∙ rw (wide-form s) (rw mul-zero at (wide-marked 0 s)))
+  wide-starts = start-whole wide total wide-bytes (λ s. either-own wide ∙ rw mul-zero at (wide-marked 0 s))
 
-  pub in-wide : SameAttempts trace wide
-  unfolding traceTest
-  in-wide =
-      record {
-        starts = wide-starts ∙ sym (first-passed (startTest trace) (marksTest form trace total) t .0);
-        as-many = wide-count;
-        marks = λ k h. rw (wide-form (omega arith)) (wide-marked k h ∙ sym (trace-marks trace t k h));
-        attempts = λ k h. rw (wide-form (omega arith)) (wide-at k h);
-      }
+  wide-periods : (n : ℕ) → n ≤ total → tracePeriods wide n ≡ tracePeriods trace n
+  unfolding periodsOf
+  wide-periods zero h = refl
+  wide-periods (suc n) h = rw (wide-periods n (omega arith), wide-form (omega arith)) (ap (λ (x : Period). periodsOf form trace n ++ (x ∷ [])) (made-period n h))
+
+  pub in-wide : startTest trace ≡ Passed → SameAttempts trace wide
+  in-wide t = record { starts = wide-starts ∙ sym t; periods = rw wide-count (wide-periods total (omega arith)) }
 
 -- ---- the same of a step's one record
 

@@ -3,7 +3,7 @@ use Prim.Native.Nat.{ℕ, zero, suc, _+_, _-_, _*_, _%_, _≤_, _<_}
 use native.Mathlib.Nat.{add-zero, add-assoc, mul-zero}
 use native.Mathlib.Numerals.{add-one}
 use native.Mathlib.Omega.{arith}
-use mathlib.Core.Bool.{Bool, true, false, not, _||_}
+use mathlib.Core.Bool.{Bool, true, false, not, _||_, false≢true}
 use mathlib.Core.List.{List, [], _∷_, _++_, append-assoc, append-nil}
 use mathlib.Core.Logic.{⊎-elim}
 use mathlib.Core.Path.{_≡_, refl, sym, ap, _∙_}
@@ -26,7 +26,7 @@ use Rattle.periods.specs.declared.Form.the-variants.{Narrow, Wide}
 use Rattle.periods.specs.Forms.{formMark, maskBytes, periodBytes, eitherMark}
 use Rattle.periods.specs.Periods.{Period, periodFrom}
 use Rattle.periods.specs.Traces.{wholePeriods, recordAt, periodAt, periodsOf, markedAt, marksTest, formOf, periodRecords, formTest, startTest, traceTest, periodIn, periodTest}
-use Rattle.periods.proofs.Forms.{mark-inside, some-marked, period-inside, k-whole, one-whole, form-marked, either-own}
+use Rattle.periods.proofs.Forms.{mark-inside, some-marked, period-inside, whole-bytes, k-whole, one-whole, form-marked, either-own}
 
 -- ---- the periods of the first records
 
@@ -59,7 +59,7 @@ pub marks-only : (f : Form) (l : List ℕ) (n : ℕ) → onlyFor periodFaults (m
 unfolding marksTest
 marks-only f l n = required-only (eqb (firstFailing (markedAt f l) 0 n) n) _
 
--- of the first tests that of the mark is left, and of no byte none
+-- two bytes or more are tested for the mark alone, and no byte passes
 pub form-test-some : (l : List ℕ) → 2 ≤ length l → formTest l ≡ require (eitherMark l 0) BadPeriod 0
 unfolding formTest
 form-test-some l h = rw (ne-eqb (length l) 1 (λ e. omega arith), ne-eqb (length l) 0 (λ e. omega arith))
@@ -148,6 +148,29 @@ trace-marks trace e =
     let n = periodRecords trace in
     marks-passed f trace n (first-passed (startTest trace) (marksTest f trace n) e .1)
 
+-- a trace of whole records is refused at the first one of another mark, the first record or a later one
+pub trace-refused : (trace : List ℕ) (k : ℕ) → length trace % periodBytes (formOf trace) ≡ 0 → k < periodRecords trace
+    → ((i : ℕ) → i < k → markedAt (formOf trace) trace i ≡ true) → markedAt (formOf trace) trace k ≡ false → traceTest trace ≡ Refused BadPeriod k
+unfolding traceTest markedAt
+trace-refused trace zero e h m bad =
+    let i = period-inside (formOf trace) trace 0 h in
+    let j = mark-inside (formOf trace) in
+    let neither : eitherMark trace 0 ≡ false = either-own trace ∙ rw mul-zero at bad in
+    rw (start-refused trace (λ p. false≢true (sym neither ∙ start-mark trace (omega arith) p)))
+trace-refused trace (suc k) e h m bad =
+    let f = formOf trace in
+    let n = periodRecords trace in
+    rw (start-whole trace n (whole-bytes f trace e) (λ s. either-own trace ∙ rw mul-zero at (m 0 (omega arith)))) (marks-refused f trace n (suc k) h m bad)
+
+-- one in which each has its mark passes
+pub trace-passes : (trace : List ℕ) → length trace % periodBytes (formOf trace) ≡ 0 → ((i : ℕ) → i < periodRecords trace → markedAt (formOf trace) trace i ≡ true)
+    → traceTest trace ≡ Passed
+unfolding traceTest markedAt
+trace-passes trace e m =
+    let f = formOf trace in
+    let n = periodRecords trace in
+    rw (start-whole trace n (whole-bytes f trace e) (λ s. either-own trace ∙ rw mul-zero at (m 0 s))) (marks-pass f trace n m)
+
 -- a good record of a step is one record
 pub period-one : (r : List ℕ) → periodTest r ≡ Passed → periodRecords r ≡ 1
 unfolding periodTest
@@ -169,24 +192,20 @@ module _ (f : Form) (r : List ℕ) (long : length r ≡ periodBytes f) where
       rw (marked-test, either-own r, e, m, eq-eqb (length r) (periodBytes f) long)
 
   -- with the other form's mark it has a wrong length
-  pub record-refused : marked r 0 (formMark f) ≡ false → periodTest r ≡ Refused BadPeriod 0
+  record-refused : marked r 0 (formMark f) ≡ false → periodTest r ≡ Refused BadPeriod 0
   unfolding periodTest
   record-refused m = rw (marked-test, either-own r, long) (go f (formOf r) m)
     where
+      either : (t : Bool) → firstOf (require t BadPeriod 0) (Refused BadPeriod 0) ≡ Refused BadPeriod 0
+      either true = refl
+      either false = refl
+
       go : (f g : Form) → marked r 0 (formMark f) ≡ false
           → firstOf (require (marked r 0 (formMark g)) BadPeriod 0) (require (eqb (periodBytes f) (periodBytes g)) BadPeriod 0) ≡ Refused BadPeriod 0
       go Narrow Narrow n = rw n
       go Wide Wide n = rw n
       go Narrow Wide n = either (marked r 0 (formMark Wide))
-        where
-          either : (t : Bool) → firstOf (require t BadPeriod 0) (Refused BadPeriod 0) ≡ Refused BadPeriod 0
-          either true = refl
-          either false = refl
       go Wide Narrow n = either (marked r 0 (formMark Narrow))
-        where
-          either : (t : Bool) → firstOf (require t BadPeriod 0) (Refused BadPeriod 0) ≡ Refused BadPeriod 0
-          either true = refl
-          either false = refl
 
 -- ---- the records of a trace
 
@@ -200,7 +219,7 @@ module _ (f : Form) (l : List ℕ) (k : ℕ) (h : k < wholePeriods f l) where
   inside : start + periodBytes f ≤ length l
   inside = period-inside f l k h
 
-  pub length-recordAt : length own ≡ periodBytes f
+  length-recordAt : length own ≡ periodBytes f
   unfolding recordAt
   length-recordAt = let i = inside in length-take-le (periodBytes f) (drop start l) (simp length-drop (omega arith))
 

@@ -11,7 +11,7 @@ use Rattle.periods.specs.Limits.{actions}
 use Rattle.periods.specs.Forms.{formMark, maskBytes, periodBytes, eitherMark}
 use Rattle.periods.specs.Periods.{party1, party2, partyNumber, partyOf, other, Period, tries, succeeds}
 use Rattle.periods.specs.Traces.{recordAt, firstRecords, marksTest, formOf, periodRecords, tracePeriods, formTest, startTest, traceTest, periodIn, periodTest}
-use Rattle.periods.specs.SameAttempts.{recordsOf}
+use Rattle.periods.specs.SameAttempts.{recordOf, recordsOf}
 
 -- a narrow record, of masks below 256: "`54 50`, two bytes of party 1's attempts, two of party 2's"
 abbrev pub narrowRecord : (one two : ℕ) → List ℕ
@@ -86,14 +86,18 @@ pub record PeriodVectors : Type 0 where
   -- and back
   pub narrow-records : recordsOf Narrow (tracePeriods twoNarrow 2) ≡ twoNarrow
   pub wide-records : recordsOf Wide (tracePeriods twoWide 2) ≡ twoWide
-  pub widened : recordsOf Wide (tracePeriods twoNarrow 2)
+  pub in-wide : recordsOf Wide (tracePeriods twoNarrow 2)
       ≡ 0x54 ∷ 0x51 ∷ 1 ∷ 2 ∷ 0 ∷ 0 ∷ 3 ∷ 4 ∷ 0 ∷ 0 ∷ 0x54 ∷ 0x51 ∷ 5 ∷ 0 ∷ 0 ∷ 0 ∷ 0 ∷ 6 ∷ 0 ∷ 0 ∷ []
+  -- a narrow record has no room for bit 16
+  pub too-narrow : recordOf Narrow (record { attempts1 = 0x10001; attempts2 = 2 }) ≡ 0x54 ∷ 0x50 ∷ 1 ∷ 0 ∷ 2 ∷ 0 ∷ []
   -- "bit a is set when the party tries action a": bits 0, 2 and 31 of 0x80000005
   pub tried-bits : map (tries (record { attempts1 = 0; attempts2 = 0x80000005 }) party2) (0 ∷ 1 ∷ 2 ∷ 3 ∷ 15 ∷ 16 ∷ 30 ∷ 31 ∷ [])
       ≡ true ∷ false ∷ true ∷ false ∷ false ∷ false ∷ false ∷ true ∷ []
   -- all that a narrow record can hold: "its upper sixteen actions never tried"; and all that a wide one can
-  pub upper-narrow : map (tries (periodIn (0x54 ∷ 0x50 ∷ replicate 4 0xff)) party1) (0 ∷ 15 ∷ 16 ∷ 31 ∷ []) ≡ true ∷ true ∷ false ∷ false ∷ []
-  pub upper-wide : map (tries (periodIn (0x54 ∷ 0x51 ∷ replicate 8 0xff)) party1) (0 ∷ 15 ∷ 16 ∷ 31 ∷ []) ≡ true ∷ true ∷ true ∷ true ∷ []
+  pub upper-narrow : map (λ p. map (tries (periodIn (0x54 ∷ 0x50 ∷ replicate 4 0xff)) p) (0 ∷ 15 ∷ 16 ∷ 31 ∷ [])) (party1 ∷ party2 ∷ [])
+      ≡ replicate 2 (true ∷ true ∷ false ∷ false ∷ [])
+  pub upper-wide : map (λ p. map (tries (periodIn (0x54 ∷ 0x51 ∷ replicate 8 0xff)) p) (0 ∷ 15 ∷ 16 ∷ 31 ∷ [])) (party1 ∷ party2 ∷ [])
+      ≡ replicate 2 (true ∷ true ∷ true ∷ true ∷ [])
   pub tried-by-1 : map (λ (x : Period). tries x party1 1) fourPeriods ≡ true ∷ true ∷ false ∷ false ∷ []
   pub tried-by-2 : map (λ (x : Period). tries x party2 1) fourPeriods ≡ true ∷ false ∷ true ∷ false ∷ []
   -- "An action succeeds when both try it."
@@ -118,12 +122,12 @@ pub record PeriodVectors : Type 0 where
       map (λ (l : List ℕ). numberAndPlace (traceTest l))
       ((longOtherRecord ++ wideRecord 1 1) ∷ (wideRecord 1 1 ++ longOtherRecord) ∷ (wideRecord 1 1 ++ longOtherRecord ++ longOtherRecord) ∷ (twoWide ++ longOtherRecord) ∷ [])
       ≡ (11, 0) ∷ (11, 1) ∷ (11, 1) ∷ (11, 2) ∷ []
-  -- "refusal 11 meets a later record of the other"; cut to the length of the first, or whole, which leaves a length that is no multiple of it
+  -- "refusal 11 meets a later record of the other"; cut to the length of the first; whole, where the length is no multiple of that one, and where it is
   pub other-forms :
       map (λ (l : List ℕ). numberAndPlace (traceTest l))
       ((narrowRecord 1 1 ++ wideCut) ∷ (twoNarrow ++ wideCut) ∷ (wideRecord 1 1 ++ narrowLong) ∷ (twoWide ++ narrowLong)
-      ∷ (narrowRecord 1 1 ++ wideRecord 1 1) ∷ (wideRecord 1 1 ++ narrowRecord 1 1) ∷ [])
-      ≡ (11, 1) ∷ (11, 2) ∷ (11, 1) ∷ (11, 2) ∷ (11, 0) ∷ (11, 0) ∷ []
+      ∷ (narrowRecord 1 1 ++ wideRecord 1 1) ∷ (wideRecord 1 1 ++ narrowRecord 1 1) ∷ (narrowRecord 1 1 ++ twoWide ++ wideRecord 1 1) ∷ (wideRecord 1 1 ++ fiveNarrow) ∷ [])
+      ≡ (11, 1) ∷ (11, 2) ∷ (11, 1) ∷ (11, 2) ∷ (11, 0) ∷ (11, 0) ∷ (11, 1) ∷ (11, 1) ∷ []
   -- the length goes before later marks: 13 bytes with a wrong mark in record 1, and 21
   pub length-first : map (λ (l : List ℕ). numberAndPlace (traceTest l)) ((narrowRecord 1 1 ++ otherRecord ++ (0 ∷ [])) ∷ (wideRecord 1 1 ++ longOtherRecord ++ (0 ∷ [])) ∷ [])
       ≡ bad 2
@@ -139,5 +143,7 @@ pub record PeriodVectors : Type 0 where
       ∷ (otherRecord ++ narrowRecord 1 1) ∷ [])
       ≡ (0, 0) ∷ (11, 0) ∷ (0, 0) ∷ (0, 0) ∷ (11, 0) ∷ (11, 0) ∷ (11, 0) ∷ []
   -- the marks of the first records alone, record 1 being of wrong mark
-  pub first-marks : map (λ (n : ℕ). numberAndPlace (marksTest Narrow (narrowRecord 1 1 ++ otherRecord ++ narrowRecord 1 1) n)) (0 ∷ 1 ∷ 2 ∷ 3 ∷ [])
-      ≡ (0, 0) ∷ (0, 0) ∷ (11, 1) ∷ (11, 1) ∷ []
+  pub first-marks :
+      map (λ (n : ℕ). numberAndPlace (marksTest Narrow (narrowRecord 1 1 ++ otherRecord ++ narrowRecord 1 1) n)) (0 ∷ 1 ∷ 2 ∷ 3 ∷ [])
+      ++ map (λ (n : ℕ). numberAndPlace (marksTest Wide (wideRecord 1 1 ++ longOtherRecord ++ wideRecord 1 1) n)) (0 ∷ 1 ∷ 2 ∷ 3 ∷ [])
+      ≡ (0, 0) ∷ (0, 0) ∷ (11, 1) ∷ (11, 1) ∷ (0, 0) ∷ (0, 0) ∷ (11, 1) ∷ (11, 1) ∷ []

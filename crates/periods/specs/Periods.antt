@@ -1,4 +1,4 @@
--- Parties, periods and what is tried in them. Document 01, "Records", the period record.
+-- Parties, periods and what is tried in them. Document 01, "Records", the period record; document 02, "Thirty-two actions".
 use Prim.Native.Nat.{ℕ, _+_, _/_, _%_, _^_}
 use mathlib.Core.Bool.{Bool, _&&_, cond}
 use mathlib.Core.List.{List}

@@ -61,7 +61,8 @@ periodRecords trace = wholePeriods (formOf trace) trace
 abbrev pub tracePeriods : List ℕ → (n : ℕ) → List Period
 tracePeriods trace n = periodsOf (formOf trace) trace n
 
--- 11, what comes first: "a single byte is a bad length"; then "the first record's mark is now tested before the length"
+-- 11, what comes first: "a single byte is a bad length"; then "the first record's mark is now tested before the length". A single byte has no mark, so that
+-- its test shows in no reply.
 unfoldable pub formTest : List ℕ → Test
 formTest trace = firstOf (require (not (eqb (length trace) 1)) BadPeriod 0) (require (eqb (length trace) 0 || eitherMark trace 0) BadPeriod 0)
 
@@ -79,6 +80,6 @@ traceTest trace = firstOf (startTest trace) (marksTest (formOf trace) trace (per
 abbrev pub periodIn : (record-bytes : List ℕ) → Period
 periodIn r = periodAt (formOf r) r 0
 
--- 11 in step: the same, then the length of one record of that form
+-- 11 in step: what comes first, then the length of one record of that form
 unfoldable pub periodTest : List ℕ → Test
 periodTest r = firstOf (formTest r) (require (eqb (length r) (periodBytes (formOf r))) BadPeriod 0)

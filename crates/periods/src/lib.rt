@@ -62,7 +62,7 @@ pub enum Form {
 pub const NARROW_BYTES: usize = 6;
 
 // The bytes of a record of the wide form.
-pub const WIDE_BYTES: usize = 10;
+const WIDE_BYTES: usize = 10;
 
 // The bytes of one party's attempts.
 fn mask_bytes(form: Form) -> usize
@@ -117,7 +117,7 @@ fn marked_from(form: Form, s: &[u8], at: usize) -> bool
     }
 }
 
-// Whether they start with either form's mark.
+// Whether the bytes from byte `at` on start with either form's mark.
 pub fn either_mark(s: &[u8], at: usize) -> bool
     requires { ⌜ at + 2 ≤ length (now s) ⌝ }
     ensures { λ r. ⌜ r ≡ eitherMark (now (s .entry)) at ⌝ }
@@ -181,7 +181,7 @@ fn first_unmarked(form: Form, s: &[u8], n: usize) -> usize
     k
 }
 
-// Their marks.
+// The marks of all whole records.
 fn marks_test(form: Form, s: &[u8]) -> Test
     ensures { λ r. ⌜ r ≡ marksTest form (now (s .entry)) (wholePeriods form (now (s .entry))) ⌝ }
 {
@@ -202,7 +202,7 @@ pub fn period_records(trace: &[u8]) -> usize
     whole_periods(form_of(trace), trace)
 }
 
-// What comes first: no single byte, then the first record's mark.
+// The first tests of a trace or a record: no single byte, then the mark.
 fn form_test(trace: &[u8]) -> Test
     ensures { λ r. ⌜ r ≡ formTest (now (trace .entry)) ⌝ }
 {
@@ -218,7 +218,7 @@ fn form_test(trace: &[u8]) -> Test
     Test::Passed
 }
 
-// A trace before its later marks: then its length, whole records.
+// A trace before its later marks: the first tests, then a length of whole records.
 pub fn start_test(trace: &[u8]) -> Test
     ensures { λ r. ⌜ r ≡ startTest (now (trace .entry)) ⌝ }
 {
@@ -232,7 +232,7 @@ pub fn start_test(trace: &[u8]) -> Test
     Test::Passed
 }
 
-// A run's trace: then the later marks.
+// A run's trace: the tests before the later marks, then these.
 pub fn trace_test(trace: &[u8]) -> Test
     ensures { λ r. ⌜ r ≡ traceTest (now (trace .entry)) ⌝ }
 {

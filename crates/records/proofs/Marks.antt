@@ -35,7 +35,7 @@ module _ (l : List ℕ) (at : ℕ) (m : List ℕ) (h : marked l at m ≡ true) w
   unfolding marked
   second = eqb-true (getD l (at + 1) 0) (getD m 1 0) (and-eq-true-iff (eqb (getD l at 0) (getD m 0 0)) _ .0 h .1)
 
--- so it has another mark as that mark itself has
+-- bytes with mark m match a mark n just where m does
 pub same-marked : (l : List ℕ) (at : ℕ) (m n : List ℕ) → marked l at m ≡ true → marked l at n ≡ marked m 0 n
 unfolding marked
 same-marked l at m n h = rw (first l at m h, second l at m h)

@@ -16,12 +16,12 @@ use Rattle.periods.proofs.Forms.{few-whole}
 use Rattle.report.specs.Split.{unmarkedSix, firstPeriod, contractLength}
 
 module _ (input : List ℕ) where
-  -- the first with the mark is one of them, or past the last
+  -- the first with either mark is one of them, or past the last
   pub first-within : firstPeriod input ≤ wholePeriods Narrow input
   unfolding firstPeriod
   first-within = omega (arith, failing-max (unmarkedSix input) 0 (wholePeriods Narrow input))
 
-  -- n whole six bytes, the first of which with the mark is number k, or k is n where none has it
+  -- n whole six bytes, the first of which with either mark is number k, or k is n where none has it
   module _ (n k : ℕ) (e : n ≡ wholePeriods Narrow input) (f : k ≡ firstFailing (unmarkedSix input) 0 n) where
     first-is : firstPeriod input ≡ k
     unfolding firstPeriod

@@ -23,10 +23,11 @@ pub record ReportVectors : Type 0 where
       map report
       ((six 1 1 31 ++ (0x54 ∷ 0x51 ∷ 0 ∷ 0 ∷ 0 ∷ 0x80 ∷ 0 ∷ 0 ∷ 0 ∷ 0x80 ∷ [])) ∷ (six 1 1 31 ++ (0x54 ∷ 0x50 ∷ replicate 4 0xff)) ∷ (six 1 1 32 ++ wideRecord 0 0) ∷ [])
       ≡ map ascii ("1 met 0\ndecided 1\n" ∷ "1 broken 1\ndecided 1\n" ∷ "refused 4 0\n" ∷ [])
-  -- "the first whole six bytes, counted in sixes, that start with either mark": a whole record, six bytes of one, and fewer; at byte 9
+  -- "the first whole six bytes, counted in sixes, that start with either mark": a whole record, six bytes of one, and fewer; a mark at byte 10; no contract
   pub wide-starts :
-      map report ((dutyBytes ++ wideRecord 1 1) ∷ (dutyBytes ++ wideCut) ∷ (dutyBytes ++ (0x54 ∷ 0x51 ∷ [])) ∷ (dutyBytes ++ (0 ∷ 0 ∷ 0 ∷ wideCut)) ∷ (wideRecord 1 1) ∷ [])
-      ≡ map ascii ("1 met 0\ndecided 1\n" ∷ "refused 11 0\n" ∷ "refused 1 0\n" ∷ "refused 1 0\n" ∷ "refused 1 0\n" ∷ [])
+      map report ((dutyBytes ++ wideRecord 1 1) ∷ (dutyBytes ++ wideCut) ∷ (dutyBytes ++ (0x54 ∷ 0x51 ∷ []))
+      ∷ (dutyBytes ++ (0x54 ∷ 0x43 ∷ 1 ∷ 1 ∷ 0x54 ∷ 0x51 ∷ []) ++ wideRecord 1 1) ∷ (wideRecord 1 1 ++ wideRecord 1 1 ++ wideRecord 1 1) ∷ [])
+      ≡ map ascii ("1 met 0\ndecided 1\n" ∷ "refused 11 0\n" ∷ "refused 1 0\n" ∷ "refused 4 1\n" ∷ "refused 1 0\n" ∷ [])
   -- a later record of the other form, of the first one's length and of its own
   pub mixed :
       map (λ t. report (dutyBytes ++ t)) ((wideRecord 1 1 ++ narrowLong) ∷ (narrowRecord 1 1 ++ wideCut) ∷ (wideRecord 1 1 ++ narrowRecord 1 1) ∷ (narrowRecord 1 1 ++ wideRecord 1 1) ∷ [])

@@ -14,7 +14,7 @@ use Rattle.periods.specs.Traces.{wholePeriods}
 unfoldable pub unmarkedSix : List ℕ → (k : ℕ) → Bool
 unmarkedSix input k = not (eitherMark input (periodBytes Narrow * k))
 
--- the number of the first whole six bytes that do; that of all whole six bytes where none do
+-- the number of the first whole six bytes that do, or how many whole six bytes there are where none do
 unfoldable pub firstPeriod : List ℕ → ℕ
 firstPeriod input = firstFailing (unmarkedSix input) 0 (wholePeriods Narrow input)
 

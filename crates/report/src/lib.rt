@@ -1,4 +1,5 @@
-// The report that `watch` prints: the input split into contract and trace, and the lines. Document 01, "Watch".
+// The report that `watch` prints: the input split into contract and trace, and the lines. Document 01, "Watch"; document 02,
+// "Thirty-two actions".
 ghost use mathlib.Core.Path.{_≡_};
 ghost use Prim.Native.Nat.{_+_, _*_, _≤_, _<_};
 ghost use lib.ListN.{length};

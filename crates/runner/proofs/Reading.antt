@@ -13,9 +13,10 @@ use Rattle.records.specs.declared.Test.the-variants.{Passed, Refused}
 use Rattle.records.specs.Refusals.{firstFailing}
 use Rattle.records.proofs.Cases.{lt-or-le, true-or-false}
 use Rattle.records.proofs.Searches.{failing-max, failing-below, failing-fails, failing-is, all-pass}
-use Rattle.periods.specs.Traces.{periodAt, periodsOf, markedAt, formOf, periodRecords, tracePeriods}
-use Rattle.periods.proofs.Traces.{length-periodsOf, periods-split, marks-pass, marks-refused}
+use Rattle.periods.specs.Traces.{periodAt, periodsOf, markedAt, formOf, periodRecords, tracePeriods, startTest}
+use Rattle.periods.proofs.Traces.{start-refused, length-periodsOf, periods-split, marks-pass, marks-refused}
 use Rattle.layout.specs.Images.{rowCount, imageOf}
+use Rattle.layout.specs.Refusals.{imageTest}
 use Rattle.states.specs.States.{stateOf, freshBytes}
 use Rattle.states.proofs.Fresh.{fresh-read}
 use Rattle.machine.specs.Machine.{undecided, afterPeriod, afterPeriods}
@@ -109,7 +110,12 @@ module _ (image trace : List ℕ) where
 
 -- ---- refusal 11
 
--- the first record of another mark refuses exactly where those before it leave the state undecided
+-- by what is tested before the later marks, the first record's among them: at 0
+pub bad-start-refused : (image trace : List ℕ) → imageTest image ≡ Passed → ¬ (startTest trace ≡ Passed) → decideTest image trace ≡ Refused BadPeriod 0
+unfolding decideTest unreadTest
+bad-start-refused image trace g e = rw (g, start-refused trace e)
+
+-- past these, the first later record of another mark refuses exactly where those before it leave the state undecided
 module _ (image trace : List ℕ) (u : unreadTest image trace ≡ Passed) (k : ℕ) (i : k < periodRecords trace)
     (m : (j : ℕ) → j < k → markedAt (formOf trace) trace j ≡ true) (bad : markedAt (formOf trace) trace k ≡ false) where
   pub bad-mark-refused : undecided (stateAfterRecords image trace k) ≡ true → decideTest image trace ≡ Refused BadPeriod k

@@ -1,12 +1,12 @@
--- A run ends as the steps of its records do. A refused one is refused as every step is, by the image or the state; at 0, by a length
--- that leaves a record cut; or at the record whose step is refused first, except that a wrong mark anywhere (11) goes before the count
--- (12).
-use Prim.Native.Nat.{ℕ, zero, suc, _+_, _-_, _≤_, _<_}
+-- A run ends as the steps of its records do. A refused one is refused as every step is, by the image or the state; at 0, by a single byte, by the
+-- first record's mark or by a length that leaves a record cut; or at the record whose step is refused first, except that a wrong mark anywhere (11) goes
+-- before the count (12).
+use Prim.Native.Nat.{ℕ, zero, suc, _+_, _-_, _%_, _≤_, _<_}
 use native.Mathlib.Numerals.{add-one}
 use native.Mathlib.Omega.{arith}
 use mathlib.Core.Bool.{true, false, cond}
 use mathlib.Core.List.{List, [], _∷_, _++_}
-use mathlib.Core.Logic.{_⊎_, ⊎-elim}
+use mathlib.Core.Logic.{⊎-elim}
 use mathlib.Core.Path.{_≡_, refl, sym, ap, _∙_}
 use borrow.Author.Tests.{le-leb, lt-leb}
 use lib.ListN.{length}
@@ -20,8 +20,9 @@ use Rattle.records.proofs.Fields.{field-lt}
 use Rattle.records.proofs.Refusals.{first-refused}
 use Rattle.records.specs.Replies.{replyOf, After, written}
 use Rattle.records.proofs.Replies.{call-no-room, call-passed, call-refused}
+use Rattle.periods.specs.Forms.{periodBytes}
 use Rattle.periods.specs.Traces.{recordAt, periodAt, periodsOf, markedAt, formOf, periodRecords, tracePeriods, startTest, traceTest, periodTest}
-use Rattle.periods.proofs.Traces.{start-refused, length-periodsOf, marks-pass, marks-refused, record-period, period-test, period-refused}
+use Rattle.periods.proofs.Traces.{length-periodsOf, start-refused, trace-refused, trace-passes, record-period, period-test, period-refused}
 use Rattle.layout.specs.Images.{imageOf}
 use Rattle.states.specs.Limits.{maxPeriods}
 use Rattle.states.specs.States.{stateOf, stateBytes}
@@ -179,15 +180,15 @@ pub refused-start : (image state trace : List ℕ) → readyTest image state ≡
 unfolding runTest traceTest
 refused-start image state trace h e = rw (h, start-refused trace e)
 
-module _ (image state trace : List ℕ) (h : readyTest image state ≡ Passed) (e : startTest trace ≡ Passed) where
+module _ (image state trace : List ℕ) (h : readyTest image state ≡ Passed) (e : length trace % periodBytes (formOf trace) ≡ 0) where
   sound-ready : (n : ℕ) → stateOf state .periods + n ≤ maxPeriods → Ready image state n
   sound-ready n l = let p = ready-passed image state h in record { good = p .0; sound = p .1; room = omega arith }
 
   -- by a record's mark: at the first record of another mark, which its step refuses if the count lets the steps before it pass
   module _ (k : ℕ) (i : k < periodRecords trace) (m : (j : ℕ) → j < k → markedAt (formOf trace) trace j ≡ true) (bad : markedAt (formOf trace) trace k ≡ false) where
     pub refused-mark : runTest image state trace ≡ Refused BadPeriod k
-    unfolding runTest traceTest
-    refused-mark = rw (h, e, marks-refused (formOf trace) trace (periodRecords trace) k i m bad)
+    unfolding runTest
+    refused-mark = rw (h, trace-refused trace k e i m bad)
 
     pub refused-mark-step : (reply : List ℕ) → AllBytes state → stepReplyBytes ≤ length reply → stateOf state .periods + k ≤ maxPeriods
         → RefusedAt image state trace reply k (Refused BadPeriod 0)
@@ -205,10 +206,8 @@ module _ (image state trace : List ℕ) (h : readyTest image state ≡ Passed) (
   -- by the count: at the first record too many, which its step refuses
   module _ (m : (j : ℕ) → j < periodRecords trace → markedAt (formOf trace) trace j ≡ true) (l : maxPeriods < stateOf state .periods + periodRecords trace) where
     pub refused-count : runTest image state trace ≡ Refused FullCount (maxPeriods - stateOf state .periods)
-    unfolding runTest traceTest countTest
-    refused-count =
-        let n = periodRecords trace in
-        rw (h, e, marks-pass (formOf trace) trace n m, lt-leb (stateOf state .periods + n) maxPeriods l)
+    unfolding runTest countTest
+    refused-count = rw (h, trace-passes trace e m, lt-leb (stateOf state .periods + periodRecords trace) maxPeriods l)
 
     pub refused-count-step : (reply : List ℕ) → AllBytes state → stepReplyBytes ≤ length reply
         → RefusedAt image state trace reply (maxPeriods - stateOf state .periods) (Refused FullCount 0)

@@ -6,23 +6,31 @@ use mathlib.Core.List.{List}
 use mathlib.Core.Path.{_≡_, sym, ap, _∙_}
 use Rattle.records.specs.declared.Test.the-variants.{Passed}
 use Rattle.records.specs.Holding.{AllBytes}
+use Rattle.records.proofs.Refusals.{first-passed}
 use Rattle.records.proofs.Searches.{failing-same}
 use Rattle.periods.specs.declared.Form.the-variants.{Wide}
-use Rattle.periods.specs.Traces.{periodRecords, traceTest, periodIn, periodTest}
-use Rattle.periods.specs.SameAttempts.{recordOf, SameAttempts, inWide}
-use Rattle.periods.proofs.SameAttempts.{same-periods, same-marks, same-test, in-wide, record-in-wide}
+use Rattle.periods.specs.Traces.{marksTest, formOf, periodRecords, tracePeriods, startTest, traceTest, periodIn, periodTest}
+use Rattle.periods.specs.SameAttempts.{recordOf, inWide, SameAttempts}
+use Rattle.periods.proofs.Traces.{marks-pass, trace-marks}
+use Rattle.periods.proofs.SameAttempts.{as-many, same-periods, wide-marked, in-wide, record-in-wide}
 use Rattle.layout.specs.Images.{rowCount, imageOf}
 use Rattle.states.specs.States.{stateOf, freshBytes}
 use Rattle.machine.specs.Machine.{undecided, afterPeriods}
 use Rattle.runner.specs.Reading.{stateAfterRecords, recordsRead}
 use Rattle.runner.specs.Refusals.{stepTest, runTest, unreadTest, decideTest}
 use Rattle.runner.specs.Calls.{step, run, decide}
+use Rattle.runner.proofs.Refusals.{unread-passed, decide-unread, decide-marks}
 use Rattle.runner.proofs.Reading.{few-read}
 
+-- ---- the same attempts, and marks of which the same is found: of all records by run, of the records read by decide
+
 module _ (t u : List ℕ) (s : SameAttempts t u) (image : List ℕ) where
-  pub same-run : (state reply : List ℕ) → run image state u reply ≡ run image state t reply
-  unfolding run runTest
-  same-run state reply = rw (same-test t u s, s .as-many, same-periods t u s (periodRecords t) (omega arith))
+  abbrev SameMarks : ℕ → Type 0
+  SameMarks n = marksTest (formOf u) u n ≡ marksTest (formOf t) t n
+
+  pub same-run : SameMarks (periodRecords t) → (state reply : List ℕ) → run image state u reply ≡ run image state t reply
+  unfolding run runTest traceTest
+  same-run m state reply = rw (as-many t u s, s .starts, m, same-periods t u s (periodRecords t) (omega arith))
 
   same-states : (k : ℕ) → k ≤ periodRecords t → stateAfterRecords image u k ≡ stateAfterRecords image t k
   unfolding stateAfterRecords
@@ -31,15 +39,13 @@ module _ (t u : List ℕ) (s : SameAttempts t u) (image : List ℕ) where
   same-read : recordsRead image u ≡ recordsRead image t
   unfolding recordsRead
   same-read =
-      rw (s .as-many)
+      rw (as-many t u s)
       (failing-same (λ (k : ℕ). undecided (stateAfterRecords image u k)) (λ (k : ℕ). undecided (stateAfterRecords image t k)) 0 (periodRecords t)
       (λ k i. rw (same-states k (omega arith))))
 
-  pub same-decide : (reply : List ℕ) → decide image u reply ≡ decide image t reply
+  pub same-decide : SameMarks (recordsRead image t) → (reply : List ℕ) → decide image u reply ≡ decide image t reply
   unfolding decide decideTest unreadTest
-  same-decide reply =
-      let n = recordsRead image t in
-      rw (same-read, s .starts, s .as-many, same-marks t u s n (few-read image t), same-states n (few-read image t))
+  same-decide m reply = rw (same-read, s .starts, as-many t u s, m, same-states (recordsRead image t) (few-read image t))
 
 -- of a step's one record
 pub same-step : (p q : List ℕ) → periodTest q ≡ periodTest p → periodIn q ≡ periodIn p → (image state reply : List ℕ)
@@ -47,14 +53,41 @@ pub same-step : (p q : List ℕ) → periodTest q ≡ periodTest p → periodIn 
 unfolding step stepTest
 same-step p q t x image state reply = rw (t, x)
 
--- ---- the wide trace with the same attempts
+-- ---- so two traces that run takes, with the same periods
 
-module _ (trace : List ℕ) (b : AllBytes trace) (t : traceTest trace ≡ Passed) (image : List ℕ) where
-  pub wide-run : (state reply : List ℕ) → run image state (inWide trace) reply ≡ run image state trace reply
-  wide-run = same-run trace (inWide trace) (in-wide trace b t) image
+module _ (t u : List ℕ) (p : traceTest t ≡ Passed) (q : traceTest u ≡ Passed) (e : tracePeriods u (periodRecords u) ≡ tracePeriods t (periodRecords t)) where
+  good-same : SameAttempts t u
+  unfolding traceTest
+  good-same = record { starts = first-passed (startTest u) _ q .0 ∙ sym (first-passed (startTest t) _ p .0); periods = e }
 
-  pub wide-decide : (reply : List ℕ) → decide image (inWide trace) reply ≡ decide image trace reply
-  wide-decide = same-decide trace (inWide trace) (in-wide trace b t) image
+  good-marks : (n : ℕ) → n ≤ periodRecords t → marksTest (formOf u) u n ≡ marksTest (formOf t) t n
+  good-marks n h =
+      let m : n ≤ periodRecords u = rw (as-many t u good-same) h in
+      marks-pass (formOf u) u n (λ i l. trace-marks u q i (omega arith)) ∙ sym (marks-pass (formOf t) t n (λ i l. trace-marks t p i (omega arith)))
+
+  pub good-run : (image state reply : List ℕ) → run image state u reply ≡ run image state t reply
+  good-run image = same-run t u good-same image (good-marks (periodRecords t) (omega arith))
+
+  pub good-decide : (image reply : List ℕ) → decide image u reply ≡ decide image t reply
+  good-decide image = same-decide t u good-same image (good-marks (recordsRead image t) (few-read image t))
+
+-- ---- and the wide trace with the same attempts: for run of a trace that it takes, for decide also of one with other marks after the decision
+
+module _ (trace : List ℕ) (b : AllBytes trace) where
+  wide-marks : (n : ℕ) → n ≤ periodRecords trace → marksTest (formOf (inWide trace)) (inWide trace) n ≡ Passed
+  wide-marks n h = marks-pass (formOf (inWide trace)) (inWide trace) n (λ i l. wide-marked trace b i (omega arith))
+
+  pub wide-run : traceTest trace ≡ Passed → (image state reply : List ℕ) → run image state (inWide trace) reply ≡ run image state trace reply
+  unfolding traceTest
+  wide-run t image =
+      let p = first-passed (startTest trace) _ t in
+      same-run trace (inWide trace) (in-wide trace b (p .0)) image (wide-marks (periodRecords trace) (omega arith) ∙ sym (p .1))
+
+  pub wide-decide : (image : List ℕ) → decideTest image trace ≡ Passed → (reply : List ℕ) → decide image (inWide trace) reply ≡ decide image trace reply
+  wide-decide image t =
+      let n = recordsRead image trace in
+      same-decide trace (inWide trace) (in-wide trace b (unread-passed image trace (decide-unread image trace t) .1)) image
+      (wide-marks n (few-read image trace) ∙ sym (marks-pass (formOf trace) trace n (decide-marks image trace t)))
 
 pub wide-step : (r : List ℕ) → AllBytes r → periodTest r ≡ Passed → (image state reply : List ℕ)
     → step image state (recordOf Wide (periodIn r)) reply ≡ step image state r reply

@@ -93,7 +93,7 @@ module _ (image t u area : List ℕ) (p : decideTest image t ≡ Passed) (d : un
   accepted : decideTest image u ≡ Passed
   unfolding decideTest
   accepted =
-      rw (unread-passes image u (unread-passed image t (decide-unread image t p) .0) (s .whole) (s .few), same-read)
+      rw (unread-passes image u (unread-passed image t (decide-unread image t p) .0) (s .good-start) (s .few), same-read)
       (marks-pass (formOf u) u last (λ i l. same-marks i l ∙ decide-marks image t p i l))
 
   pub same-whatever-follows : decide image u area ≡ decide image t area

@@ -7,7 +7,7 @@ use Rattle.records.specs.declared.Fault.the-variants.{BadPeriod}
 use Rattle.records.specs.declared.Test.the-variants.{Passed, Refused}
 use Rattle.records.specs.Replies.{After}
 use Rattle.records.specs.Examples.{area, head, leaves}
-use Rattle.periods.specs.Examples.{narrowRecord, wideRecord, otherRecord, wideCut, narrowLong}
+use Rattle.periods.specs.Examples.{narrowRecord, wideRecord, otherRecord, longOtherRecord, wideCut, narrowLong}
 use Rattle.periods.specs.Traces.{marksTest, formOf, periodRecords, startTest}
 use Rattle.layout.specs.Examples.{row, end}
 use Rattle.states.specs.Examples.{state}
@@ -160,8 +160,8 @@ pub record DecideVectors : Type 0 where
   -- "After 9, length is still tested first": 7 bytes; 13 bytes, though record 1 decides; 13 bytes with a wrong mark in record 1
   pub bad-length : map (decided goodImage) (sevenBytes ∷ (brokenAt2 ++ (0 ∷ [])) ∷ (narrowRecord 0 0 ++ otherRecord ++ (0 ∷ [])) ∷ [])
       ≡ replicate 3 (leaves tt (decideReply 11 0 0 0 0 0))
-  -- however many records it has
-  pub length-first : (trace : List ℕ) → startTest trace ≡ Refused BadPeriod 0 → decided goodImage trace ≡ leaves tt (decideReply 11 0 0 0 0 0)
+  -- a single byte, the first mark and the length, however many records there are
+  pub start-first : (trace : List ℕ) → startTest trace ≡ Refused BadPeriod 0 → decided goodImage trace ≡ leaves tt (decideReply 11 0 0 0 0 0)
   -- "A trace of more than 4,294,967,295 records meets 12 next.", at the first record too many, whatever marks and periods it has
   pub too-many : (trace : List ℕ) → startTest trace ≡ Passed → 4294967295 < periodRecords trace
       → decided goodImage trace ≡ leaves tt (12 ∷ 0 ∷ 0 ∷ 0 ∷ 0 ∷ 0 ∷ 0 ∷ 0 ∷ 255 ∷ 255 ∷ 255 ∷ 255 ∷ replicate 20 0)
@@ -176,6 +176,10 @@ pub record DecideVectors : Type 0 where
   pub short-area : decide goodImage brokenAt2 (area 31) ∷ decide badImage sevenBytes (area 31) ∷ []
       ≡ replicate 2 (record { result = 0; buffers = tt; reply = area 31 })
   pub full-area : decide goodImage brokenAt2 (area 32) ≡ record { result = 1; buffers = tt; reply = decideReply 0 2 0 1 2 2 }
+
+-- two periods less than a full count
+abbrev pub twoLeft : List ℕ
+twoLeft = 0 ∷ 0 ∷ 253 ∷ 255 ∷ 255 ∷ 255 ∷ 0 ∷ 0 ∷ 0 ∷ 0 ∷ 0 ∷ 0 ∷ 0 ∷ []
 
 -- S where party 1 tries action 31
 abbrev pub upperImage : List ℕ
@@ -196,17 +200,26 @@ pub record WideVectors : Type 0 where
   pub either-form :
       map (λ rs. stateAfter goodImage (replicate 13 0) (callsWith rs)) ((narrowRecord 1 0 ∷ wideRecord 0 0 ∷ []) ∷ (wideRecord 1 0 ∷ narrowRecord 0 0 ∷ []) ∷ [])
       ≡ replicate 2 (state 2 1 2 2 (0 ∷ 1 ∷ 0 ∷ []))
-  -- "A trace, or a step's one record": a record with the other form's mark, and both forms in a trace, at their number
+  -- a step's record with the other form's mark; "refusal 11 meets a later record of the other"
   pub other-form-step : map (λ r. step goodImage (replicate 13 0) r (area 25)) (wideCut ∷ narrowLong ∷ []) ≡ replicate 2 (leaves (replicate 13 0) (reply 11 0 0 0 0))
   pub other-form-run : map (λ t. run goodImage (replicate 13 0) t (area 25)) ((wideRecord 1 1 ++ narrowLong) ∷ (narrowRecord 1 1 ++ wideCut) ∷ [])
       ≡ replicate 2 (leaves (replicate 13 0) (reply 11 0 1 0 0))
+  -- a wrong mark at the same record of either form
+  pub bad-in-both : map (λ t. run goodImage (replicate 13 0) t (area 25)) ((narrowRecord 1 1 ++ otherRecord) ∷ (wideRecord 1 1 ++ longOtherRecord) ∷ [])
+      ≡ replicate 2 (leaves (replicate 13 0) (reply 11 0 1 0 0))
+  -- room for one of two wide records, and for both
+  pub wide-count :
+      run goodImage oneLeft (wideRecord 1 1 ++ wideRecord 1 1) (area 25)
+      ∷ run goodImage twoLeft (wideRecord 0 0 ++ wideRecord 1 1) (area 25)
+      ∷ []
+      ≡ leaves oneLeft (reply 12 0 1 0 0) ∷ leaves full (reply 0 0 0 0 0) ∷ []
   -- decide reads records of the first one's form up to the decision
   pub wide-decided :
       map (decided goodImage)
       ((wideRecord 1 0 ++ wideRecord 0 0 ++ wideRecord 1 1) ∷ (wideRecord 1 0 ++ wideRecord 0 0 ++ narrowLong) ∷ (brokenAt2 ++ wideCut) ∷ [])
       ≡ replicate 3 (leaves tt (decideReply 0 2 0 1 2 2))
   pub other-form-decided : map (decided goodImage) ((wideRecord 1 0 ++ narrowLong) ∷ (narrowRecord 1 0 ++ wideCut) ∷ []) ≡ replicate 2 (leaves tt (decideReply 11 0 1 0 0 0))
-  -- "the first record's mark is now tested before the length", and before the number of records, whatever follows
+  -- the first record's mark goes before the number of records, whatever follows
   pub first-mark-first : (rest : List ℕ) → decided goodImage (otherRecord ++ rest) ≡ leaves tt (decideReply 11 0 0 0 0 0)
   -- a single byte, and no byte
   pub fewest : map (decided goodImage) ((0x54 ∷ []) ∷ [] ∷ []) ≡ leaves tt (decideReply 11 0 0 0 0 0) ∷ leaves tt (decideReply 0 0 0 0 0 0) ∷ []

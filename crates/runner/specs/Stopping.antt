@@ -28,5 +28,5 @@ pub record SameAsRun (image trace area reply : List ℕ) : Type 0 where
 -- u is a trace that starts with the records that decide reads of t, and goes on in any way
 pub record StartsAs (image t u : List ℕ) : Type 0 where
   pub starts : firstRecords (formOf u) u (recordsRead image t) ≡ readFirst image t
-  pub whole : startTest u ≡ Passed
+  pub good-start : startTest u ≡ Passed
   pub few : periodRecords u ≤ maxPeriods

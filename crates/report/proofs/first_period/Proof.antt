@@ -1,9 +1,10 @@
 -- `report::first_period` meets its contract: none of the sixes before k starts with a mark.
-use Prim.Native.Nat.{_-_, _≤_}
+use Prim.Native.Nat.{_+_, _*_, _-_, _≤_}
 use native.Mathlib.Nat.{sub-zero}
 use native.Mathlib.Omega.{arith}
 use mathlib.Core.Path.{_≡_, sym, ap, _∙_}
 use mathlib.Core.Bool.{not}
+use lib.ListN.{length}
 use Rattle.records.specs.Refusals.{firstFailing}
 use Rattle.records.proofs.Searches.{failing-next, failing-here, failing-end}
 use Rattle.periods.specs.declared.Form.the-variants.{Narrow}
@@ -22,19 +23,16 @@ loop-holds : tie.Need-loop-holds Inv-loop μ-loop
 loop-holds c = (omega arith, rw sub-zero)
 
 -- number k stands inside the input
+inside : (c : tie.In-loop Inv-loop μ-loop) → let a = c .before .before .before .args in 6 * c .before .loop .k + 6 ≤ length (a .input .now)
+inside c =
+    let a = c .before .before .before .args in
+    period-inside Narrow (a .input .now) (c .before .loop .k) (omega (arith, c .before .before .before .pre))
+
 mul-either-mark : tie.Need-mul-either-mark Inv-loop μ-loop
-mul-either-mark c =
-    let p = c .before in
-    let a = p .before .before .args in
-    let i = period-inside Narrow (a .input .now) (p .loop .k) (omega (arith, p .before .before .pre)) in
-    omega arith
+mul-either-mark c = let i = inside c in omega arith
 
 either-mark-requires : tie.Need-either-mark-requires Inv-loop μ-loop
-either-mark-requires c κs =
-    let p = c .before in
-    let a = p .before .before .args in
-    let i = period-inside Narrow (a .input .now) (p .loop .k) (omega (arith, p .before .before .pre)) in
-    omega arith
+either-mark-requires c κs = let i = inside c in omega arith
 
 add-k : tie.Need-add-k Inv-loop μ-loop
 add-k c = omega arith
