@@ -15,7 +15,7 @@ mkdir -p "$built"
 
 # The header is C++ too.
 if command -v c++ >/dev/null; then
-    c++ -std=c++11 -Wall -Wextra -Werror -x c++ -fsyntax-only hosts/c/monitor.h
+    c++ -std=c++11 -Wall -Wextra -Werror -fsyntax-only hosts/c/header.cpp
     echo "ok monitor.h as C++"
 fi
 
@@ -36,7 +36,7 @@ try_host() {
 try_host smoke "$runner"
 try_host samples "$monitor"
 try_host decide "$monitor"
-try_host wide "$monitor"
+try_host forms "$monitor"
 try_host reading "$monitor"
 try_host compile "$monitor"
 try_host verdicts "$monitor"

@@ -101,12 +101,12 @@ static const struct sample decisions[] = {
     {"not later", LATER, BYTES(PERIOD(0, 1))},
 };
 
-/* Attempts that decide. */
-static const struct { const char *label; uint32_t first, second; } deciding[] = {
-    {"satisfied", 1, 0},
-    {"violated, blame 1,", 2, 0},
-    {"violated, blame 2,", 0, 2},
-    {"violated, blame 3,", 2, 2},
+/* The records that decide; their attempts are in bytes 2 and 4. */
+static const struct { const char *label; uint8_t record[MONITOR_PERIOD_BYTES]; } deciding[] = {
+    {"satisfied", {MEETS}},
+    {"violated, blame 1,", {BREAKS_1}},
+    {"violated, blame 2,", {BREAKS_2}},
+    {"violated, blame 3,", {BREAKS_3}},
 };
 
 static const struct sample refusals[] = {
@@ -181,11 +181,12 @@ static void positions(enum form form, const char *name)
     for (size_t d = 0; d < COUNT(deciding); d++)
         for (unsigned count = 1; count <= 3; count++)
             for (unsigned k = 0; k < count; k++) {
+                const uint8_t *decides = deciding[d].record;
                 uint8_t records[3 * MONITOR_WIDE_PERIOD_BYTES];
                 size_t length = 0;
                 char label[64];
                 for (unsigned i = 0; i < count; i++)
-                    length += put_period(records + length, form, i == k ? deciding[d].first : 0, i == k ? deciding[d].second : 0);
+                    length += put_period(records + length, form, i == k ? decides[2] : 0, i == k ? decides[4] : 0);
                 snprintf(label, sizeof label, "%s by %s %u of %u", deciding[d].label, name, k + 1, count);
                 sample(label, plain, (struct bytes){records, length});
             }
@@ -255,7 +256,7 @@ enum { PAGE = 4096 };
 #define WIDE_RECORDS(count) (MONITOR_WIDE_PERIOD_BYTES * (size_t)(count))
 #define MAPPED (PAGE + WIDE_RECORDS(MOST + 2))
 
-#define MARK 'T', 'P'
+#define NARROW_MARK 'T', 'P'
 #define WIDE_MARK 'T', 'Q'
 #define WIDE_MEETS WIDE_PERIOD(1, 0)
 
@@ -263,7 +264,7 @@ enum { PAGE = 4096 };
 static const struct { const char *label; struct bytes image, records; size_t length; } far_traces[] = {
     {"no record", PLAIN, NO_BYTES, 0},
     {"1 byte", PLAIN, BYTES('T'), 1},
-    {"5 bytes", PLAIN, BYTES(MARK), 5},
+    {"5 bytes", PLAIN, BYTES(NARROW_MARK), 5},
     {"9 bytes of a wide record", PLAIN, BYTES(WIDE_MARK), 9},
     {"4 records, satisfied by the third", PLAIN, BYTES(NOBODY, NOBODY, MEETS), RECORDS(4)},
     {"4 wide records, satisfied by the third", PLAIN, BYTES(WIDE_NOBODY, WIDE_NOBODY, WIDE_MEETS), WIDE_RECORDS(4)},
@@ -276,11 +277,11 @@ static const struct { const char *label; struct bytes image, records; size_t len
     {"4294967295 wide records, narrow mark in the third", PLAIN, BYTES(WIDE_NOBODY, WIDE_NOBODY, MEETS), WIDE_RECORDS(MOST)},
     {"4294967295 wide records and a byte, satisfied by the first", PLAIN, BYTES(WIDE_MEETS), WIDE_RECORDS(MOST) + 1},
     /* Too many: the first record's mark and the length go before the count, and the count before later marks. */
-    {"4294967296 records", PLAIN, BYTES(MARK), RECORDS(MOST + 1)},
+    {"4294967296 records", PLAIN, BYTES(NARROW_MARK), RECORDS(MOST + 1)},
     {"4294967296 records, satisfied by the third", PLAIN, BYTES(NOBODY, NOBODY, MEETS), RECORDS(MOST + 1)},
     {"4294967296 records, wrong mark in the first", PLAIN, BYTES(WRONG_FIRST), RECORDS(MOST + 1)},
     {"4294967296 records, wrong mark in the second", PLAIN, BYTES(NOBODY, WRONG_SECOND), RECORDS(MOST + 1)},
-    {"4294967296 records and a byte", PLAIN, BYTES(MARK), RECORDS(MOST + 1) + 1},
+    {"4294967296 records and a byte", PLAIN, BYTES(NARROW_MARK), RECORDS(MOST + 1) + 1},
     {"4294967296 records, bad image", BAD_IMAGE, NO_BYTES, RECORDS(MOST + 1)},
     {"4294967299 records, satisfied by the third", PLAIN, BYTES(NOBODY, NOBODY, MEETS), RECORDS(MOST + 4)},
     {"4294967296 wide records", PLAIN, BYTES(WIDE_MARK), WIDE_RECORDS(MOST + 1)},

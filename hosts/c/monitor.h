@@ -67,15 +67,15 @@ enum monitor_party {
     0x54, 0x43, MONITOR_KIND_DEADLINE, (uint8_t)(party), (uint8_t)(action), (uint8_t)(window)
 
 /* The bytes of a period record, for an initializer, from both parties' attempts: bit a is set when the party tries action a. */
+/* Write 1u << a, since 1 << 31 overflows. An argument is evaluated more than once. */
 /* A wide record has all 32 bits. A narrow one has bits 0 to 15; in its period nobody tries actions 16 to 31. */
-#define MONITOR_PERIOD(one, two) \
-    0x54, 0x50, (uint8_t)((one) & 0xff), (uint8_t)((one) >> 8 & 0xff), (uint8_t)((two) & 0xff), (uint8_t)((two) >> 8 & 0xff)
+/* A new host writes wide records; narrow ones are for hosts and traces from before. */
+#define MONITOR_PERIOD(one, two) 0x54, 0x50, MONITOR_TWO_BYTES(one), MONITOR_TWO_BYTES(two)
 #define MONITOR_WIDE_PERIOD(one, two) 0x54, 0x51, MONITOR_FOUR_BYTES(one), MONITOR_FOUR_BYTES(two)
 
-/* A number's bytes in a field of four, low byte first. */
-#define MONITOR_FOUR_BYTES(number) \
-    (uint8_t)((uint32_t)(number) & 0xff), (uint8_t)((uint32_t)(number) >> 8 & 0xff), \
-    (uint8_t)((uint32_t)(number) >> 16 & 0xff), (uint8_t)((uint32_t)(number) >> 24)
+/* A number's bytes in a field of two and in one of four, low byte first. */
+#define MONITOR_TWO_BYTES(number) (uint8_t)((uint32_t)(number) & 0xff), (uint8_t)((uint32_t)(number) >> 8 & 0xff)
+#define MONITOR_FOUR_BYTES(number) MONITOR_TWO_BYTES(number), MONITOR_TWO_BYTES((uint32_t)(number) >> 16)
 
 /* A reply's number: 0, or what the call was refused for. docs/FORMAT.md has the conditions, and what the place counts. */
 enum monitor_refusal {
@@ -90,7 +90,7 @@ enum monitor_refusal {
     MONITOR_REFUSED_SHORT_BUFFER = 8,   /* for the image */
     MONITOR_REFUSED_BAD_IMAGE = 9,      /* its length, a row or the end record */
     MONITOR_REFUSED_BAD_STATE = 10,     /* its length, or (step, run) not sound */
-    MONITOR_REFUSED_BAD_PERIOD = 11,    /* a lone byte; the first record's mark; the length for its form; a later mark */
+    MONITOR_REFUSED_BAD_PERIOD = 11,    /* a single byte; the first record's mark; the length for its form; a later mark */
     MONITOR_REFUSED_FULL_COUNT = 12     /* periods taken would pass 4,294,967,295, or decide's trace has more records */
 };
 

@@ -1,11 +1,11 @@
 /* Nests of each operator, up to 64 records, compiled and stepped: the verdict and the blame in each period. */
-/* Document 01, "Records", "Expressions" and "Meaning of clauses"; document 02, "Duties with a deadline" and "Duties that both */
-/* parties own". What it prints is held to the file nests.expected. */
+/* Document 01, "Records", "Expressions" and "Meaning of clauses"; document 02, "Duties with a deadline", "Duties that both */
+/* parties own" and "Thirty-two actions". What it prints is held to the file nests.expected. */
 #include "testing.h"
 
 /* ---- traces */
 
-/* What both parties try in a period: nothing; everything; action 0 in period 1, action 1 in period 2 and so on, after 15 */
+/* What both parties try in a period: nothing; everything; action 0 in period 1, action 1 in period 2 and so on, after 31 */
 /* again 0; the action that comes after that one; or action 0 in period 15, action 1 in period 30 and so on, and nothing */
 /* between them. */
 enum usual { NONE, ALL, TURN, AHEAD, LATE };
@@ -20,13 +20,13 @@ static unsigned usual(enum usual kind, unsigned period)
 {
     switch (kind) {
     case ALL:
-        return 0xffff;
+        return 0xffffffff;
     case TURN:
-        return 1u << (period + 15) % 16;
+        return 1u << (period - 1) % MONITOR_ACTIONS;
     case AHEAD:
-        return 1u << period % 16;
+        return 1u << period % MONITOR_ACTIONS;
     case LATE:
-        return period % MONITOR_MAX_WINDOW != 0 ? 0 : 1u << (period / MONITOR_MAX_WINDOW + 15) % 16;
+        return period % MONITOR_MAX_WINDOW != 0 ? 0 : 1u << (period / MONITOR_MAX_WINDOW - 1) % MONITOR_ACTIONS;
     default:
         return 0;
     }
@@ -37,7 +37,7 @@ static struct monitor_step_reply step(struct periods t, unsigned period)
     unsigned both = usual(t.usual, period);
     unsigned one = period == t.except ? t.one : both, two = period == t.except ? t.two : both;
 
-    return take_step((struct bytes)BYTES(MONITOR_PERIOD(one, two)));
+    return take_step((struct bytes)BYTES(MONITOR_WIDE_PERIOD(one, two)));
 }
 
 /* ---- lines */
@@ -60,6 +60,8 @@ static void put_reply(unsigned period)
 /* A range for each reply, and the decision period. */
 static void steps(struct periods t)
 {
+    if (t.count > MAX_PERIODS)
+        abort();
     for (unsigned period = 1; period <= t.count; period++)
         replies[period] = step(t, period);
     put_ranges(1, t.count, same_reply, put_reply);
@@ -114,17 +116,17 @@ static void repeats(const char *name, int leaf, struct periods t)
 
 static void clauses(void)
 {
-    /* In period 3 party 1 doesn't try action 5, and party 2 not action 9; then party 2 alone not action 15. */
-    duties("both", MONITOR_KIND_BOTH, AGAIN, (struct periods){ALL, 5, 3, 0xffdf, 0xfdff});
-    duties("both", MONITOR_KIND_BOTH, AGAIN, (struct periods){ALL, 5, 3, 0xffff, 0x7fff});
+    /* In period 3 party 1 doesn't try action 5, and party 2 not action 25; then party 2 alone not action 31. */
+    duties("both", MONITOR_KIND_BOTH, AGAIN, (struct periods){ALL, 5, 3, 0xffffffdf, 0xfdffffff});
+    duties("both", MONITOR_KIND_BOTH, AGAIN, (struct periods){ALL, 5, 3, 0xffffffff, 0x7fffffff});
     /* Each duty in its turn; begun again in period 33, and nobody tries what party 2 owes in period 52. */
     duties("then", MONITOR_KIND_THEN, ONCE, (struct periods){TURN, 34, 0, 0, 0});
     duties("then", MONITOR_KIND_THEN, AGAIN, (struct periods){TURN, 54, 52, 0, 0});
     /* Each duty is violated but that of period 20; begun again in period 21, all are. */
-    duties("repair", MONITOR_KIND_REPAIR, ONCE, (struct periods){AHEAD, 22, 20, 0xffff, 0xffff});
-    duties("repair", MONITOR_KIND_REPAIR, AGAIN, (struct periods){AHEAD, 54, 20, 0xffff, 0xffff});
+    duties("repair", MONITOR_KIND_REPAIR, ONCE, (struct periods){AHEAD, 22, 20, 0xffffffff, 0xffffffff});
+    duties("repair", MONITOR_KIND_REPAIR, AGAIN, (struct periods){AHEAD, 54, 20, 0xffffffff, 0xffffffff});
     /* Party 2 doesn't try action 0 in period 5. */
-    repeats("repeat", MONITOR_KIND_DUTY, (struct periods){ALL, 6, 5, 0xffff, 0xfffe});
+    repeats("repeat", MONITOR_KIND_DUTY, (struct periods){ALL, 6, 5, 0xffffffff, 0xfffffffe});
 }
 
 /* Duties that both parties own. */
@@ -135,16 +137,16 @@ static void joint_duties(const char *name, int operator, int repeats, struct per
 
 static void joint(void)
 {
-    /* In period 3 party 1 doesn't try action 5, and party 2 not action 9; then party 2 alone not action 15; then nobody 0. */
-    joint_duties("both of joint duties", MONITOR_KIND_BOTH, AGAIN, (struct periods){ALL, 5, 3, 0xffdf, 0xfdff});
-    joint_duties("both of joint duties", MONITOR_KIND_BOTH, AGAIN, (struct periods){ALL, 5, 3, 0xffff, 0x7fff});
-    joint_duties("both of joint duties", MONITOR_KIND_BOTH, AGAIN, (struct periods){ALL, 5, 3, 0xfffe, 0xfffe});
+    /* In period 3 party 1 doesn't try action 5, and party 2 not action 25; then party 2 alone not action 31; then nobody 0. */
+    joint_duties("both of joint duties", MONITOR_KIND_BOTH, AGAIN, (struct periods){ALL, 5, 3, 0xffffffdf, 0xfdffffff});
+    joint_duties("both of joint duties", MONITOR_KIND_BOTH, AGAIN, (struct periods){ALL, 5, 3, 0xffffffff, 0x7fffffff});
+    joint_duties("both of joint duties", MONITOR_KIND_BOTH, AGAIN, (struct periods){ALL, 5, 3, 0xfffffffe, 0xfffffffe});
     /* Each in its turn; begun again in period 33, and nobody tries what is owed in period 52. */
     joint_duties("then of joint duties", MONITOR_KIND_THEN, AGAIN, (struct periods){TURN, 54, 52, 0, 0});
-    /* Each is violated by both parties, and the last by party 2 alone: party 1 tries action 15 in period 32. */
-    joint_duties("repair of joint duties", MONITOR_KIND_REPAIR, ONCE, (struct periods){AHEAD, 34, 32, 0x8000, 0});
+    /* Each is violated by both parties, and the last by party 2 alone: party 1 tries action 31 in period 32. */
+    joint_duties("repair of joint duties", MONITOR_KIND_REPAIR, ONCE, (struct periods){AHEAD, 34, 32, 0x80000000, 0});
     /* Nobody tries action 0 in period 5. */
-    repeats("repeat of a joint duty", JOINT_DUTY, (struct periods){ALL, 6, 5, 0xfffe, 0xfffe});
+    repeats("repeat of a joint duty", JOINT_DUTY, (struct periods){ALL, 6, 5, 0xfffffffe, 0xfffffffe});
 }
 
 /* Deadlines of the longest window. */
@@ -155,17 +157,17 @@ static void deadlines(const char *name, int operator, int repeats, struct period
 
 static void windows(void)
 {
-    /* None succeeds. Then action 15 alone doesn't in time: party 1 tries it in period 15, party 2 doesn't. Then all do; begun */
-    /* again in period 16, action 14 doesn't in time. */
+    /* None succeeds. Then action 31 alone doesn't in time: party 1 tries it in period 15, party 2 doesn't. Then all do; begun */
+    /* again in period 16, actions 0 to 14, 30 and 31 don't in time. */
     deadlines("both of deadlines", MONITOR_KIND_BOTH, ONCE, (struct periods){NONE, 17, 0, 0, 0});
-    deadlines("both of deadlines", MONITOR_KIND_BOTH, AGAIN, (struct periods){TURN, 17, 15, 0xc000, 0x4000});
-    deadlines("both of deadlines", MONITOR_KIND_BOTH, AGAIN, (struct periods){TURN, 32, 15, 0xc000, 0xc000});
+    deadlines("both of deadlines", MONITOR_KIND_BOTH, AGAIN, (struct periods){TURN, 17, 15, 0xffffc000, 0x7fffc000});
+    deadlines("both of deadlines", MONITOR_KIND_BOTH, AGAIN, (struct periods){TURN, 32, 15, 0xffffc000, 0xffffc000});
     /* Each in its last period; begun again in period 481, and in period 750 party 1 alone tries what party 2 owes by then. */
     deadlines("then of deadlines", MONITOR_KIND_THEN, ONCE, (struct periods){LATE, 482, 0, 0, 0});
-    deadlines("then of deadlines", MONITOR_KIND_THEN, AGAIN, (struct periods){LATE, 752, 750, 2, 0});
+    deadlines("then of deadlines", MONITOR_KIND_THEN, AGAIN, (struct periods){LATE, 752, 750, 1u << 17, 0});
     /* Each is violated but the second, met in period 20; begun again in period 21, all are. */
-    deadlines("repair of deadlines", MONITOR_KIND_REPAIR, ONCE, (struct periods){NONE, 22, 20, 0xffff, 0xffff});
-    deadlines("repair of deadlines", MONITOR_KIND_REPAIR, AGAIN, (struct periods){NONE, 502, 20, 0xffff, 0xffff});
+    deadlines("repair of deadlines", MONITOR_KIND_REPAIR, ONCE, (struct periods){NONE, 22, 20, 0xffffffff, 0xffffffff});
+    deadlines("repair of deadlines", MONITOR_KIND_REPAIR, AGAIN, (struct periods){NONE, 502, 20, 0xffffffff, 0xffffffff});
 }
 
 /* 31 `when`, each with a `tries`, above a duty, the last leaf. */
@@ -195,9 +197,9 @@ static void conditions(void)
     whens(ONCE, (struct periods){TURN, 12, 10, 0, 0});
     whens(AGAIN, (struct periods){TURN, 34, 32, 0, 0});
     /* All rejected, and then the ban violated; the last one accepted; the ban violated where all are accepted. */
-    untils((struct periods){NONE, 5, 3, 0xffff, 0xffff});
-    untils((struct periods){NONE, 3, 1, 0, 0x8000});
-    untils((struct periods){NONE, 3, 1, 0xffff, 0xffff});
+    untils((struct periods){NONE, 5, 3, 0xffffffff, 0xffffffff});
+    untils((struct periods){NONE, 3, 1, 0, 0x80000000});
+    untils((struct periods){NONE, 3, 1, 0xffffffff, 0xffffffff});
 }
 
 /* ---- expressions */
@@ -220,7 +222,7 @@ static void tries(const char *name, int operator, int repeats, struct periods t)
     on_duty(name, " right", repeats, t);
 }
 
-/* A repeated ban until party 2 tries action 1, after any number of periods: 58 stars over an `any`. */
+/* A repeated ban until party 2 tries action 17, after any number of periods: 58 stars over an `any`. */
 static void stars(struct periods t)
 {
     cut(&contract, 0);
@@ -241,10 +243,10 @@ static void expressions(void)
     tries("seq", MONITOR_KIND_SEQ, AGAIN, (struct periods){TURN, 34, 32, 0, 0});
     /* Rejected in periods 1 and 2, accepted in period 3 by the first leaf, and by the last; then the duty violated. */
     tries("or", MONITOR_KIND_OR, AGAIN, (struct periods){NONE, 5, 3, 1, 0});
-    tries("or", MONITOR_KIND_OR, AGAIN, (struct periods){NONE, 5, 3, 0, 0x4000});
+    tries("or", MONITOR_KIND_OR, AGAIN, (struct periods){NONE, 5, 3, 0, 0x40000000});
     /* Never accepted; accepted in period 6. */
     stars((struct periods){NONE, 8, 0, 0, 0});
-    stars((struct periods){NONE, 8, 6, 0, 2});
+    stars((struct periods){NONE, 8, 6, 0, 1u << 17});
 }
 
 int main(void)

@@ -90,13 +90,14 @@ struct bytes {
 #define NO_BYTES {(const uint8_t *)"", 0}
 
 /* Fields of two and of four bytes; a row, an end record, and a narrow and a wide period record with both parties' attempts. */
-#define TWO(n) (n) & 255, (n) >> 8 & 255
-#define FOUR(n) TWO(n), TWO((n) >> 16)
+/* The bytes of the header's macros are tested in compile.c. */
+#define TWO MONITOR_TWO_BYTES
+#define FOUR MONITOR_FOUR_BYTES
 #define ROW(kind, x, y) 'T', 'R', kind, 0, TWO(x), TWO(y)
 #define END(s, v1, v2) 'T', 'E', TWO(s), TWO(v1), TWO(v2)
-#define PERIOD(first, second) 'T', 'P', TWO(first), TWO(second)
+#define PERIOD MONITOR_PERIOD
 #define NOBODY PERIOD(0, 0)
-#define WIDE_PERIOD(first, second) 'T', 'Q', FOUR(first), FOUR(second)
+#define WIDE_PERIOD MONITOR_WIDE_PERIOD
 #define WIDE_NOBODY WIDE_PERIOD(0, 0)
 
 /* The forms of a period record, and how many bytes it has. */
@@ -409,14 +410,14 @@ static inline uint8_t *field(size_t byte)
 /* A leaf is a kind, or this: a duty that both parties own. */
 enum { JOINT_DUTY = 256 + MONITOR_KIND_DUTY };
 
-/* Leaf i: 0 to 15 have party 1 and action i, 16 to 31 have party 2 and action i - 16; a joint duty has both parties. */
+/* Leaf i has action i: 0 to 15 have party 1, 16 to 31 have party 2; a joint duty has both parties. */
 /* A deadline has the longest window. */
 static inline void add_leaf(int leaf, int i)
 {
     if (leaf == JOINT_DUTY)
-        add_record(MONITOR_KIND_DUTY, MONITOR_PARTY_BOTH, i % 16);
+        add_record(MONITOR_KIND_DUTY, MONITOR_PARTY_BOTH, i);
     else
-        add_record(leaf, MONITOR_PARTY_1 + i / 16, i % 16);
+        add_record(leaf, MONITOR_PARTY_1 + i / 16, i);
     if (leaf == MONITOR_KIND_DEADLINE)
         *field(5) = MONITOR_MAX_WINDOW;
 }

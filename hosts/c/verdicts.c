@@ -182,6 +182,8 @@ static void take(const char *spelled, const char *text, struct way way, struct a
     cut(&trace, 0);
     for (; *text != '\0'; text = next_word(text))
         add_spelled(text, word_length(text), way);
+    if (trace.length > MAX_PERIODS * record)
+        abort();
     struct bytes whole = {records, trace.length};
     memcpy(records, start(&trace), whole.length);
 
@@ -201,13 +203,21 @@ static void take(const char *spelled, const char *text, struct way way, struct a
 /* The run and decide end as the steps do, and a run of no record says so once more. */
 static void check_whole(const struct answers *a)
 {
+    static const uint32_t outcomes[] = {
+        [MONITOR_VERDICT_OPEN] = MONITOR_OUTCOME_UNDECIDED,
+        [MONITOR_VERDICT_MET] = MONITOR_OUTCOME_SATISFIED,
+        [MONITOR_VERDICT_BROKEN] = MONITOR_OUTCOME_VIOLATED,
+        [MONITOR_VERDICT_MET_AFTER] = MONITOR_OUTCOME_SATISFIED,
+        [MONITOR_VERDICT_BROKEN_AFTER] = MONITOR_OUTCOME_VIOLATED,
+    };
     struct monitor_step_reply last = a->steps[a->periods - 1];
 
     if (!agree(last, a->run) || memcmp(a->stepped.all, a->after_run.all, sizeof a->stepped.all) != 0)
         fault("the run ends otherwise than the steps");
     if (!agree(last, take_run((struct bytes)NO_BYTES)))
         fault("the run of no record has another reply");
-    if (a->decided.number != MONITOR_ACCEPTED || a->decided.blame != last.blame || a->decided.decision != last.decision ||
+    if (a->decided.number != MONITOR_ACCEPTED || last.verdict >= COUNT(outcomes) ||
+        a->decided.outcome != outcomes[last.verdict] || a->decided.blame != last.blame || a->decided.decision != last.decision ||
         a->decided.records != (last.decision != 0 ? last.decision : a->periods))
         fault("decide ends otherwise than the steps");
 }

@@ -21,26 +21,21 @@ pub fn reads_wide(archive: &Archive) -> bool {
 pub fn narrowed(mut case: Case) -> Case {
     match &mut case.start {
         Start::Contract { bytes, .. } => {
-            for record in bytes.chunks_exact_mut(6) {
-                lower(&mut record[4]);
+            let records = bytes.chunks_exact_mut(6);
+            for record in records.filter(|record| compare::contracts::names_upper(record)) {
+                record[4] -= 16;
             }
         }
         Start::Image { bytes, .. } => {
-            for row in bytes.chunks_exact_mut(8).filter(|row| row[2] == 2) {
-                lower(&mut row[6]);
+            let rows = bytes.chunks_exact_mut(8);
+            for row in rows.filter(|row| compare::images::names_upper(row)) {
+                row[6] -= 16;
             }
         }
     }
     let records = case.calls.iter_mut().filter_map(Call::records_mut);
     records.for_each(narrow);
     case
-}
-
-/// An upper action becomes a lower one; what is no action stays.
-fn lower(action: &mut u8) {
-    if let 16..=31 = action {
-        *action -= 16;
-    }
 }
 
 /// A trace that starts with a wide record becomes one that starts with a narrow one. Each mark of a
@@ -102,21 +97,50 @@ mod tests {
         assert_eq!(narrowed(&wide[..2]), [0x54, 0x50]);
     }
 
+    /// Actions above 31, a kind without an action and an end record stay as they are.
+    #[test]
+    fn only_upper_actions_are_lowered() {
+        let narrowed = |start| {
+            let mut case = Case::of_seed(1);
+            case.start = start;
+            match narrowed(case).start {
+                Start::Contract { bytes, .. } | Start::Image { bytes, .. } => bytes,
+            }
+        };
+        let contract = |action: u8| {
+            let duty = [0x54, 0x43, 1, 1, action, 0];
+            [duty, [0x54, 0x43, 1, 1, 32, 0], [0x54, 0x43, 7, 0, 16, 0]].concat()
+        };
+        let start = Start::Contract {
+            bytes: contract(31),
+            buffer: 0,
+            reply: 0,
+        };
+        assert_eq!(narrowed(start), contract(15));
+        let image = |action: u8| {
+            let row = [0x54, 0x52, 2, 0, 1, 0, action, 0];
+            let bad = [0x54, 0x52, 2, 0, 1, 0, 16, 1];
+            [row, bad, [0x54, 0x45, 2, 0, 1, 0, 16, 0]].concat()
+        };
+        let start = Start::Image {
+            bytes: image(31),
+            state: Vec::new(),
+        };
+        assert_eq!(narrowed(start), image(15));
+    }
+
     /// No trace starts with a wide record, and no upper action is named.
     #[test]
     fn cases_are_narrowed() {
         let is_wide = |case: &Case| {
-            let mut calls = case.calls.clone();
-            let mut records = calls.iter_mut().filter_map(Call::records_mut);
+            let mut records = case.calls.iter().filter_map(Call::records);
             records.any(|records| records.starts_with(&[0x54, 0x51]))
         };
         let names_upper = |case: &Case| match &case.start {
             Start::Contract { bytes, .. } => {
-                bytes.chunks_exact(6).any(|r| (16..32).contains(&r[4]))
+                bytes.chunks_exact(6).any(compare::contracts::names_upper)
             }
-            Start::Image { bytes, .. } => bytes
-                .chunks_exact(8)
-                .any(|row| row[2] == 2 && (16..32).contains(&row[6])),
+            Start::Image { bytes, .. } => bytes.chunks_exact(8).any(compare::images::names_upper),
         };
         let mut changed = [0; 2];
         for case in (0..1000).map(Case::of_seed) {

@@ -3,7 +3,7 @@
 use crate::plain::attempts;
 use crate::product::ROW;
 use monitor::Period;
-use reference::{Clause, Decision, Monitor};
+use reference::{Clause, Decision, Form, Monitor};
 
 /// An image and a narrow trace.
 pub struct Input {
@@ -53,16 +53,15 @@ fn masks(period: Period) -> (u32, u32) {
 pub fn narrow(periods: &[Period]) -> Vec<u8> {
     let record = |period: &Period| {
         let (one, two) = masks(*period);
-        let [one, two] = [one, two].map(u32::to_le_bytes);
-        [0x54, 0x50, one[0], one[1], two[0], two[1]]
+        reference::Period { one, two }.record(Form::Narrow)
     };
     periods.iter().flat_map(record).collect()
 }
 
 /// The wide records with the attempts of these narrow ones.
 pub fn wide(trace: &[u8]) -> Vec<u8> {
-    let periods = Period::from_trace(trace).expect("a trace");
-    periods.iter().flat_map(|p| p.to_bytes()).collect()
+    let periods = Period::read_trace(trace).expect("a trace");
+    Period::trace(&periods).to_vec()
 }
 
 /// The reference's monitor takes a narrow record.

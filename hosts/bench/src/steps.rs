@@ -32,7 +32,8 @@ pub fn measure(plan: &Plan) {
     }
 }
 
-/// The images that `step` is timed on, with their traces: the smallest first, the largest last.
+/// The images that `step` and wide records are timed on, with their narrow traces: the smallest
+/// first, the largest last.
 pub fn inputs(plan: &Plan) -> Vec<Input> {
     let random = &mut Random::new();
     let mut inputs = Vec::new();
@@ -59,7 +60,7 @@ pub fn inputs(plan: &Plan) -> Vec<Input> {
     inputs
 }
 
-/// Other work on the same state, which has to end as `run` over the input's trace does.
+/// Times other work against `run`, each on a state just begun; both have to end alike.
 fn measure_against_run(plan: &Plan, input: &Input, other: impl Fn(&mut [u8]) -> Answer) {
     let Input { name, image, trace } = input;
     let (mut ran, mut left) = (product::begin(image), product::begin(image));

@@ -7,8 +7,8 @@ use crate::traces;
 use reference::calls::{decide, DECIDE_REPLY};
 use reference::contract::{least_buffer, read, sum_of_windows};
 use reference::image::MAX_BYTES;
-use reference::records::{four_bytes, Form};
-use reference::{Monitor, Period};
+use reference::records::four_bytes;
+use reference::{Form, Monitor, Period};
 
 #[derive(Clone, Copy, Debug, PartialEq, Eq)]
 pub enum Family {
@@ -53,6 +53,15 @@ pub enum Call {
 
 impl Call {
     /// The period records that it is given.
+    pub fn records(&self) -> Option<&[u8]> {
+        match self {
+            Call::Begin { .. } => None,
+            Call::Step { period, .. } => Some(period),
+            Call::Run { trace, .. } | Call::Decide { trace, .. } => Some(trace),
+        }
+    }
+
+    /// The same, to be changed.
     pub fn records_mut(&mut self) -> Option<&mut Vec<u8>> {
         match self {
             Call::Begin { .. } => None,
@@ -166,14 +175,14 @@ fn take(random: &mut Random, periods: &[Period], calls: &mut Vec<Call>) {
         if random.percent(runs) {
             let (now, later) = rest.split_at(random.below(rest.len().min(30) + 1));
             calls.push(Call::Run {
-                trace: traces::told(random, now),
+                trace: traces::in_some_form(random, now),
                 reply: room(random, 24),
             });
             rest = later;
         } else {
             let (now, later) = rest.split_at(1);
             calls.push(Call::Step {
-                period: traces::told(random, now),
+                period: traces::in_some_form(random, now),
                 reply: room(random, 24),
             });
             rest = later;
@@ -190,14 +199,14 @@ fn take(random: &mut Random, periods: &[Period], calls: &mut Vec<Call>) {
 /// A call that is refused, mostly.
 fn refused_call(random: &mut Random, rest: &[Period]) -> Call {
     let some = random.between(1, rest.len().min(20));
-    let some = traces::told(random, &rest[..some]);
+    let some = traces::in_some_form(random, &rest[..some]);
     match random.below(4) {
         0 => Call::Step {
             period: traces::bad_period(random),
             reply: any_room(random, 24),
         },
         1 => Call::Step {
-            period: traces::told(random, &rest[..1]),
+            period: traces::in_some_form(random, &rest[..1]),
             reply: random.below(24),
         },
         2 => Call::Run {
@@ -334,7 +343,7 @@ fn damaged_image_case(random: &mut Random) -> Parts {
     for _ in 0..random.between(1, 3) {
         let length = random.below(16);
         let periods = traces::any(random, length);
-        let mut trace = traces::told(random, &periods);
+        let mut trace = traces::in_some_form(random, &periods);
         if trace_fault {
             traces::damage(random, &mut trace);
         }
@@ -368,71 +377,92 @@ fn step_record(random: &mut Random, fault: bool) -> Vec<u8> {
         traces::bad_period(random)
     } else {
         let periods = traces::any(random, 1);
-        traces::told(random, &periods)
+        traces::in_some_form(random, &periods)
     }
 }
 
 #[cfg(test)]
 mod tests {
     use super::*;
+    use crate::contracts::{names_upper, RECORD};
+    use reference::calls::LONG_REPLY;
     use reference::records::read_trace;
     use std::collections::BTreeSet;
 
     const QUIET: Period = Period { one: 0, two: 0 };
     const BOTH: Period = Period { one: 1, two: 1 };
 
+    /// The number of each call that is given records (0 step, 1 run, 2 decide), the records, and
+    /// whether there is room for the reply.
+    fn calls_with_records(case: &Case) -> impl Iterator<Item = (usize, &[u8], bool)> {
+        case.calls.iter().filter_map(|call| {
+            let (number, has_room) = match call {
+                Call::Begin { .. } => return None,
+                Call::Step { reply, .. } => (0, *reply >= LONG_REPLY),
+                Call::Run { reply, .. } => (1, *reply >= LONG_REPLY),
+                Call::Decide { reply, .. } => (2, *reply >= DECIDE_REPLY),
+            };
+            Some((number, call.records()?, has_room))
+        })
+    }
+
+    /// The sort of a call's records: 0 empty, 1 and 2 good in each form, 3 with a bad first mark, 4
+    /// with a bad length, 5 with a bad mark later, 6 with one of the other form.
+    fn sort_of(call: usize, records: &[u8]) -> usize {
+        let record_bytes = traces::record_bytes(records);
+        let fits = match call {
+            0 => records.len() == record_bytes,
+            _ => records.len().is_multiple_of(record_bytes),
+        };
+        match (Form::of_mark(records), read_trace(records)) {
+            (None, Ok(_)) => 0,
+            (Some(form), Ok(_)) if fits => 1 + form as usize,
+            (None, Err(_)) if records.len() > 1 => 3,
+            (Some(_), Err(refusal)) if fits => {
+                let record = &records[refusal.place as usize * record_bytes..];
+                5 + usize::from(Form::of_mark(record).is_some())
+            }
+            _ => 4,
+        }
+    }
+
     #[test]
-    fn every_family_has_decides_of_every_sort() {
-        // Without room, empty, good in each form; with a bad first mark, a bad length, a bad mark
-        // later, and one of the other form.
-        let mut counts = [[0; 8]; FAMILIES.len()];
-        for case in (0..5000).map(Case::of_seed) {
-            for call in &case.calls {
-                let Call::Decide { trace, reply } = call else {
-                    continue;
+    fn every_family_has_calls_of_every_sort() {
+        // By call and family: without room, then the sorts of the records.
+        let mut counts = [[[0; 8]; FAMILIES.len()]; 3];
+        for case in (0..20000).map(Case::of_seed) {
+            for (call, records, has_room) in calls_with_records(&case) {
+                let sort = if has_room {
+                    1 + sort_of(call, records)
+                } else {
+                    0
                 };
-                let form = traces::form_of(trace);
-                let unit = traces::unit_of(trace);
-                let sort = match (form, read_trace(trace)) {
-                    _ if *reply < DECIDE_REPLY => 0,
-                    (None, Ok(_)) => 1,
-                    (Some(form), Ok(_)) => 2 + form as usize,
-                    (None, Err(_)) => 4,
-                    (Some(_), Err(_)) if !trace.len().is_multiple_of(unit) => 5,
-                    (Some(_), Err(refusal)) => {
-                        let record = &trace[refusal.place as usize * unit..];
-                        6 + usize::from(traces::form_of(record).is_some())
-                    }
-                };
-                counts[case.family as usize][sort] += 1;
+                counts[call][case.family as usize][sort] += 1;
             }
         }
-        let all = counts.as_flattened();
-        assert!(all.iter().all(|count| *count > 10), "{counts:?}");
+        // A step's one record has no later mark.
+        for (families, sorts) in counts.iter().zip([6, 8, 8]) {
+            let often = |family: &[usize; 8]| family[..sorts].iter().all(|count| *count > 10);
+            assert!(families.iter().all(often), "{counts:?}");
+        }
     }
 
     /// The number of each call that is given records, their form as a number, and their length.
     fn given(case: &Case) -> impl Iterator<Item = (usize, Option<usize>, usize)> + '_ {
-        case.calls.iter().filter_map(|call| {
-            let (call, records) = match call {
-                Call::Begin { .. } => return None,
-                Call::Step { period, .. } => (0, period),
-                Call::Run { trace, .. } => (1, trace),
-                Call::Decide { trace, .. } => (2, trace),
-            };
-            let form = traces::form_of(records).map(|form| form as usize);
-            Some((call, form, records.len()))
+        calls_with_records(case).map(|(call, records, _)| {
+            let form = Form::of_mark(records).map(|form| form as usize);
+            (call, form, records.len())
         })
     }
 
     #[test]
     fn both_forms_meet_contracts_with_and_without_upper_actions() {
         let mut counts = [[[0; 2]; 2]; 3];
-        for case in (0..2000).map(Case::of_seed) {
+        for case in (0..3000).map(Case::of_seed) {
             let Start::Contract { bytes, .. } = &case.start else {
                 continue;
             };
-            let names_upper = bytes.chunks_exact(6).any(|record| record[4] >= 16);
+            let names_upper = bytes.chunks_exact(RECORD).any(names_upper);
             for (call, form, _) in given(&case) {
                 if let Some(form) = form {
                     counts[call][form][usize::from(names_upper)] += 1;

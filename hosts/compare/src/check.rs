@@ -2,16 +2,16 @@
 
 use crate::cases::{Call, Case, Start};
 use crate::guard::Lent;
-use crate::images::{rows_of, ROW};
+use crate::images::{names_upper, rows_of, ROW};
 use crate::random::Random;
 use crate::report::{Difference, Tally};
 use crate::traces;
 use monitor::calls as product;
-use reference::calls::{self, short_reply, DECIDE_REPLY, LONG_REPLY, SHORT_REPLY};
+use reference::calls::{self, read_period, short_reply, DECIDE_REPLY, LONG_REPLY, SHORT_REPLY};
 use reference::contract::{compile, least_buffer, max_rows};
-use reference::records::{four_bytes, Form};
+use reference::records::{four_bytes, read_trace};
 use reference::state::HEAD_BYTES;
-use reference::{image, Clause, Decision, Monitor};
+use reference::{image, Clause, Decision, Form, Monitor, Period, Refusal};
 use std::rc::Rc;
 
 /// Runs the case; an error is the first difference.
@@ -129,11 +129,12 @@ fn check_again(contract: &Lent, first: &[u8], random: &mut Random) -> Result<(),
     Ok(())
 }
 
-/// Step or run: its name, the product's and the reference's.
+/// Step or run: its name, the product's and the reference's, and whether it takes a trace.
 struct Taking {
     name: &'static str,
     product: Take,
     reference: Take,
+    takes_trace: bool,
 }
 
 /// Image, state, period records, reply area.
@@ -143,11 +144,13 @@ const STEP: Taking = Taking {
     name: "step",
     product: product::step,
     reference: calls::step,
+    takes_trace: false,
 };
 const RUN: Taking = Taking {
     name: "run",
     product: product::run,
     reference: calls::run,
+    takes_trace: true,
 };
 
 /// Records of the other form with the same attempts leave the same state and get the same reply,
@@ -172,6 +175,25 @@ fn same_in_other_form(
     same("the reply, by the form of the records", reply, &other_reply)
 }
 
+/// The wrapper reads records as the reference does, as a trace and as one record. Periods are
+/// compared as wide records.
+fn same_when_read(call: &str, records: &[u8]) -> Result<(), Difference> {
+    let meant = |read: Result<Vec<Period>, Refusal>| {
+        read.map(|periods| traces::bytes(Form::Wide, &periods))
+            .map_err(|refusal| (refusal.number, refusal.place))
+    };
+    let came = |read: Result<Vec<monitor::Period>, monitor::Refusal>| {
+        read.map(|periods| monitor::Period::trace(&periods).to_vec())
+            .map_err(|refusal| (refusal.fault.number(), refusal.place))
+    };
+    let same =
+        |what, expected, read| Difference::unless_same(call, what, &meant(expected), &came(read));
+    let trace = monitor::Period::read_trace(records);
+    same("a trace, read by the wrapper", read_trace(records), trace)?;
+    let one = monitor::Period::from_bytes(records).map(|period| vec![period]);
+    same("a record, read by the wrapper", read_period(records), one)
+}
+
 /// Calls on one image and one state.
 struct Calls {
     image: Lent,
@@ -187,7 +209,6 @@ struct Calls {
 
 impl Calls {
     fn new(image: &[u8], state: &[u8], clause: Option<Rc<Clause>>, mut random: Random) -> Calls {
-        let names_upper = |row: &[u8]| row[2] == 2 && row[6] >= 16;
         Calls {
             image: Lent::new("image", image, &mut random),
             state: Lent::new("state", state, &mut random),
@@ -200,6 +221,9 @@ impl Calls {
 
     fn check(mut self, calls: &[Call], tally: &mut Tally) -> Result<(), Difference> {
         for (number, call) in calls.iter().enumerate() {
+            if let Some(records) = call.records() {
+                same_when_read(&format!("call {number}"), records)?;
+            }
             match call {
                 Call::Begin { reply } => {
                     self.begin(&format!("call {number}, begin"), *reply, tally)?;
@@ -281,9 +305,9 @@ impl Calls {
             })?;
         }
         if tally.result(taking.name, expected, reply) {
-            tally.form(traces::form_of(trace), self.names_upper);
+            tally.form(Form::of_mark(trace), self.names_upper);
             self.taken(call, trace, reply, tally)?;
-            if taking.name == RUN.name {
+            if taking.takes_trace {
                 self.same_as_steps(call, before, trace, reply)?;
             }
         }
@@ -319,7 +343,7 @@ impl Calls {
             })?;
         }
         if tally.result("decide", expected, reply) {
-            tally.form(traces::form_of(trace), self.names_upper);
+            tally.form(Form::of_mark(trace), self.names_upper);
             tally.decide(four_bytes(reply, 4));
             self.decided(call, trace, reply)?;
             self.same_as_run(call, trace, reply)?;
@@ -331,18 +355,17 @@ impl Calls {
     /// good marks, if image and length are good. Where the first mark is bad, the length tells the
     /// form.
     fn first_bad_mark(&self, trace: &[u8]) -> Option<(usize, usize)> {
-        let fits = |form: &Form| trace.len().is_multiple_of(traces::record_bytes(*form));
-        let form = traces::form_of(trace).or_else(|| traces::FORMS.into_iter().find(fits))?;
-        let unit = traces::record_bytes(form);
+        let fits = |form: &Form| trace.len().is_multiple_of(form.record_bytes());
+        let form = Form::of_mark(trace).or_else(|| Form::ALL.into_iter().find(fits))?;
         let mut good = trace.to_vec();
-        for record in good.chunks_exact_mut(unit) {
-            record[..2].copy_from_slice(&traces::mark(form));
+        for record in good.chunks_exact_mut(form.record_bytes()) {
+            record[..2].copy_from_slice(&form.mark());
         }
         let at = trace.iter().zip(&good).position(|(was, is)| was != is)?;
         let mut reply = [0; DECIDE_REPLY];
         calls::decide(self.image.reference(), &good, &mut reply);
         let decision = four_bytes(&reply, 20) as usize;
-        (four_bytes(&reply, 0) == 0).then_some((at / unit, decision))
+        (four_bytes(&reply, 0) == 0).then_some((at / form.record_bytes(), decision))
     }
 
     fn compare(&self, call: &str, reply: &Lent) -> Result<(), Difference> {
@@ -404,7 +427,7 @@ impl Calls {
     fn same_as_run(&self, call: &str, trace: &[u8], reply: &[u8]) -> Result<(), Difference> {
         let image = self.image.product();
         let read = four_bytes(reply, 24) as usize;
-        let read = &trace[..trace.len().min(read * traces::unit_of(trace))];
+        let read = &trace[..trace.len().min(read * traces::record_bytes(trace))];
         let mut state = vec![0xff; HEAD_BYTES + rows_of(image)];
         product::begin(image, &mut state, &mut [0; SHORT_REPLY]);
         product::run(image, &mut state, read, &mut [0; LONG_REPLY]);
@@ -425,7 +448,7 @@ impl Calls {
         reply: &[u8],
     ) -> Result<(), Difference> {
         let mut last = [0; LONG_REPLY];
-        for record in trace.chunks(traces::unit_of(trace)) {
+        for record in trace.chunks(traces::record_bytes(trace)) {
             product::step(self.image.product(), &mut state, record, &mut last);
         }
         let same = |what, steps: &[u8], run: &[u8]| {

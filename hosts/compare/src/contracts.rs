@@ -1,7 +1,9 @@
 //! Random contracts, good ones and damaged ones.
 
 use crate::random::Random;
+use crate::traces::UPPER;
 use reference::contract::{kind_of, Parties, KINDS};
+use reference::records::CONTRACT_MARK;
 
 /// Bytes of a record.
 pub const RECORD: usize = 6;
@@ -358,6 +360,11 @@ fn uses_action(kind: u8) -> bool {
     kind_of(kind).is_some_and(|kind| kind.action)
 }
 
+/// Whether a record names an upper action.
+pub fn names_upper(record: &[u8]) -> bool {
+    record[..2] == CONTRACT_MARK && uses_action(record[2]) && UPPER.contains(&record[4])
+}
+
 /// A contract with one to three faults, which may turn out to be none.
 pub fn damaged(random: &mut Random) -> Vec<u8> {
     let mut bytes = match random.below(6) {
@@ -537,6 +544,17 @@ mod tests {
             }
         }
         assert!(actions.iter().all(|count| *count > 50), "{actions:?}");
+    }
+
+    #[test]
+    fn upper_actions_are_named() {
+        for kind in 0..=255 {
+            let named = |byte| names_upper(&[0x54, 0x43, kind, 1, byte, 0]);
+            let uses = matches!(kind, 1 | 2 | 3 | 10 | 17..=20);
+            assert_eq!([16, 31].map(named), [uses; 2], "kind {kind}");
+            assert_eq!([0, 15, 32, 255].map(named), [false; 4], "kind {kind}");
+        }
+        assert!(!names_upper(&[0x54, 0x44, 1, 1, 16, 0]), "another mark");
     }
 
     /// The kind of the records at which damaged contracts are refused by 4, and that byte of them.

@@ -2,6 +2,7 @@
 
 use crate::contracts;
 use crate::random::Random;
+use crate::traces::UPPER;
 use reference::image::{MAX_BYTES, MAX_ROWS};
 
 /// Bytes of a row.
@@ -10,6 +11,11 @@ pub const ROW: usize = 8;
 /// The number of rows of an image of that length.
 pub fn rows_of(image: &[u8]) -> usize {
     (image.len() / ROW).saturating_sub(1)
+}
+
+/// Whether a row names an upper action.
+pub fn names_upper(row: &[u8]) -> bool {
+    row[..3] == [0x54, 0x52, 2] && row[7] == 0 && UPPER.contains(&row[6])
 }
 
 fn push(out: &mut Vec<u8>, head: [u8; 4], x: usize, y: usize) {
@@ -223,6 +229,19 @@ mod tests {
     use super::*;
     use reference::image::read;
     use reference::state::State;
+
+    #[test]
+    fn upper_actions_are_named() {
+        for action in 0..=65535 {
+            let mut row = Vec::new();
+            push(&mut row, [0x54, 0x52, 2, 0], 1, action);
+            assert_eq!(names_upper(&row), (16..32).contains(&action), "{action}");
+        }
+        assert!(!names_upper(&[0x54, 0x52, 4, 0, 1, 0, 16, 0]), "of a row");
+        // S is row 2, V1 row 1 and V2 row 16.
+        let end = [0x54, 0x45, 2, 0, 1, 0, 16, 0];
+        assert!(!names_upper(&end), "an end record");
+    }
 
     #[test]
     fn good_images_and_states_are_good() {

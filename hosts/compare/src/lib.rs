@@ -5,9 +5,9 @@
 
 pub mod cases;
 pub mod check;
-mod contracts;
+pub mod contracts;
 pub mod guard;
-mod images;
+pub mod images;
 pub mod random;
 pub mod report;
 pub mod short;

@@ -3,7 +3,7 @@
 //! `compare [--cases N] [--seed S] [--watch PATH] [--watch-cases M] [--small R]`: case number i is
 //! that of the seed S + i, so `compare --seed S --cases 1` repeats one case, and
 //! `compare --seed S --cases 0 --watch PATH --watch-cases 1` one input of `watch`. With `--small R`
-//! every short trace is compared too, and every contract of at most R records on one action, with
+//! short traces are compared too, and every contract of at most R records on one action, with
 //! windows of 2 or 3.
 
 #![forbid(unsafe_code)]
@@ -78,7 +78,7 @@ fn print_smaller(case: Case) {
     }
 }
 
-/// Compares every short trace; false after a difference, which is printed.
+/// Compares the short traces; false after a difference, which is printed.
 fn compare_short() -> bool {
     let mut tally = Tally::default();
     for case in short::cases() {
@@ -89,7 +89,9 @@ fn compare_short() -> bool {
             return false;
         }
     }
-    tally.print("every short trace");
+    tally.print(
+        "short traces (every length up to 21 bytes, every damaged mark, mixtures of the forms)",
+    );
     true
 }
 

@@ -111,11 +111,11 @@ pub fn print_case(case: &Case) {
             }
             Call::Run { trace, reply } => {
                 println!("call {number}: run, reply area of {reply}");
-                print_lines("  trace", trace, traces::unit_of(trace));
+                print_lines("  trace", trace, traces::record_bytes(trace));
             }
             Call::Decide { trace, reply } => {
                 println!("call {number}: decide, reply area of {reply}");
-                print_lines("  trace", trace, traces::unit_of(trace));
+                print_lines("  trace", trace, traces::record_bytes(trace));
             }
         }
     }
@@ -125,7 +125,7 @@ pub fn print_case(case: &Case) {
 pub fn print_input(input: &[u8]) {
     let (contract, trace) = split(input);
     print_lines("input's contract", contract, 6);
-    print_lines("input's trace", trace, traces::unit_of(trace));
+    print_lines("input's trace", trace, traces::record_bytes(trace));
 }
 
 /// Counts of one family, or of `watch`.

@@ -1,10 +1,12 @@
-//! Every short trace: all lengths up to 21 bytes, every damaged mark and every mixture of the forms,
-//! given to step, run and decide.
+//! Short traces: every length up to 21 bytes, every damaged mark, mixtures of the forms, given to
+//! step, run and decide and read by the wrapper.
 
 use crate::cases::{Call, Case, Family, Start};
-use crate::traces::{mark, record_bytes, BLOCK, FORMS};
+use crate::traces::BLOCK;
 use reference::calls::{DECIDE_REPLY, LONG_REPLY, SHORT_REPLY};
 use reference::contract::least_buffer;
+use reference::records::{CONTRACT_MARK, NARROW_MARK, WIDE_MARK};
+use reference::Form;
 use std::collections::BTreeSet;
 
 /// A repeated duty on the lowest action, one on the highest, and a ban on an upper one.
@@ -15,7 +17,7 @@ const CONTRACTS: [&[u8]; 3] = [
 ];
 
 /// The marks of both forms, and another one.
-const MARKS: [[u8; 2]; 3] = [[0x54, 0x50], [0x54, 0x51], [0x54, 0x43]];
+const MARKS: [[u8; 2]; 3] = [NARROW_MARK, WIDE_MARK, CONTRACT_MARK];
 
 /// Nobody tries anything; both try everything.
 const ATTEMPTS: [u8; 2] = [0x00, 0xff];
@@ -62,22 +64,22 @@ fn traces() -> BTreeSet<Vec<u8>> {
             record[..2].copy_from_slice(&mark);
             record
         };
-        for bytes in FORMS.map(record_bytes) {
+        for bytes in Form::ALL.map(Form::record_bytes) {
             for marks in lists(&MARKS, 5) {
                 let trace: Vec<u8> = marks.iter().flat_map(|mark| record(*mark, bytes)).collect();
                 traces.extend((0..=trace.len().min(21)).map(|length| trace[..length].to_vec()));
                 traces.insert(trace);
             }
         }
-        let of_form = |form| record(mark(form), record_bytes(form));
-        for forms in lists(&FORMS, 7) {
+        let of_form = |form: Form| record(form.mark(), form.record_bytes());
+        for forms in lists(&Form::ALL, 7) {
             traces.insert(forms.iter().flat_map(|form| of_form(*form)).collect());
         }
-        let block = |form| of_form(form).repeat(BLOCK / record_bytes(form));
-        for forms in lists(&FORMS, 4) {
+        let block = |form: Form| of_form(form).repeat(BLOCK / form.record_bytes());
+        for forms in lists(&Form::ALL, 4) {
             traces.insert(forms.iter().flat_map(|form| block(*form)).collect());
         }
-        for form in FORMS {
+        for form in Form::ALL {
             for records in 1..=4 {
                 insert_damaged(&of_form(form), records, &mut traces);
             }
@@ -117,7 +119,6 @@ fn lists<T: Copy>(items: &[T], most: usize) -> Vec<Vec<T>> {
 #[cfg(test)]
 mod tests {
     use super::*;
-    use crate::traces::{form_of, other, unit_of};
     use reference::records::read_trace;
 
     #[test]
@@ -131,12 +132,12 @@ mod tests {
         let traces = traces();
         for length in 0..=21 {
             let of_length = || traces.iter().filter(|trace| trace.len() == length);
-            for form in FORMS {
-                let starts = |trace: &Vec<u8>| form_of(trace) == Some(form);
+            for form in Form::ALL {
+                let starts = |trace: &Vec<u8>| Form::of_mark(trace) == Some(form);
                 assert_eq!(of_length().any(starts), length >= 2, "{length}");
             }
             assert!(
-                of_length().any(|trace| form_of(trace).is_none()),
+                of_length().any(|trace| Form::of_mark(trace).is_none()),
                 "{length}"
             );
         }
@@ -147,9 +148,9 @@ mod tests {
     fn every_place_is_refused_by_either_mark() {
         let mut seen = BTreeSet::new();
         for trace in traces() {
-            if let (Some(form), Err(refusal)) = (form_of(&trace), read_trace(&trace)) {
-                let record = &trace[refusal.place as usize * unit_of(&trace)..];
-                let is_other = form_of(record) == Some(other(form));
+            if let (Some(form), Err(refusal)) = (Form::of_mark(&trace), read_trace(&trace)) {
+                let record = &trace[refusal.place as usize * form.record_bytes()..];
+                let is_other = Form::of_mark(record) == Some(form.other());
                 seen.insert((form as usize, refusal.place, is_other));
             }
         }

@@ -3,15 +3,16 @@
 
 use crate::cases::{Call, Case, Start};
 use crate::images::{rows_of, ROW};
-use crate::traces::{form_of, unit_of};
+use crate::traces::record_bytes;
 use crate::watch::split;
 use reference::contract::{kind_of, least_buffer};
+use reference::Form;
 
 /// Most changes that are tried.
 const MAX_TRIED: usize = 60000;
 
 /// What is dropped of traces: wide records, narrow ones, bytes.
-const TRACE_UNITS: [usize; 3] = [10, 6, 1];
+const TRACE_UNITS: [usize; 3] = [Form::Wide.record_bytes(), Form::Narrow.record_bytes(), 1];
 
 struct Shrinker<'a, T> {
     now: T,
@@ -102,14 +103,14 @@ fn replace_in_input(s: &mut Shrinker<Vec<u8>>) -> bool {
 /// Takes the attempts out of many period records at once, and then of few.
 fn quiet_periods(s: &mut Shrinker<Vec<u8>>) {
     let (contract, trace) = split(&s.now);
-    let (start, unit) = (contract.len(), unit_of(trace));
-    let mut size = trace.len() / unit;
+    let (start, record_bytes) = (contract.len(), record_bytes(trace));
+    let mut size = trace.len() / record_bytes;
     while size > 0 {
-        for from in (start..s.now.len()).step_by(size * unit) {
+        for from in (start..s.now.len()).step_by(size * record_bytes) {
             let mut candidate = s.now.clone();
-            let to = (from + size * unit).min(candidate.len());
-            for record in candidate[from..to].chunks_exact_mut(unit) {
-                if form_of(record).is_some() {
+            let to = (from + size * record_bytes).min(candidate.len());
+            for record in candidate[from..to].chunks_exact_mut(record_bytes) {
+                if Form::of_mark(record).is_some() {
                     record[2..].fill(0);
                 }
             }

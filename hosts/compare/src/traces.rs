@@ -1,98 +1,57 @@
-//! Random periods and traces.
+//! Random periods and traces. The lower actions are 0 to 15, which records of both forms can hold;
+//! the upper ones are 16 to 31, which wide records alone can.
 
 use crate::random::Random;
-use reference::records::{read_trace, Form};
-use reference::{Clause, Decision, Monitor, Period};
-use std::ops::Range;
+use reference::records::read_trace;
+use reference::{Clause, Decision, Form, Monitor, Period};
+use std::ops::{Range, RangeInclusive};
 
-pub const FORMS: [Form; 2] = [Form::Narrow, Form::Wide];
+/// The upper actions.
+pub const UPPER: RangeInclusive<u8> = 16..=31;
 
 /// The bytes of five narrow records, and of three wide ones.
 pub const BLOCK: usize = 30;
 
-/// The mark of a form's records.
-pub fn mark(form: Form) -> [u8; 2] {
-    match form {
-        Form::Narrow => [0x54, 0x50],
-        Form::Wide => [0x54, 0x51],
-    }
-}
-
-/// Bytes of a party's attempts in a form's records.
-fn mask_bytes(form: Form) -> usize {
-    match form {
-        Form::Narrow => 2,
-        Form::Wide => 4,
-    }
-}
-
-/// Bytes of a form's records.
-pub fn record_bytes(form: Form) -> usize {
-    2 + 2 * mask_bytes(form)
-}
-
-/// The other form.
-pub fn other(form: Form) -> Form {
-    match form {
-        Form::Narrow => Form::Wide,
-        Form::Wide => Form::Narrow,
-    }
-}
-
-/// The form whose mark these bytes start with.
-pub fn form_of(bytes: &[u8]) -> Option<Form> {
-    FORMS
-        .into_iter()
-        .find(|form| bytes.starts_with(&mark(*form)))
-}
-
 /// The bytes of a trace's records, by the form of the first; those of narrow ones if it has none.
-pub fn unit_of(trace: &[u8]) -> usize {
-    record_bytes(form_of(trace).unwrap_or(Form::Narrow))
+pub fn record_bytes(trace: &[u8]) -> usize {
+    Form::of_mark(trace).unwrap_or(Form::Narrow).record_bytes()
 }
 
 /// The records of these periods. In narrow ones nobody tries an upper action.
 pub fn bytes(form: Form, periods: &[Period]) -> Vec<u8> {
-    let mut trace = Vec::with_capacity(periods.len() * record_bytes(form));
-    for period in periods {
-        trace.extend(mark(form));
-        for attempts in [period.one, period.two] {
-            trace.extend(&attempts.to_le_bytes()[..mask_bytes(form)]);
-        }
-    }
-    trace
+    periods.iter().flat_map(|p| p.record(form)).collect()
 }
 
-/// Whether the form's records can tell these periods.
-fn can_tell(form: Form, periods: &[Period]) -> bool {
+/// Whether the form's records can hold these periods.
+fn can_hold(form: Form, periods: &[Period]) -> bool {
     let is_lower = |period: &Period| (period.one | period.two) >> 16 == 0;
     form == Form::Wide || periods.iter().all(is_lower)
 }
 
-/// The records of these periods in a form that can tell them.
-pub fn told(random: &mut Random, periods: &[Period]) -> Vec<u8> {
-    let form = random.pick(&FORMS);
-    if can_tell(form, periods) {
+/// The records of these periods in a form that can hold them.
+pub fn in_some_form(random: &mut Random, periods: &[Period]) -> Vec<u8> {
+    let form = random.pick(&Form::ALL);
+    if can_hold(form, periods) {
         bytes(form, periods)
     } else {
-        bytes(other(form), periods)
+        bytes(form.other(), periods)
     }
 }
 
 /// The trace of the other form with the same attempts, if there is one.
 pub fn in_other_form(trace: &[u8]) -> Option<Vec<u8>> {
-    let form = other(form_of(trace)?);
+    let form = Form::of_mark(trace)?.other();
     let periods = read_trace(trace).ok()?;
-    can_tell(form, &periods).then(|| bytes(form, &periods))
+    can_hold(form, &periods).then(|| bytes(form, &periods))
 }
 
 /// The periods of a trace's records, up to the first that isn't one of its form.
 pub fn periods(trace: &[u8]) -> impl Iterator<Item = Period> + '_ {
-    let records = trace.chunks(unit_of(trace));
+    let records = trace.chunks(record_bytes(trace));
     records.map_while(|record| read_trace(record).ok()?.pop())
 }
 
-/// The first so many actions.
+/// The mask of the first so many actions.
 fn first(actions: usize) -> u32 {
     u32::MAX >> (32 - actions)
 }
@@ -192,13 +151,13 @@ pub fn length(random: &mut Random) -> usize {
 
 /// Bytes that are no period record, mostly.
 pub fn bad_period(random: &mut Random) -> Vec<u8> {
-    let form = random.pick(&FORMS);
+    let form = random.pick(&Form::ALL);
     let mut record = bytes(form, &[period(random, 32)]);
     match random.below(8) {
         0 | 1 => spoil_mark(random, &mut record),
         2 => record.truncate(random.below(record.len())),
         3 => record.extend(random.bytes(1)),
-        4 => record.extend(bytes(random.pick(&FORMS), &[period(random, 32)])),
+        4 => record.extend(bytes(random.pick(&Form::ALL), &[period(random, 32)])),
         5 => record = random.bytes(record.len()),
         _ => record = short(random),
     }
@@ -207,7 +166,7 @@ pub fn bad_period(random: &mut Random) -> Vec<u8> {
 
 /// Up to 21 bytes: the start of a trace, at times with bad marks.
 pub fn short(random: &mut Random) -> Vec<u8> {
-    let mut trace = bytes(random.pick(&FORMS), &any(random, 4));
+    let mut trace = bytes(random.pick(&Form::ALL), &any(random, 4));
     if random.percent(30) {
         spoil_some_marks(random, &mut trace);
     }
@@ -227,22 +186,24 @@ fn spoil_mark(random: &mut Random, record: &mut [u8]) {
 
 /// A trace that has records, one or two of them with a bad mark, mostly.
 fn spoil_some_marks(random: &mut Random, trace: &mut [u8]) {
-    let unit = unit_of(trace);
+    let record_bytes = record_bytes(trace);
     for _ in 0..random.between(1, 2) {
-        let at = random.below(trace.len() / unit) * unit;
+        let at = random.below(trace.len() / record_bytes) * record_bytes;
         spoil_mark(random, &mut trace[at..]);
     }
 }
 
 /// A trace with a record or several of the other form somewhere, or with such a mark.
 fn mix(random: &mut Random, trace: &mut Vec<u8>) {
-    let unit = unit_of(trace);
-    let form = form_of(trace).map_or(Form::Wide, other);
-    let at = random.below(trace.len() / unit + 1) * unit;
+    let record_bytes = record_bytes(trace);
+    let form = Form::of_mark(trace).map_or(Form::Wide, Form::other);
+    let at = random.below(trace.len() / record_bytes + 1) * record_bytes;
     let records = match random.below(3) {
-        0 if at + unit <= trace.len() => return trace[at..at + 2].copy_from_slice(&mark(form)),
+        0 if at + record_bytes <= trace.len() => {
+            return trace[at..at + 2].copy_from_slice(&form.mark())
+        }
         // So many that the length is one of either form.
-        1 => BLOCK / record_bytes(form),
+        1 => BLOCK / form.record_bytes(),
         _ => 1,
     };
     trace.splice(at..at, bytes(form, &any(random, records)));
@@ -256,7 +217,7 @@ pub fn damage(random: &mut Random, trace: &mut Vec<u8>) {
         2 => trace.extend(bad_period(random)),
         3 => *trace = short(random),
         4 | 5 => mix(random, trace),
-        _ if trace.len() >= unit_of(trace) => spoil_some_marks(random, trace),
+        _ if trace.len() >= record_bytes(trace) => spoil_some_marks(random, trace),
         _ => trace.extend(bad_period(random)),
     }
 }
@@ -271,7 +232,7 @@ pub fn to_decide(random: &mut Random, periods: &[Period], decision: usize) -> Ve
         2 => random.below(periods.len() + 1),
         _ => periods.len(),
     };
-    let mut trace = told(random, &periods[..kept]);
+    let mut trace = in_some_form(random, &periods[..kept]);
     match random.below(10) {
         0..=2 => {}
         3 => damage(random, &mut trace),
@@ -286,8 +247,8 @@ pub fn to_decide(random: &mut Random, periods: &[Period], decision: usize) -> Ve
 /// A bad mark before the deciding record, at it or after it, or anywhere if there is none; at times
 /// with random bytes from the next record on.
 fn spoil_marks(random: &mut Random, trace: &mut [u8], decision: usize) {
-    let unit = unit_of(trace);
-    let records = trace.len() / unit;
+    let record_bytes = record_bytes(trace);
+    let records = trace.len() / record_bytes;
     let deciding = if (1..=records).contains(&decision) {
         decision - 1..decision
     } else {
@@ -299,8 +260,8 @@ fn spoil_marks(random: &mut Random, trace: &mut [u8], decision: usize) {
         return;
     }
     let part = &parts[random.below(parts.len())];
-    let at = random.between(part.start, part.end - 1) * unit;
-    let (record, later) = trace[at..].split_at_mut(unit);
+    let at = random.between(part.start, part.end - 1) * record_bytes;
+    let (record, later) = trace[at..].split_at_mut(record_bytes);
     spoil_mark(random, record);
     if random.percent(25) {
         later.copy_from_slice(&random.bytes(later.len()));
@@ -316,7 +277,7 @@ mod tests {
     const QUIET: Period = Period { one: 0, two: 0 };
 
     #[test]
-    fn a_trace_is_told_in_both_forms() {
+    fn a_trace_is_written_in_both_forms() {
         const NARROW: [u8; 12] = [0x54, 0x50, 1, 0x80, 2, 0, 0x54, 0x50, 0, 0, 0, 3];
         const WIDE: [u8; 20] = [
             0x54, 0x51, 1, 0x80, 0, 0, 2, 0, 0, 0, 0x54, 0x51, 0, 0, 0, 0, 0, 3, 0, 0,
@@ -339,15 +300,17 @@ mod tests {
     #[test]
     fn lists_with_and_without_upper_actions_come_up() {
         let clause = Clause::Ban(Party::One, 0);
-        let mut told_in = [0; 2];
+        // By function: the lists with upper actions, and those without.
+        let mut counts = [[0; 2]; 2];
         for seed in 0..1000 {
             let random = &mut Random::new(seed);
-            for periods in [any(random, 4), for_clause(random, &clause, 4)] {
-                told_in[form_of(&told(random, &periods)).unwrap() as usize] += 1;
-                assert!(told(random, &periods).len() >= 24);
+            let lists = [any(random, 4), for_clause(random, &clause, 4)];
+            for (counts, periods) in counts.iter_mut().zip(lists) {
+                counts[usize::from(can_hold(Form::Narrow, &periods))] += 1;
             }
         }
-        assert!(told_in.iter().all(|count| *count > 500), "{told_in:?}");
+        let all = counts.as_flattened();
+        assert!(all.iter().all(|count| *count > 250), "{counts:?}");
     }
 
     /// How many traces to decide ten quiet periods, with that decision period, have their first bad
@@ -357,9 +320,9 @@ mod tests {
         let mut counts = [0; 5];
         for seed in 0..1000 {
             let trace = to_decide(&mut Random::new(seed), &periods, decision);
-            let has_form = form_of(&trace).is_some();
+            let has_form = Form::of_mark(&trace).is_some();
             let kind = match read_trace(&trace) {
-                Err(_) if has_form && !trace.len().is_multiple_of(unit_of(&trace)) => 4,
+                Err(_) if has_form && !trace.len().is_multiple_of(record_bytes(&trace)) => 4,
                 Err(refusal) => match refusal.place as usize + 1 {
                     number if number < decision => 0,
                     number if number == decision => 1,
@@ -387,12 +350,15 @@ mod tests {
     #[test]
     fn traces_to_decide_end_before_at_and_after_the_deciding_record() {
         let periods = [QUIET; 10];
-        let mut lengths = [0; 18];
+        // By records; longer traces aren't counted.
+        let mut lengths = [0; 11];
         for seed in 0..1000 {
             let trace = to_decide(&mut Random::new(seed), &periods, 4);
-            lengths[trace.len() / unit_of(&trace)] += 1;
+            if let Some(count) = lengths.get_mut(trace.len() / record_bytes(&trace)) {
+                *count += 1;
+            }
         }
-        assert!(lengths[..11].iter().all(|count| *count > 5), "{lengths:?}");
+        assert!(lengths.iter().all(|count| *count > 5), "{lengths:?}");
         assert!(
             [3, 4, 10].iter().all(|length| lengths[*length] > 100),
             "{lengths:?}"
@@ -405,16 +371,16 @@ mod tests {
         let mut seen = BTreeSet::new();
         for seed in 0..10000 {
             let random = &mut Random::new(seed);
-            let mut trace = told(random, &[QUIET; 8]);
+            let mut trace = in_some_form(random, &[QUIET; 8]);
             damage(random, &mut trace);
-            if let (Some(form), Err(refusal)) = (form_of(&trace), read_trace(&trace)) {
-                let record = &trace[refusal.place as usize * unit_of(&trace)..];
-                if form_of(record) == Some(other(form)) {
+            if let (Some(form), Err(refusal)) = (Form::of_mark(&trace), read_trace(&trace)) {
+                let record = &trace[refusal.place as usize * form.record_bytes()..];
+                if Form::of_mark(record) == Some(form.other()) {
                     seen.insert((form as usize, refusal.place));
                 }
             }
         }
-        for form in FORMS {
+        for form in Form::ALL {
             for place in 1..8 {
                 assert!(seen.contains(&(form as usize, place)), "{form:?} {place}");
             }
@@ -426,7 +392,8 @@ mod tests {
         let mut seen = BTreeSet::new();
         for seed in 0..2000 {
             let trace = short(&mut Random::new(seed));
-            seen.insert((form_of(&trace).map(|form| form as usize), trace.len()));
+            let form = Form::of_mark(&trace).map(|form| form as usize);
+            seen.insert((form, trace.len()));
         }
         for length in 2..22 {
             for form in [None, Some(0), Some(1)] {
@@ -439,15 +406,18 @@ mod tests {
 
     #[test]
     fn a_joint_duty_is_met_and_broken_with_every_blame() {
-        let clause = Clause::Duty(Owner::Both, 0);
-        let mut blames = [0; 4];
-        for seed in 0..500 {
-            let first = for_clause(&mut Random::new(seed), &clause, 1)[0];
-            let mut monitor = Monitor::new(&clause);
-            monitor.step(first.one, first.two);
-            blames[usize::from(monitor.blame())] += 1;
+        for action in [0, 31] {
+            let clause = Clause::Duty(Owner::Both, action);
+            let mut blames = [0; 4];
+            for seed in 0..500 {
+                let first = for_clause(&mut Random::new(seed), &clause, 1)[0];
+                let mut monitor = Monitor::new(&clause);
+                monitor.step(first.one, first.two);
+                blames[usize::from(monitor.blame())] += 1;
+            }
+            let often = blames.iter().all(|count| *count > 10);
+            assert!(often, "{action} {blames:?}");
         }
-        assert!(blames.iter().all(|count| *count > 10), "{blames:?}");
     }
 
     #[test]

@@ -5,7 +5,8 @@ use crate::random::Random;
 use crate::report::{Difference, Tally};
 use crate::traces;
 use reference::contract::read;
-use reference::watch::watch;
+use reference::watch::{contract_length, watch};
+use reference::Form;
 use std::io::{self, Write};
 use std::path::Path;
 use std::process::{Command, Output, Stdio};
@@ -14,9 +15,7 @@ use std::thread;
 /// The contract and the trace of an input: the trace begins at the first whole six bytes, counted in
 /// sixes, that start with the mark of either form.
 pub fn split(input: &[u8]) -> (&[u8], &[u8]) {
-    let starts = |six: &[u8]| traces::form_of(six).is_some();
-    let sixes = input.chunks_exact(6).position(starts);
-    input.split_at(sixes.map_or(input.len(), |sixes| sixes * 6))
+    input.split_at(contract_length(input))
 }
 
 /// The input of that number.
@@ -30,13 +29,13 @@ pub fn input_of_seed(seed: u64) -> Vec<u8> {
         12 => {
             let mut input = contracts::damaged(random);
             let periods = traces::any(random, 3);
-            input.extend(traces::told(random, &periods));
+            input.extend(traces::in_some_form(random, &periods));
             input
         }
         13 => {
             let length = random.below(10);
             let periods = traces::any(random, length);
-            traces::told(random, &periods)
+            traces::in_some_form(random, &periods)
         }
         14 | 15 => with_mark(random),
         16 => random.some_bytes(0, 79),
@@ -57,14 +56,14 @@ fn good(random: &mut Random) -> Vec<u8> {
     let length = traces::length(random);
     let clause = read(&input).expect("the contract is taken");
     let periods = traces::for_clause(random, &clause, length);
-    input.extend(traces::told(random, &periods));
+    input.extend(traces::in_some_form(random, &periods));
     input
 }
 
 /// An input of the greatest length, or a little less or more; at times only whole records of it.
 fn long(random: &mut Random) -> Vec<u8> {
     let mut input = good(random);
-    let form = traces::form_of(split(&input).1).unwrap_or_else(|| random.pick(&traces::FORMS));
+    let form = Form::of_mark(split(&input).1).unwrap_or_else(|| random.pick(&Form::ALL));
     let length = random.pick(&[65514, 65519, 65520, 65520, 65520, 65521, 65526, 70000]);
     let period = traces::period(random, 4);
     while input.len() < length {
@@ -78,7 +77,7 @@ fn long(random: &mut Random) -> Vec<u8> {
     if random.percent(50) {
         input.truncate(length);
     } else if input.len() > length {
-        input.truncate(input.len() - traces::record_bytes(form));
+        input.truncate(input.len() - form.record_bytes());
     }
     input
 }
@@ -87,7 +86,7 @@ fn long(random: &mut Random) -> Vec<u8> {
 fn with_mark(random: &mut Random) -> Vec<u8> {
     let mut input = good(random);
     let at = random.below(input.len() - 1);
-    let mark = traces::mark(random.pick(&traces::FORMS));
+    let mark = random.pick(&Form::ALL).mark();
     if random.percent(50) {
         input[at..at + 2].copy_from_slice(&mark);
     } else {
@@ -100,7 +99,7 @@ fn with_bad_trace(random: &mut Random) -> Vec<u8> {
     let mut input = contracts::good(random);
     let length = random.below(30);
     let periods = traces::any(random, length);
-    let mut trace = traces::told(random, &periods);
+    let mut trace = traces::in_some_form(random, &periods);
     traces::damage(random, &mut trace);
     input.extend(trace);
     input
@@ -229,9 +228,8 @@ mod tests {
     #[test]
     fn an_input_is_split_at_a_six_with_a_mark_of_either_form() {
         let contract = [0x54, 0x43, 1, 1, 0, 0];
-        for form in traces::FORMS {
-            let mark = traces::mark(form);
-            let started = [&contract[..], &mark, &[0; 4]].concat();
+        for form in Form::ALL {
+            let started = [&contract[..], &form.mark(), &[0; 4]].concat();
             assert_eq!(split(&started).0, contract);
             assert_eq!(split(&[&started[..], &contract].concat()).0, contract);
             // Less than six bytes, and off the grid.
@@ -248,7 +246,7 @@ mod tests {
         for seed in 0..2000 {
             let input = input_of_seed(seed);
             let (contract, trace) = split(&input);
-            if let Some(form) = traces::form_of(trace) {
+            if let Some(form) = Form::of_mark(trace) {
                 let refused = match (read(contract), read_trace(trace)) {
                     (Err(_), _) => 1,
                     (_, Err(_)) => 2,

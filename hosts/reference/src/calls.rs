@@ -125,7 +125,7 @@ pub fn check_trace_length(form: Form, length: usize) -> Result<(), Refusal> {
 }
 
 /// The one period of a step, or refusal 11 for all but one whole record of either form.
-fn read_period(period: &[u8]) -> Result<Vec<Period>, Refusal> {
+pub fn read_period(period: &[u8]) -> Result<Vec<Period>, Refusal> {
     match form_of(period)? {
         Some(form) if period.len() == form.record_bytes() => {
             Ok(vec![Period::of_record(form, period)])

@@ -6,9 +6,9 @@ pub const RECORD_BYTES: usize = 6;
 /// The mark of a contract record.
 pub const CONTRACT_MARK: [u8; 2] = [0x54, 0x43];
 /// The mark of a narrow period record.
-pub const PERIOD_MARK: [u8; 2] = [0x54, 0x50];
+pub const NARROW_MARK: [u8; 2] = [0x54, 0x50];
 /// The mark of a wide period record.
-pub const WIDE_PERIOD_MARK: [u8; 2] = [0x54, 0x51];
+pub const WIDE_MARK: [u8; 2] = [0x54, 0x51];
 /// The mark of a row.
 pub const ROW_MARK: [u8; 2] = [0x54, 0x52];
 /// The mark of an image's end record.
@@ -85,22 +85,33 @@ pub enum Form {
 }
 
 impl Form {
-    /// The form of that mark, if there is one.
-    pub fn of_mark(mark: &[u8]) -> Option<Form> {
-        let forms = [Form::Narrow, Form::Wide];
-        forms.into_iter().find(|form| form.mark() == mark)
+    /// Both forms.
+    pub const ALL: [Form; 2] = [Form::Narrow, Form::Wide];
+
+    /// The form whose mark these bytes start with, if there is one.
+    pub fn of_mark(bytes: &[u8]) -> Option<Form> {
+        let starts = |form: &Form| bytes.starts_with(&form.mark());
+        Form::ALL.into_iter().find(starts)
+    }
+
+    /// The other form.
+    pub fn other(self) -> Form {
+        match self {
+            Form::Narrow => Form::Wide,
+            Form::Wide => Form::Narrow,
+        }
     }
 
     /// The mark of its records.
-    pub fn mark(self) -> [u8; 2] {
+    pub const fn mark(self) -> [u8; 2] {
         match self {
-            Form::Narrow => PERIOD_MARK,
-            Form::Wide => WIDE_PERIOD_MARK,
+            Form::Narrow => NARROW_MARK,
+            Form::Wide => WIDE_MARK,
         }
     }
 
     /// Bytes of one party's attempts.
-    pub fn mask_bytes(self) -> usize {
+    pub const fn mask_bytes(self) -> usize {
         match self {
             Form::Narrow => 2,
             Form::Wide => 4,
@@ -108,7 +119,7 @@ impl Form {
     }
 
     /// Bytes of its records, 6 or 10: the mark, then the attempts of both parties.
-    pub fn record_bytes(self) -> usize {
+    pub const fn record_bytes(self) -> usize {
         self.mark().len() + 2 * self.mask_bytes()
     }
 }

@@ -31,7 +31,7 @@ fn read(input: &[u8]) -> Result<(Rc<Clause>, Vec<Period>), Refusal> {
 
 /// "`watch` begins its trace at the first whole six bytes, counted in sixes, that start with either
 /// mark." Without these "all is contract".
-fn contract_length(input: &[u8]) -> usize {
+pub fn contract_length(input: &[u8]) -> usize {
     let first = input
         .chunks_exact(RECORD_BYTES)
         .position(|six| Form::of_mark(&six[..2]).is_some());

@@ -98,6 +98,9 @@ fn forms() {
         };
         assert_eq!(Form::of_mark(&mark.to_be_bytes()), expected);
     }
+    assert_eq!(Form::of_mark(&[0x54]), None);
+    assert_eq!(Form::of_mark(&[0x54, 0x51, 0]), Some(Form::Wide));
+    assert_eq!(Form::ALL.map(Form::other), [Form::Wide, Form::Narrow]);
 }
 
 #[test]
@@ -550,14 +553,14 @@ fn marks_that_decide_looks_at() {
     }
     // Whole records of the other form after the decision, of a good length and a bad one.
     let early = with(&WIDE.repeat(2), 2, &[1]);
-    let narrow = [early.clone(), NARROW.repeat(5)].concat();
-    assert_eq!(decide_reads(&image, &narrow), Ok(1));
-    let narrow = [early, NARROW.repeat(4)].concat();
-    assert_eq!(decide_reads(&image, &narrow), Err((11, 0)));
-    let wide = [NARROW.repeat(2), WIDE.repeat(3)].concat();
-    assert_eq!(decide_reads(&image, &wide), Ok(1));
-    let wide = [NARROW.repeat(2), WIDE.repeat(2)].concat();
-    assert_eq!(decide_reads(&image, &wide), Err((11, 0)));
+    let wide_then_narrow = [early.clone(), NARROW.repeat(5)].concat();
+    assert_eq!(decide_reads(&image, &wide_then_narrow), Ok(1));
+    let wide_then_narrow = [early, NARROW.repeat(4)].concat();
+    assert_eq!(decide_reads(&image, &wide_then_narrow), Err((11, 0)));
+    let narrow_then_wide = [NARROW.repeat(2), WIDE.repeat(3)].concat();
+    assert_eq!(decide_reads(&image, &narrow_then_wide), Ok(1));
+    let narrow_then_wide = [NARROW.repeat(2), WIDE.repeat(2)].concat();
+    assert_eq!(decide_reads(&image, &narrow_then_wide), Err((11, 0)));
 }
 
 /// A random good image on the sixteen actions from `lowest` on, which make its only difference to

@@ -72,8 +72,9 @@ impl Image {
     /// one that decides aren't looked at, so a wrong mark there is no fault.
     ///
     /// # Errors
-    /// Refusal 11, if the length isn't that of a list of records of the first one's form, or a
-    /// record that is read has another mark; 12 as [`decide`](Image::decide).
+    /// Refusal 11, if the first record has neither form's mark, the length isn't that of a list of
+    /// records of its form (a single byte is a bad length), or a later record that is read has
+    /// another mark; 12 as [`decide`](Image::decide).
     pub fn decide_bytes(&self, trace: &[u8]) -> Result<DecideReply, Refusal> {
         answers::decide(self.as_bytes(), trace)
     }

@@ -6,6 +6,13 @@ use core::slice;
 
 use crate::{Action, Fault, Party, Refusal};
 
+/// The first byte of each form's mark, and the second of the narrow and of the wide one.
+const MARK: u8 = 0x54;
+const NARROW: u8 = 0x50;
+const WIDE: u8 = 0x51;
+/// The bytes of a narrow record.
+const NARROW_BYTES: usize = 6;
+
 /// The attempts of both parties in one period.
 ///
 /// A period is written as a wide record, and read from a record of either form:
@@ -43,7 +50,7 @@ impl Period {
     pub const fn from_masks(one: u32, two: u32) -> Period {
         let [a, b, c, d] = one.to_le_bytes();
         let [e, f, g, h] = two.to_le_bytes();
-        Period([0x54, 0x51, a, b, c, d, e, f, g, h])
+        Period([MARK, WIDE, a, b, c, d, e, f, g, h])
     }
 
     /// The period in which party 1 tries the actions of the first list, and party 2 those of the
@@ -71,8 +78,8 @@ impl Period {
     /// Refusal 11 at place 0, if it isn't just one period record.
     pub fn from_bytes(record: impl AsRef<[u8]>) -> Result<Period, Refusal> {
         let (one, two) = match *record.as_ref() {
-            [0x54, 0x50, a, b, c, d] => ([a, b, 0, 0], [c, d, 0, 0]),
-            [0x54, 0x51, a, b, c, d, e, f, g, h] => ([a, b, c, d], [e, f, g, h]),
+            [MARK, NARROW, a, b, c, d] => ([a, b, 0, 0], [c, d, 0, 0]),
+            [MARK, WIDE, a, b, c, d, e, f, g, h] => ([a, b, c, d], [e, f, g, h]),
             _ => return Err(bad_period(0)),
         };
         Ok(Period::from_masks(
@@ -88,19 +95,19 @@ impl Period {
     ///
     /// let stored = [0x54, 0x50, 1, 0, 1, 0, 0x54, 0x50, 0, 0, 2, 0];
     /// let periods = [Period::from_masks(1, 1), Period::from_masks(0, 2)];
-    /// assert_eq!(Period::from_trace(stored), Ok(periods.to_vec()));
-    /// assert_eq!(Period::from_trace(periods.map(Period::to_bytes).concat()), Ok(periods.to_vec()));
+    /// assert_eq!(Period::read_trace(stored), Ok(periods.to_vec()));
+    /// assert_eq!(Period::read_trace(Period::trace(&periods)), Ok(periods.to_vec()));
     /// ```
     ///
     /// # Errors
     /// Refusal 11, if it isn't a list of period records of one form; the place is that of
     /// [`Fault::BadPeriod`].
-    pub fn from_trace(trace: impl AsRef<[u8]>) -> Result<Vec<Period>, Refusal> {
+    pub fn read_trace(trace: impl AsRef<[u8]>) -> Result<Vec<Period>, Refusal> {
         let trace = trace.as_ref();
         let record_bytes = match trace {
             [] => return Ok(Vec::new()),
-            [0x54, 0x50, ..] => 6,
-            [0x54, 0x51, ..] => Period::BYTES,
+            [MARK, NARROW, ..] => NARROW_BYTES,
+            [MARK, WIDE, ..] => Period::BYTES,
             _ => return Err(bad_period(0)),
         };
         if trace.len() % record_bytes != 0 {
@@ -151,8 +158,17 @@ impl Period {
     }
 
     /// The periods' records one after the other, as they lie in memory: a wide trace.
+    ///
+    /// ```
+    /// use monitor::Period;
+    ///
+    /// let periods = [Period::from_masks(1, 1), Period::from_masks(0, 2)];
+    /// let trace = [0x54, 0x51, 1, 0, 0, 0, 1, 0, 0, 0, 0x54, 0x51, 0, 0, 0, 0, 2, 0, 0, 0];
+    /// assert_eq!(Period::trace(&periods), trace);
+    /// ```
+    #[must_use]
     #[allow(unsafe_code)]
-    pub(crate) fn trace(periods: &[Period]) -> &[u8] {
+    pub fn trace(periods: &[Period]) -> &[u8] {
         // SAFETY: a period is just its record's bytes (`repr(transparent)`), so the list is that
         // many bytes in a row, and they are borrowed for as long as the list.
         unsafe { slice::from_raw_parts(periods.as_ptr().cast(), size_of_val(periods)) }

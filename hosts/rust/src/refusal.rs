@@ -1,9 +1,9 @@
-//! Why a call was refused.
+//! Why a call, or the reading of a record, was refused.
 
 use core::error::Error;
 use core::fmt;
 
-/// What a refused call was refused for: document 01's numbers 1 to 12.
+/// What a call, or the reading of a record, was refused for: document 01's numbers 1 to 12.
 ///
 /// Number 13 is the program `watch`'s alone, for an input that is too long; no call gives it.
 #[derive(Clone, Copy, Debug, PartialEq, Eq, Hash)]
@@ -32,8 +32,9 @@ pub enum Fault {
     BadImage = 9,
     /// The state's length is wrong, or it is not sound. Place: 0.
     BadState = 10,
-    /// A period record's mark is wrong, and the place is its number; the first record's mark fixes
-    /// the form of all. Or the length of what was given is wrong, place 0.
+    /// A period record's mark is wrong, or the length of what was given; the first record's mark
+    /// fixes the form of all. Tested in this order: a single byte (place 0), the first record's
+    /// mark (0), the length for its form (0), a later record's mark (its number).
     BadPeriod = 11,
     /// Periods taken would pass 4,294,967,295, or a trace to decide has more records. Place: the
     /// first record too many.
@@ -68,7 +69,7 @@ impl Fault {
     }
 }
 
-/// A call was refused: nothing that it was given has changed.
+/// A call, or the reading of a record, was refused: nothing that it was given has changed.
 ///
 /// ```
 /// use monitor::{Fault, Image};

@@ -168,24 +168,24 @@ fn other_bytes_are_no_record() {
 #[test]
 fn traces_of_both_forms_are_read() {
     let [low, upper] = [WIDE, UPPER].map(|record| Period::from_bytes(record).unwrap());
-    assert_eq!(Period::from_trace([]), Ok(vec![]));
+    assert_eq!(Period::read_trace([]), Ok(vec![]));
     for count in 1..8 {
         let periods = vec![low; count];
         assert_eq!(
-            Period::from_trace(NARROW.repeat(count)),
+            Period::read_trace(NARROW.repeat(count)),
             Ok(periods.clone())
         );
-        assert_eq!(Period::from_trace(WIDE.repeat(count)), Ok(periods));
+        assert_eq!(Period::read_trace(WIDE.repeat(count)), Ok(periods));
     }
     let trace = [WIDE, UPPER, WIDE].concat();
-    assert_eq!(Period::from_trace(trace), Ok(vec![low, upper, low]));
+    assert_eq!(Period::read_trace(trace), Ok(vec![low, upper, low]));
 }
 
 /// The first record's mark fixes the form; then comes the length, then the later marks.
 #[test]
 fn other_bytes_are_no_trace() {
     let refused = |bytes: &[u8], place| {
-        let refusal = Period::from_trace(bytes).unwrap_err();
+        let refusal = Period::read_trace(bytes).unwrap_err();
         let came = (refusal.fault.number(), refusal.place);
         assert_eq!(came, (11, place), "{bytes:?}");
     };

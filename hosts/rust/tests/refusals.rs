@@ -290,12 +290,14 @@ fn lengths_of_periods() {
             if length % record == 0 {
                 monitor.run_bytes(&bytes).unwrap();
                 assert_eq!(monitor.periods() as usize, length / record);
-                image.decide_bytes(&bytes).unwrap();
-                assert_eq!(Period::from_trace(&bytes).unwrap().len(), length / record);
+                // The first record decides.
+                let decided = image.decide_bytes(&bytes).unwrap();
+                assert_eq!(decided.records as usize, (length / record).min(1));
+                assert_eq!(Period::read_trace(&bytes).unwrap().len(), length / record);
             } else {
                 hold(monitor.run_bytes(&bytes), 11, 0);
                 hold(image.decide_bytes(&bytes), 11, 0);
-                hold(Period::from_trace(&bytes), 11, 0);
+                hold(Period::read_trace(&bytes), 11, 0);
             }
         }
     }
@@ -309,7 +311,7 @@ fn mixed_traces() {
     let refused = |trace: &[u8], place| {
         hold(Monitor::begin(&image).run_bytes(trace), 11, place);
         hold(image.decide_bytes(trace), 11, place);
-        hold(Period::from_trace(trace), 11, place);
+        hold(Period::read_trace(trace), 11, place);
     };
     let [narrow, wide] = GOOD;
     refused(&[narrow, wide].concat(), 0);

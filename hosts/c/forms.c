@@ -1,6 +1,6 @@
 /* Narrow and wide period records: which traces step, run and decide take, in which order they are tested, and which attempts */
 /* are read. Document 02, "Thirty-two actions"; document 01, "Calls" and "Replies that refuse". */
-/* What it prints is held to the file wide.expected. */
+/* What it prints is held to the file forms.expected. */
 #include <ctype.h>
 
 #include "testing.h"
@@ -190,7 +190,7 @@ static void sweeps(void)
         }
     fill(&trace, 0, 1);
     for (enum call call = STEP; call <= DECIDE; call++)
-        values(call, "a lone byte", 0);
+        values(call, "a single byte", 0);
     marks(STEP, "n");
     marks(STEP, "N");
     for (size_t k = 0; k < COUNT(marked); k++) {
@@ -208,7 +208,7 @@ static void sweeps(void)
 
 /* ---- the order of the tests */
 
-/* The tests in their order, and which of them a call makes. */
+/* The tests in their order, and which of them a call makes; decide's count is in decide.c. */
 enum test { IMAGE, STATE, FIRST_MARK, LENGTH, LATER_MARK, FULL_COUNT, TESTS };
 static const char *const test_names[] = {"image", "state", "first mark", "length", "later mark", "full count"};
 static const unsigned made[] = {
