@@ -52,6 +52,7 @@ reader-vectors =
       missing-second = refl;
       wrong-sort = refl;
       not-one-clause = refl;
+      most-pending = refl;
       empty-list = refl;
       one-before-two = refl;
       two-before-three = refl;

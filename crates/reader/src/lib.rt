@@ -1,10 +1,13 @@
 // The reader, which takes the bytes of a contract or refuses them. Document 01, "Records" and "Replies that refuse"; of
-// windows document 02, "Duties with a deadline"; of a duty's owner document 02, "Duties that both parties own".
+// windows document 02, "Duties with a deadline"; of a duty's owner document 02, "Duties that both parties own"; of the count of
+// operands document 02, "A byte for pending operands".
 ghost use mathlib.Core.Path.{_≡_};
+ghost use mathlib.Core.Bool.{cond};
 ghost use mathlib.Core.List.{[]};
-ghost use Prim.Native.Nat.{_+_, _≤_};
+ghost use Prim.Native.Nat.{_+_, _-_, _≤_};
+ghost use lib.Dec.{ltb};
 ghost use lib.ListN.{length, getD};
-ghost use Rattle.reader.specs.Limits.{recordBytes};
+ghost use Rattle.reader.specs.Limits.{maxRecords, recordBytes};
 ghost use Rattle.reader.specs.Table.{range, within, kindOf};
 ghost use Rattle.reader.specs.Reader.{next, readRecords, justOne, contractRecords, windowAt, windowsOf, testOf, readTest};
 ghost use Rattle.reader.specs.Codes.{unpackedLine, lookupOf, operandCount, inRanges, expressionCode, sortOf, goodOperands, emptyUnder, completed, stepOf, HasRecords};
@@ -254,40 +257,46 @@ fn read_record(contract: &[u8], at: usize, below: u8, top: u8) -> Step
 
 // ---- the contract
 
-// The code at a place of the stack, NONE beyond its end.
-fn peek(stack: &[u8], at: usize) -> u8
-    ensures { λ r. ⌜ r ≡ getD (now (stack .entry)) at 0 ⌝ }
+// The code so deep below the top of the pending operands, NONE where there are no more.
+fn peek(stack: &[u8; MAX_RECORDS], pending: u8, depth: usize) -> u8
+    requires { ⌜ pending ≤ maxRecords ⌝ }
+    ensures { λ r. ⌜ r ≡ cond (ltb depth pending) (getD (now (stack .entry)) (pending - 1 - depth) 0) 0 ⌝ }
 {
-    if at < stack.len() { stack[at] } else { NONE }
+    if depth < pending as usize {
+        stack[pending as usize - 1 - depth]
+    } else {
+        NONE
+    }
 }
 
-// The records one after the other. The stack grows from the end of its array down: its top is at `top`.
+// The records one after the other. The operands that await their operator are pending; the stack starts with their codes, the top the last.
 fn read_records(contract: &[u8], n: usize) -> Test
     requires { ⌜ HasRecords (now contract) n ⌝ }
     ensures { λ r. ⌜ r ≡ testOf (next (readRecords 0 n [] (now (contract .entry))) (justOne n)) ⌝ }
 {
     let mut stack = [NONE; MAX_RECORDS];
-    let mut top = MAX_RECORDS;
+    let mut pending: u8 = 0;
     let mut k = 0;
     while k < n {
         let step = read_record(
             contract,
             RECORD_BYTES * k,
-            peek(&stack, top + 1),
-            peek(&stack, top),
+            peek(&stack, pending, 1),
+            peek(&stack, pending, 0),
         );
         match step {
             Step::Refused(fault) => {
                 return Test::Refused(fault, k);
             }
             Step::Completed(operands, code) => {
-                top = top + operands as usize - 1;
-                stack[top] = code;
+                pending -= operands;
+                stack[pending as usize] = code;
+                pending += 1;
             }
         }
         k += 1;
     }
-    if top != MAX_RECORDS - 1 || stack[top] != CLAUSE {
+    if pending != 1 || stack[0] != CLAUSE {
         return Test::Refused(Fault::NotOneClause, n);
     }
     Test::Passed

@@ -77,14 +77,14 @@ impl Call {
     }
 }
 
-/// Bytes of stack that compile uses on a contract, if it takes it.
-pub fn compile(archive: &Archive, contract: &[u8], image: &mut [u8]) -> Option<usize> {
+/// Bytes of stack that compile uses on a contract, if its reply has this number.
+pub fn compile(archive: &Archive, contract: &[u8], image: &mut [u8], number: u32) -> Option<usize> {
     let mut reply = [0xff; 16];
     let areas = [read(contract), written(image), written(&mut reply)];
     let call = Call::new(archive.compile as *const (), &areas);
     // SAFETY: the areas are those of slices that live through the call, and the archive's code is
     // proved to end and to write nothing else.
-    accepted(unsafe { call.stack() }, &reply)
+    replied(unsafe { call.stack() }, &reply, number)
 }
 
 pub fn begin(archive: &Archive, image: &[u8], state: &mut [u8]) -> Option<usize> {
@@ -132,7 +132,12 @@ pub fn decide(archive: &Archive, image: &[u8], trace: &[u8]) -> Option<usize> {
 
 /// The bytes of a call, if it was accepted.
 fn accepted(bytes: usize, reply: &[u8]) -> Option<usize> {
-    (reply[..4] == [0; 4]).then_some(bytes)
+    replied(bytes, reply, 0)
+}
+
+/// The bytes of a call, if its reply has this number.
+fn replied(bytes: usize, reply: &[u8], number: u32) -> Option<usize> {
+    (reply[..4] == number.to_le_bytes()).then_some(bytes)
 }
 
 #[cfg(test)]

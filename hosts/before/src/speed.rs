@@ -2,10 +2,11 @@
 
 use crate::archive::{Archive, Sides, PLACES};
 use bench::compile::{calls, LENGTHS};
-use bench::contracts::{Family, FAMILIES};
+use bench::contracts::{self, Family, Open, FAMILIES};
 use bench::product::{self, HEAD, LONGEST_IMAGE, PERIOD};
 use bench::timing::{fastest, nanoseconds, Plan, Side};
 use bench::{rows, steps, Input};
+use monitor::Record;
 use std::cell::RefCell;
 
 pub fn measure(plan: &Plan, sides: &Sides) {
@@ -13,8 +14,8 @@ pub fn measure(plan: &Plan, sides: &Sides) {
     plan.say(
         "The ratio is that of now to before. Each archive is linked four times, its code 16 bytes further\n\
          on each time, and the fastest place counts. Nanoseconds are those of a row visit in run and\n\
-         decide, of a period in step, of a call in compile. What the earlier archive refuses isn't timed,\n\
-         nor is a call that it lacks.\n",
+         decide, of a period in step, of a call in compile and in typing, which is a compile after each\n\
+         record. What the earlier archive refuses isn't timed, nor is a call that it lacks.\n",
     );
     line(plan, ["call", "input", "before", "now", "ratio"]);
     let table = Table { plan, sides };
@@ -34,12 +35,17 @@ pub fn measure(plan: &Plan, sides: &Sides) {
     let compiles = lengths_of_families()
         .filter_map(|(family, records)| table.compile(family, records))
         .collect();
+    let typings = typed()
+        .iter()
+        .filter_map(|contract| table.typing(contract))
+        .collect();
     plan.say("");
     for (call, ratios) in [
         ("run", runs),
         ("step", steps),
         ("decide", decides),
         ("compile", compiles),
+        ("typing", typings),
     ] {
         plan.say(&summary(call, ratios));
     }
@@ -48,6 +54,19 @@ pub fn measure(plan: &Plan, sides: &Sides) {
 fn lengths_of_families() -> impl Iterator<Item = (&'static Family, usize)> {
     let lengths = |family| LENGTHS.map(|records| (family, records));
     FAMILIES.iter().flat_map(lengths)
+}
+
+/// The contracts that are typed: short ones, and ones of 64 records.
+fn typed() -> [Open; 7] {
+    [
+        contracts::repaired_duty(),
+        contracts::duty_and_ban(),
+        contracts::repairs(),
+        contracts::whens(),
+        contracts::nested(),
+        contracts::long_expression(),
+        contracts::longest_deadlines(),
+    ]
 }
 
 /// The ratios of a row: of the bests, and the median of the turns.
@@ -163,26 +182,58 @@ impl Table<'_> {
 
     fn compile(&self, family: &Family, records: usize) -> Option<Ratios> {
         let contract = family.contract(records);
-        let mut end = vec![0; LONGEST_IMAGE];
-        product::compile(&contract, &mut end);
-        let image = RefCell::new(end.clone());
         let name = match records {
             1 => format!("1 record, {}", family.name),
             _ => format!("{records} records, {}", family.name),
         };
-        if !compiles(&self.sides.before.places[0], &contract) {
-            return self.untimed("compile", &name, "refused");
+        self.compiling("compile", &name, &[&contract], calls(self.plan, records))
+    }
+
+    /// A row of compile after each record, as an editor calls it while the contract is typed.
+    fn typing(&self, contract: &Open) -> Option<Ratios> {
+        let records = contract.records;
+        let typed: Vec<&[u8]> = (1..=records)
+            .map(|typed| &contract.bytes[..typed * Record::BYTES])
+            .collect();
+        let name = format!("{records} records, {}", contract.name);
+        let rounds = self.plan.size(65_536 / (records * records), 1);
+        self.compiling("typing", &name, &typed, rounds)
+    }
+
+    /// A row of compile over contracts one after the other, so many rounds of them; the last one is
+    /// taken.
+    fn compiling(
+        &self,
+        call: &str,
+        name: &str,
+        contracts: &[&[u8]],
+        rounds: usize,
+    ) -> Option<Ratios> {
+        let round = |archive: &Archive, image: &mut [u8], replies: &mut [[u8; 16]]| {
+            for (contract, reply) in contracts.iter().zip(replies) {
+                archive.compile(contract, image, reply);
+            }
+        };
+        let mut end = (vec![0; LONGEST_IMAGE], vec![[0; 16]; contracts.len()]);
+        round(&Archive::of_hosts(), &mut end.0, &mut end.1);
+        let areas = RefCell::new(end.clone());
+        let [before, hosts] = [self.sides.before.places[0], Archive::of_hosts()];
+        let whole = contracts.last().expect("there is a contract");
+        assert!(compiles(&hosts, whole), "{name}: compile refuses");
+        if !compiles(&before, whole) {
+            return self.untimed(call, name, "refused");
         }
-        let calls = calls(self.plan, records);
-        let ratios = self.row("compile", &name, calls, &|archive| {
-            let mut image = image.borrow_mut();
+        let ratios = self.row(call, name, rounds * contracts.len(), &|archive| {
+            let mut areas = areas.borrow_mut();
+            let (image, replies) = &mut *areas;
             image.fill(0);
+            replies.fill([0; 16]);
             let time = nanoseconds(|| {
-                for _ in 0..calls {
-                    archive.compile(&contract, &mut image, &mut [0; 16]);
+                for _ in 0..rounds {
+                    round(archive, image, replies);
                 }
             });
-            assert!(*image == end, "{name}: compile ends otherwise");
+            assert!(*areas == end, "{name}: {call} ends otherwise");
             time
         });
         Some(ratios)
@@ -252,9 +303,13 @@ mod tests {
         for (archive, call) in spoiled::<OUTPUT>() {
             assert_eq!(is_timed(archive), call == "begin", "{call}");
         }
-        // Of decide the reply is all that it leaves.
+        // Decide and a refused compile leave nothing but their reply.
         for (archive, call) in spoiled::<REPLY>() {
-            assert_eq!(is_timed(archive), call != "decide", "{call}");
+            assert_eq!(
+                is_timed(archive),
+                !["compile", "decide"].contains(&call),
+                "{call}"
+            );
         }
     }
 
@@ -268,17 +323,21 @@ mod tests {
                 table.run(input),
                 table.step(input),
                 table.compile(&FAMILIES[0], 8),
+                table.typing(&contracts::duty_and_ban()),
                 table.decide(input),
             ]
             .map(|ratios| ratios.is_some())
         };
-        assert_eq!(timed(&sides(hosts, hosts)), [true; 4]);
-        assert_eq!(timed(&sides(refusing(), hosts)), [false; 4]);
+        assert_eq!(timed(&sides(hosts, hosts)), [true; 5]);
+        assert_eq!(timed(&sides(refusing(), hosts)), [false; 5]);
         let without = Archive {
             decide: None,
             ..hosts
         };
-        assert_eq!(timed(&sides(without, hosts)), [true, true, true, false]);
+        assert_eq!(
+            timed(&sides(without, hosts)),
+            [true, true, true, true, false]
+        );
     }
 
     #[test]

@@ -7,12 +7,12 @@ use bench::product::{self, LONGEST_IMAGE, PERIOD};
 use bench::timing::Plan;
 use bench::{steps, Input};
 use monitor::Record::{Any, Duty, Repeat, Seq, Star, Then, Until, When};
-use monitor::{Action, Contract, Party, Record};
+use monitor::{Action, Contract, Fault, Party, Record};
 
 pub fn measure(sides: &Sides) {
     println!(
         "Bytes of stack that a call uses, its return address among them, on a stack painted beforehand;\n\
-         - where the archive refuses the input or lacks the call.\n"
+         - where the archive replies otherwise or lacks the call.\n"
     );
     line(["call", "input", "before", "now"]);
     let archives = [sides.before.places[0], Archive::of_hosts()];
@@ -20,6 +20,8 @@ pub fn measure(sides: &Sides) {
         let bytes = archives.map(|archive| of_compile(&archive, &contract));
         row("compile", &name, bytes);
     }
+    let bytes = archives.map(|archive| of_reading(&archive));
+    row("compile", "64 duties, which are read and refused", bytes);
     let inputs = steps::inputs(&Plan::new(true));
     for input in [&inputs[0], &inputs[inputs.len() - 1]] {
         let name = format!("{} rows", product::rows_of(&input.image));
@@ -40,7 +42,14 @@ fn line([call, input, before, now]: [&str; 4]) {
 }
 
 fn of_compile(archive: &Archive, contract: &[u8]) -> Option<usize> {
-    painted::compile(archive, contract, &mut vec![0; LONGEST_IMAGE])
+    painted::compile(archive, contract, &mut vec![0; LONGEST_IMAGE], 0)
+}
+
+/// The bytes of compile where all records are read and not one clause is left.
+fn of_reading(archive: &Archive) -> Option<usize> {
+    let duties = contracts::duty().repeat(64);
+    let number = Fault::NotOneClause.number();
+    painted::compile(archive, &duties, &mut vec![0; LONGEST_IMAGE], number)
 }
 
 /// The bytes of begin, step, run and decide.
@@ -119,6 +128,8 @@ mod tests {
         let contracts = contracts();
         let [one, deepest] = [0, 1].map(|n| of_compile(&hosts, &contracts[n].1));
         assert!(one < deepest, "{one:?}, {deepest:?}");
+        let reading = of_reading(&hosts);
+        assert!(Some(64) < reading && reading < one, "{reading:?}, {one:?}");
     }
 
     #[test]
@@ -133,6 +144,7 @@ mod tests {
     fn what_is_refused_or_lacking_is_not_measured() {
         let image = &steps::inputs(&Plan::new(true))[0];
         assert_eq!(of_compile(&refusing(), &contracts()[0].1), None);
+        assert_eq!(of_reading(&refusing()), None);
         assert_eq!(of_calls(&refusing(), image)[0], None);
         let without = Archive {
             decide: None,

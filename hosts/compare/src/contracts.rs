@@ -2,7 +2,7 @@
 
 use crate::random::Random;
 use crate::traces::UPPER;
-use reference::contract::{kind_of, Parties, KINDS};
+use reference::contract::{kind_of, Kind, Parties, Sort, KINDS, MAX_RECORDS};
 use reference::records::CONTRACT_MARK;
 
 /// Bytes of a record.
@@ -284,17 +284,22 @@ fn expression(
     }
 }
 
+/// Four actions, every owner and every window.
+fn four_actions(random: &mut Random) -> Fields {
+    Fields {
+        first: first_of(random, 4),
+        actions: 4,
+        owners: &[1, 2, 3],
+        windows: ALL,
+    }
+}
+
 /// Records with good marks that may fit together or not: known kinds mostly, good fields mostly.
 pub fn soup(random: &mut Random) -> Vec<u8> {
     let records = random.pick(&[0, 1, 2, 3, 4, 5, 6, 8, 12, 20, 63, 64, 65, 66]);
     let fitting = random.percent(70);
     let faults = random.pick(&[0, 0, 3, 10]);
-    let fields = Fields {
-        first: first_of(random, 4),
-        actions: 4,
-        owners: &[1, 2, 3],
-        windows: ALL,
-    };
+    let fields = four_actions(random);
     let mut out = Vec::new();
     let mut completed = 0;
     for _ in 0..records {
@@ -311,6 +316,76 @@ pub fn soup(random: &mut Random) -> Vec<u8> {
         }
     }
     out
+}
+
+/// Records that fit together, with many operands before their operators: leaves, then operators for
+/// what stands on top. Often not just one clause is left.
+fn many_pending(random: &mut Random) -> Vec<u8> {
+    let most = random.between(9, MAX_RECORDS);
+    let leaves = random.pick(&[64, 64, 63, 33, 32, 32, most, most]);
+    let records = random
+        .pick(&[leaves, 2 * leaves - 1, 63, 64])
+        .clamp(leaves, MAX_RECORDS);
+    let clauses = random.pick(&[100, 100, 90, 50, 0]);
+    let fields = four_actions(random);
+    let mut pending: Vec<Sort> = Vec::new();
+    let mut out = Vec::new();
+    for number in 0..records {
+        let kind = if number < leaves {
+            leaf(random, clauses)
+        } else {
+            operator(random, &pending)
+        };
+        pending.truncate(pending.len() - kind.operands.len());
+        pending.push(kind.completes);
+        push_kind(random, &fields, kind.number, &mut out);
+    }
+    out
+}
+
+/// A kind without operands, with this chance one of clauses.
+fn leaf(random: &mut Random, clauses: usize) -> &'static Kind {
+    let completes = if random.percent(clauses) {
+        Sort::Clause
+    } else {
+        Sort::Expression
+    };
+    some_kind(random, |kind| {
+        kind.operands.is_empty() && kind.completes == completes
+    })
+}
+
+/// An operator for what stands on top of the pending operands, mostly one that takes two.
+fn operator(random: &mut Random, pending: &[Sort]) -> &'static Kind {
+    let fits = |kind: &Kind, operands: usize| {
+        kind.operands.len() == operands && pending.ends_with(kind.operands)
+    };
+    let two = pending.len() > 1 && random.percent(95);
+    some_kind(random, |kind| fits(kind, if two { 2 } else { 1 }))
+}
+
+/// One of the kinds that are such.
+fn some_kind(random: &mut Random, such: impl Fn(&Kind) -> bool) -> &'static Kind {
+    let kinds: Vec<&Kind> = KINDS.iter().filter(|kind| such(kind)).collect();
+    random.pick(&kinds)
+}
+
+/// The most operands that are pending at once while a contract is read: by the kinds of its records
+/// up to the first that is unknown or lacks operands. Of too many records none is read.
+pub fn most_pending(contract: &[u8]) -> usize {
+    let (mut pending, mut most) = (0, 0);
+    if contract.len() > MAX_RECORDS * RECORD {
+        return 0;
+    }
+    for record in contract.chunks_exact(RECORD) {
+        let operands = kind_of(record[2]).map(|kind| kind.operands.len());
+        let Some(operands) = operands.filter(|operands| *operands <= pending) else {
+            break;
+        };
+        pending = pending - operands + 1;
+        most = most.max(pending);
+    }
+    most
 }
 
 /// Changes one byte after the mark of the last record.
@@ -367,10 +442,11 @@ pub fn names_upper(record: &[u8]) -> bool {
 
 /// A contract with one to three faults, which may turn out to be none.
 pub fn damaged(random: &mut Random) -> Vec<u8> {
-    let mut bytes = match random.below(6) {
+    let mut bytes = match random.below(7) {
         0 => return soup(random),
         1 => return with_empty_lists(random),
-        2 => with_empty_lists(random),
+        2 => return many_pending(random),
+        3 => with_empty_lists(random),
         _ => good(random),
     };
     for _ in 0..random.between(1, 3) {
@@ -466,6 +542,42 @@ mod tests {
                 kind.number
             );
         }
+    }
+
+    #[test]
+    fn pending_operands_are_counted() {
+        let contract = |kinds: &[u8]| -> Vec<u8> {
+            let record = |kind: &u8| [0x54, 0x43, *kind, 0, 0, 0];
+            kinds.iter().flat_map(record).collect()
+        };
+        let most = |kinds: &[u8]| most_pending(&contract(kinds));
+        assert_eq!(most(&[]), 0);
+        assert_eq!(most(&[7, 1]), 0, "a repeat without its operand");
+        assert_eq!(most(&[1, 7, 7]), 1);
+        assert_eq!(most(&[1, 1, 4, 1, 4]), 2);
+        assert_eq!(most(&[1, 1, 1, 4, 4]), 3);
+        assert_eq!(most(&[1, 1, 11, 1]), 2, "an unknown kind");
+        assert_eq!([most(&[1; 64]), most(&[1; 65])], [64, 0]);
+    }
+
+    #[test]
+    fn all_counts_of_pending_operands_come_up() {
+        let contracts: Vec<Vec<u8>> = (0..20000)
+            .map(|seed| damaged(&mut Random::new(seed)))
+            .collect();
+        for pending in 1..=MAX_RECORDS {
+            let read_so = |contract: &&Vec<u8>| most_pending(contract) == pending;
+            assert!(contracts.iter().any(|c| read_so(&c)), "{pending}");
+        }
+        // With 32 or fewer there can be one clause.
+        let many = |taken| {
+            (0..2000)
+                .map(|seed| many_pending(&mut Random::new(seed)))
+                .filter(|contract| read(contract).is_ok() == taken)
+                .map(|contract| most_pending(&contract))
+                .max()
+        };
+        assert_eq!((many(true), many(false)), (Some(32), Some(64)));
     }
 
     /// An operator's kind and the number of its operand; 0 and 0 for the whole contract.

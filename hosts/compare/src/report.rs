@@ -1,6 +1,7 @@
 //! What was seen, and what differed.
 
 use crate::cases::{Call, Case, Start, FAMILIES};
+use crate::contracts::most_pending;
 use crate::traces;
 use crate::watch::split;
 use reference::contract::{sum_of_windows, KINDS};
@@ -149,6 +150,8 @@ pub struct Tally {
     periods: [usize; 5],
     /// Compiled contracts by records: 1, 2 to 8, 9 to 32, 33 to 63, 64.
     records: [usize; 5],
+    /// Contracts by the most operands that are pending at once: 0, 1 to 8, 9 to 32, 33 to 63, 64.
+    pending: [usize; 5],
     kinds: BTreeMap<u8, usize>,
     /// Duties by party: 0, 1, 2, 3 (both), above.
     owners: [usize; 5],
@@ -228,8 +231,9 @@ impl Tally {
         self.max_windows = self.max_windows.max(sum_of_windows(contract));
     }
 
-    /// Counts the kinds of a contract's records, the owners and the windows.
+    /// Counts the kinds of a contract's records, the owners, the windows and the pending operands.
     pub fn contract_kinds(&mut self, contract: &[u8]) {
+        self.pending[bucket(most_pending(contract), [0, 8, 32, 63])] += 1;
         for record in contract.chunks_exact(6) {
             *self.kinds.entry(record[2]).or_default() += 1;
             match record[2] {
@@ -291,6 +295,8 @@ impl Tally {
             println!("  most rows of an image: {}", self.max_rows);
             println!("  greatest sum of windows: {}", self.max_windows);
         }
+        let pending = ["0:", "1 to 8:", "9 to 32:", "33 to 63:", "64:"];
+        print_counts("most pending operands", &pending, &self.pending);
         let owners = ["0:", "1:", "2:", "3 (both):", "above:"];
         print_counts("duties, by party", &owners, &self.owners);
         let windows = ["0:", "1 to 3:", "4 to 14:", "15:", "above:"];

@@ -1,17 +1,16 @@
 -- `reader::read_records` meets its contract. The loop's invariant: the stack has the codes of the operands that the records so far leave.
 use borrow.Author.Needs.{needs}
-use borrow.Author.Tests.{eq-eqb, ne-eqb, not-true, not-false}
-use Prim.Native.Nat.{_+_, _*_, _≤_, _-_}
+use borrow.Author.Tests.{ne-eqb, not-true, not-false}
+use Prim.Native.Nat.{_+_, _≤_, _-_}
 use native.Mathlib.Omega.{arith}
 use mathlib.Core.Bool.{true, false}
 use mathlib.Core.Path.{_≡_, sym, _∙_}
 use mathlib.Core.Logic.{⊎-elim}
 use lib.Dec.{eqb}
 use lib.ListN.{getD, set}
-use Rattle.reader.specs.Limits.{maxRecords, recordBytes}
 use Rattle.reader.specs.Table.{clause}
-use Rattle.reader.specs.Codes.{sortNumber, stepOf}
-use Rattle.reader.proofs.Stack.{StackAfter, after-none, read-refused, read-pushed, ended}
+use Rattle.reader.specs.Codes.{sortNumber}
+use Rattle.reader.proofs.Stack.{stepAt, StackAfter, few-pending, after-none, read-refused, read-pushed, ended}
 use Rattle.reader.proofs.read_records.Statement.{statement}
 use Rattle.reader.proofs.read_records.Tie as tie
 use Rattle.reader.proofs.read_records.Reads as reads
@@ -20,17 +19,16 @@ use Rattle.reader.proofs.peek.Reads as peek-reads
 use Rattle.reader.proofs.read_record.Reads as read-record-reads
 
 abbrev Inv-loop : tie.InvT-loop
-Inv-loop contract n stack₀ top₀ k₀ stack top k = StackAfter contract n stack top k
+Inv-loop contract n stack₀ pending₀ k₀ stack pending k = StackAfter contract n stack pending k
 
 abbrev μ-loop : tie.MeasureT-loop
-μ-loop contract n stack₀ top₀ k₀ stack top k = n - k
+μ-loop contract n stack₀ pending₀ k₀ stack pending k = n - k
 
 -- what the record does, by the codes of the stack
 step : (c : lts.After-read-record (peek-reads.Asked, peek-reads.Learnt, read-record-reads.Asked, read-record-reads.Learnt) reads.Pre reads.Post Inv-loop μ-loop)
     → let d = c .before .before .before .before .before .before in
     let v = d .loop in
-    stepOf (d .before .before .args .contract .now) (recordBytes * v .k) (getD (v .stack) (v .top + 1) 0) (getD (v .stack) (v .top) 0)
-    ≡ c .read-record .result
+    stepAt (d .before .before .args .contract .now) (v .stack) (v .pending) (v .k) ≡ c .read-record .result
 step c = rw (← c .before .before .before .peek .ensures, ← c .before .peek2 .ensures) (sym (c .read-record .ensures))
 
 -- where it completes a tree, the stack has it
@@ -38,9 +36,8 @@ pushed : (c : lts.After-known-told2 (peek-reads.Asked, peek-reads.Learnt, read-r
     → let d = c .before .before .before .before .before .before .before .before .before in
     let v = d .loop in
     let m = c .before .step2 .given .0 .0 in
-    (1 ≤ v .top + m)
-    × (v .top + m ≤ maxRecords)
-    × StackAfter (d .before .before .args .contract .now) (d .before .before .args .n) (set (v .stack) (v .top + m - 1) (c .before .step2 .given .0 .1 .0)) (v .top + m - 1) (v .k + 1)
+    (m ≤ v .pending)
+    × StackAfter (d .before .before .args .contract .now) (d .before .before .args .n) (set (v .stack) (v .pending - m) (c .before .step2 .given .0 .1 .0)) (v .pending - m + 1) (v .k + 1)
 pushed c =
     let r = c .before .before .before in
     let i = r .before .before .before .before .before in
@@ -55,22 +52,11 @@ mul-read-record c =
     let few = c .before .before .before .pre .few in
     search needs
 
-slice-aggregate-peek : tie.Need-slice-aggregate-peek Inv-loop μ-loop
-slice-aggregate-peek c = c .before .before .loop .inv .sized
-
-add-peek : tie.Need-add-peek Inv-loop μ-loop
-add-peek c =
-    let i = c .before .before .loop .inv .inside in
-    search needs
-
 peek-requires : tie.Need-peek-requires Inv-loop μ-loop
-peek-requires c κs = search needs
-
-slice-aggregate-peek-2 : tie.Need-slice-aggregate-peek-2 Inv-loop μ-loop
-slice-aggregate-peek-2 c = c .before .before .before .before .loop .inv .sized
+peek-requires c κs = few-pending (c .before .before .loop .inv)
 
 peek-requires-2 : tie.Need-peek-requires-2 Inv-loop μ-loop
-peek-requires-2 c κs = search needs
+peek-requires-2 c κs = few-pending (c .before .before .before .before .loop .inv)
 
 read-record-requires : tie.Need-read-record-requires Inv-loop μ-loop
 read-record-requires c κs =
@@ -91,26 +77,25 @@ returns c =
 enum-known-step-2 : tie.Need-enum-known-step-2 Inv-loop μ-loop
 enum-known-step-2 c = search needs
 
-cast-top : tie.Need-cast-top Inv-loop μ-loop
-cast-top c = search needs
+sub-pending : tie.Need-sub-pending Inv-loop μ-loop
+sub-pending c = pushed c .0
 
-add-top : tie.Need-add-top Inv-loop μ-loop
-add-top c =
-    let p = pushed c .1 in
-    search needs
-
-sub-top : tie.Need-sub-top Inv-loop μ-loop
-sub-top c = pushed c .0
+cast-stack : tie.Need-cast-stack Inv-loop μ-loop
+cast-stack c = search needs
 
 array-write-stack : tie.Need-array-write-stack Inv-loop μ-loop
 array-write-stack c =
-    let p = pushed c .0 in
-    let q = pushed c .1 in
+    let p = few-pending (pushed c .1) in
     omega arith
+
+add-pending : tie.Need-add-pending Inv-loop μ-loop
+add-pending c =
+    let p = few-pending (pushed c .1) in
+    search needs
 
 add-k : tie.Need-add-k Inv-loop μ-loop
 add-k c =
-    let w = pushed c .2 .within in
+    let w = pushed c .1 .within in
     search needs
 
 loop-less : tie.Need-loop-less Inv-loop μ-loop
@@ -119,37 +104,29 @@ loop-less c =
     omega arith
 
 loop-again : tie.Need-loop-again Inv-loop μ-loop
-loop-again c = pushed c .2
-
-sub-if1 : tie.Need-sub-if1 Inv-loop μ-loop
-sub-if1 c = search needs
+loop-again c = pushed c .1
 
 array-read-if2 : tie.Need-array-read-if2 Inv-loop μ-loop
-array-read-if2 c =
-    let e = c .if1 .left in
-    omega arith
+array-read-if2 c = search needs
 
 returns-2 : tie.Need-returns-2 Inv-loop μ-loop
 returns-2 c =
     let a = c .before in
     let v = a .before .loop in
-    let i = v .inv .inside in
     rw (ended (v .inv) (a .loop-test .left))
     (⊎-elim
-    (λ w. rw (ne-eqb (maxRecords - v .top) 1 (λ e. w .taken (omega arith))))
+    (λ w. rw (ne-eqb (v .pending) 1 (w .taken)))
     (λ w.
-    let e = w .0 .left in
-    let not-clause : eqb (getD (v .stack) (v .top) 0) (sortNumber clause) ≡ false = not-true _ (w .1 .taken) in
-    rw (eq-eqb (maxRecords - v .top) 1 (omega arith), not-clause))
+    let not-clause : eqb (getD (v .stack) 0 0) (sortNumber clause) ≡ false = not-true _ (w .1 .taken) in
+    rw (w .0 .left, not-clause))
     (c .if1 .came))
 
 returns-3 : tie.Need-returns-3 Inv-loop μ-loop
 returns-3 c =
     let a = c .before .before in
     let v = a .before .loop in
-    let e = c .before .if1 .left in
-    let is-clause : eqb (getD (v .stack) (v .top) 0) (sortNumber clause) ≡ true = not-false _ (c .if2 .left) in
-    rw (ended (v .inv) (a .loop-test .left), eq-eqb (maxRecords - v .top) 1 (omega arith), is-clause)
+    let is-clause : eqb (getD (v .stack) 0 0) (sortNumber clause) ≡ true = not-false _ (c .if2 .left) in
+    rw (ended (v .inv) (a .loop-test .left), c .before .if1 .left, is-clause)
 
 pub read-records-spec : {M : Type 1} → statement M
 read-records-spec =
@@ -159,23 +136,19 @@ read-records-spec =
     μ-loop
     loop-holds
     mul-read-record
-    slice-aggregate-peek
-    add-peek
     peek-requires
-    slice-aggregate-peek-2
     peek-requires-2
     read-record-requires
     enum-known-step
     returns
     enum-known-step-2
-    cast-top
-    add-top
-    sub-top
+    sub-pending
+    cast-stack
     array-write-stack
+    add-pending
     add-k
     loop-less
     loop-again
-    sub-if1
     array-read-if2
     returns-2
     returns-3)
