@@ -22,7 +22,7 @@ use Rattle.reader.specs.Reader.{Operand, refused, taken, next, readRecor
 use Rattle.reader.specs.Codes.{sortNumber, codeOf, codeAt, stepOf}
 use Rattle.reader.proofs.Codes.{Pushed, step-drop, step-refused, step-completed, end-test}
 
--- the code so deep below the top of the pending operands, 0 where there are no more
+-- the code of the pending operand so many places below the top, 0 where there is none
 abbrev pub codeBelow : (stack : List ℕ) (pending depth : ℕ) → ℕ
 codeBelow stack pending depth = cond (ltb depth pending) (getD stack (pending - 1 - depth) 0) 0
 
@@ -55,7 +55,7 @@ after-none l n h =
     }
 
 -- the codes with one in place of the m on top
-module _ (stack : List ℕ) (pending m c : ℕ) (few : m ≤ pending) (room : pending - m < length stack) where
+module _ (stack : List ℕ) (pending m c : ℕ) (enough : m ≤ pending) (room : pending - m < length stack) where
   abbrev replaced : ℕ → ℕ
   replaced i = codeBelow (set stack (pending - m) c) (pending - m + 1) i
 

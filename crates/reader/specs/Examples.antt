@@ -177,10 +177,11 @@ pub record ReaderVectors : Type 0 where
       ((anyBytes ∷ []) ∷ (dutyBytes ∷ dutyBytes ∷ []) ∷ (dutyBytes ∷ anyBytes ∷ []) ∷ (anyBytes ∷ dutyBytes ∷ [])
       ∷ (dutyBytes ∷ repeatBytes ∷ dutyBytes ∷ []) ∷ [])
       ≡ (6, 1) ∷ (6, 2) ∷ (6, 2) ∷ (6, 2) ∷ (6, 3) ∷ []
-  -- as many pending operands as there are records, 64 at most; 63 of which two are joined; 32 that are all joined, and joined once too often
+  -- ---- document 02, "A byte for pending operands": as many as there are records, 64 at most; 63 of which two are joined; 32 that are all joined,
+  -- and joined once too often
   pub most-pending :
       map found
-      (replicate 64 dutyBytes ∷ replicate 64 anyBytes ∷ (replicate 63 dutyBytes ++ replicate 1 (six 4 0 0))
+      (replicate 64 dutyBytes ∷ replicate 64 anyBytes ∷ (replicate 63 dutyBytes ++ (six 4 0 0 ∷ []))
       ∷ (replicate 32 dutyBytes ++ replicate 31 (six 4 0 0)) ∷ (replicate 32 dutyBytes ++ replicate 32 (six 4 0 0)) ∷ [])
       ≡ (6, 64) ∷ (6, 64) ∷ (6, 64) ∷ (0, 0) ∷ (5, 63) ∷ []
   -- ---- 7: "expression under when or until holds the empty list"

@@ -1,6 +1,6 @@
 // The reader, which takes the bytes of a contract or refuses them. Document 01, "Records" and "Replies that refuse"; of
 // windows document 02, "Duties with a deadline"; of a duty's owner document 02, "Duties that both parties own"; of the count of
-// operands document 02, "A byte for pending operands".
+// pending operands document 02, "A byte for pending operands".
 ghost use mathlib.Core.Path.{_≡_};
 ghost use mathlib.Core.Bool.{cond};
 ghost use mathlib.Core.List.{[]};
@@ -257,7 +257,7 @@ fn read_record(contract: &[u8], at: usize, below: u8, top: u8) -> Step
 
 // ---- the contract
 
-// The code so deep below the top of the pending operands, NONE where there are no more.
+// The code of the pending operand so many places below the top, NONE where there is none.
 fn peek(stack: &[u8; MAX_RECORDS], pending: u8, depth: usize) -> u8
     requires { ⌜ pending ≤ maxRecords ⌝ }
     ensures { λ r. ⌜ r ≡ cond (ltb depth pending) (getD (now (stack .entry)) (pending - 1 - depth) 0) 0 ⌝ }

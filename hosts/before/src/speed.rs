@@ -15,7 +15,7 @@ pub fn measure(plan: &Plan, sides: &Sides) {
         "The ratio is that of now to before. Each archive is linked four times, its code 16 bytes further\n\
          on each time, and the fastest place counts. Nanoseconds are those of a row visit in run and\n\
          decide, of a period in step, of a call in compile and in typing, which is a compile after each\n\
-         record. What the earlier archive refuses isn't timed, nor is a call that it lacks.\n",
+         record. What the earlier archive alone refuses isn't timed, nor is a call that it lacks.\n",
     );
     line(plan, ["call", "input", "before", "now", "ratio"]);
     let table = Table { plan, sides };
@@ -192,12 +192,12 @@ impl Table<'_> {
     /// A row of compile after each record, as an editor calls it while the contract is typed.
     fn typing(&self, contract: &Open) -> Option<Ratios> {
         let records = contract.records;
-        let typed: Vec<&[u8]> = (1..=records)
-            .map(|typed| &contract.bytes[..typed * Record::BYTES])
+        let prefixes: Vec<&[u8]> = (1..=records)
+            .map(|length| &contract.bytes[..length * Record::BYTES])
             .collect();
         let name = format!("{records} records, {}", contract.name);
         let rounds = self.plan.size(65_536 / (records * records), 1);
-        self.compiling("typing", &name, &typed, rounds)
+        self.compiling("typing", &name, &prefixes, rounds)
     }
 
     /// A row of compile over contracts one after the other, so many rounds of them; the last one is
@@ -214,10 +214,10 @@ impl Table<'_> {
                 archive.compile(contract, image, reply);
             }
         };
-        let mut end = (vec![0; LONGEST_IMAGE], vec![[0; 16]; contracts.len()]);
-        round(&Archive::of_hosts(), &mut end.0, &mut end.1);
-        let areas = RefCell::new(end.clone());
         let [before, hosts] = [self.sides.before.places[0], Archive::of_hosts()];
+        let mut end = (vec![0; LONGEST_IMAGE], vec![[0; 16]; contracts.len()]);
+        round(&hosts, &mut end.0, &mut end.1);
+        let areas = RefCell::new(end.clone());
         let whole = contracts.last().expect("there is a contract");
         assert!(compiles(&hosts, whole), "{name}: compile refuses");
         if !compiles(&before, whole) {
@@ -303,13 +303,29 @@ mod tests {
         for (archive, call) in spoiled::<OUTPUT>() {
             assert_eq!(is_timed(archive), call == "begin", "{call}");
         }
-        // Decide and a refused compile leave nothing but their reply.
+        // The replies of compile and decide are compared.
         for (archive, call) in spoiled::<REPLY>() {
             assert_eq!(
                 is_timed(archive),
                 !["compile", "decide"].contains(&call),
                 "{call}"
             );
+        }
+    }
+
+    #[test]
+    fn other_replies_are_not_timed_as_typing() {
+        for (archive, call) in spoiled::<REPLY>() {
+            let sides = sides(Archive::of_hosts(), archive);
+            let typing = || {
+                let plan = &Plan::new(true);
+                let table = Table {
+                    plan,
+                    sides: &sides,
+                };
+                table.typing(&contracts::duty_and_ban())
+            };
+            assert_eq!(catch_unwind(typing).is_ok(), call != "compile", "{call}");
         }
     }
 

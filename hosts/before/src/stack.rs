@@ -45,7 +45,7 @@ fn of_compile(archive: &Archive, contract: &[u8]) -> Option<usize> {
     painted::compile(archive, contract, &mut vec![0; LONGEST_IMAGE], 0)
 }
 
-/// The bytes of compile where all records are read and not one clause is left.
+/// The bytes of compile where it reads all records and then refuses them: 64 clauses are left.
 fn of_reading(archive: &Archive) -> Option<usize> {
     let duties = contracts::duty().repeat(64);
     let number = Fault::NotOneClause.number();

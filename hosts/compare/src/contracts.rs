@@ -2,7 +2,7 @@
 
 use crate::random::Random;
 use crate::traces::UPPER;
-use reference::contract::{kind_of, Kind, Parties, Sort, KINDS, MAX_RECORDS};
+use reference::contract::{kind_of, read, Kind, Parties, Sort, KINDS, MAX_RECORDS};
 use reference::records::CONTRACT_MARK;
 
 /// Bytes of a record.
@@ -370,19 +370,17 @@ fn some_kind(random: &mut Random, such: impl Fn(&Kind) -> bool) -> &'static Kind
     random.pick(&kinds)
 }
 
-/// The most operands that are pending at once while a contract is read: by the kinds of its records
-/// up to the first that is unknown or lacks operands. Of too many records none is read.
+/// The most operands that are pending at once while a contract is read, before the record at fault
+/// where there is one.
 pub fn most_pending(contract: &[u8]) -> usize {
+    let passed = match read(contract) {
+        Ok(_) => contract.len() / RECORD,
+        Err(refusal) => refusal.place as usize,
+    };
     let (mut pending, mut most) = (0, 0);
-    if contract.len() > MAX_RECORDS * RECORD {
-        return 0;
-    }
-    for record in contract.chunks_exact(RECORD) {
-        let operands = kind_of(record[2]).map(|kind| kind.operands.len());
-        let Some(operands) = operands.filter(|operands| *operands <= pending) else {
-            break;
-        };
-        pending = pending - operands + 1;
+    for record in contract.chunks_exact(RECORD).take(passed) {
+        let kind = kind_of(record[2]).expect("a record that passed");
+        pending = pending - kind.operands.len() + 1;
         most = most.max(pending);
     }
     most
@@ -442,11 +440,12 @@ pub fn names_upper(record: &[u8]) -> bool {
 
 /// A contract with one to three faults, which may turn out to be none.
 pub fn damaged(random: &mut Random) -> Vec<u8> {
-    let mut bytes = match random.below(7) {
+    let mut bytes = match random.below(8) {
         0 => return soup(random),
         1 => return with_empty_lists(random),
         2 => return many_pending(random),
         3 => with_empty_lists(random),
+        4 => many_pending(random),
         _ => good(random),
     };
     for _ in 0..random.between(1, 3) {
@@ -512,7 +511,7 @@ pub fn damage(random: &mut Random, bytes: &mut Vec<u8>) {
 #[cfg(test)]
 mod tests {
     use super::*;
-    use reference::contract::{read, sum_of_windows};
+    use reference::contract::sum_of_windows;
     use reference::{Clause, Owner};
     use std::collections::BTreeSet;
 
@@ -546,18 +545,25 @@ mod tests {
 
     #[test]
     fn pending_operands_are_counted() {
-        let contract = |kinds: &[u8]| -> Vec<u8> {
-            let record = |kind: &u8| [0x54, 0x43, *kind, 0, 0, 0];
-            kinds.iter().flat_map(record).collect()
+        let duty = [0x54, 0x43, 1, 1, 0, 0];
+        let record = |kind: u8| match kind {
+            1 => duty,
+            _ => [0x54, 0x43, kind, 0, 0, 0],
         };
-        let most = |kinds: &[u8]| most_pending(&contract(kinds));
+        let contract = |kinds: &[u8]| kinds.iter().copied().flat_map(record).collect();
+        let most = |kinds: &[u8]| -> usize {
+            let bytes: Vec<u8> = contract(kinds);
+            most_pending(&bytes)
+        };
         assert_eq!(most(&[]), 0);
         assert_eq!(most(&[7, 1]), 0, "a repeat without its operand");
         assert_eq!(most(&[1, 7, 7]), 1);
         assert_eq!(most(&[1, 1, 4, 1, 4]), 2);
         assert_eq!(most(&[1, 1, 1, 4, 4]), 3);
         assert_eq!(most(&[1, 1, 11, 1]), 2, "an unknown kind");
+        assert_eq!(most(&[1, 1, 23, 1]), 2, "a star over a clause");
         assert_eq!([most(&[1; 64]), most(&[1; 65])], [64, 0]);
+        assert_eq!(most_pending(&duty[..5]), 0, "a bad length");
     }
 
     #[test]
@@ -566,8 +572,8 @@ mod tests {
             .map(|seed| damaged(&mut Random::new(seed)))
             .collect();
         for pending in 1..=MAX_RECORDS {
-            let read_so = |contract: &&Vec<u8>| most_pending(contract) == pending;
-            assert!(contracts.iter().any(|c| read_so(&c)), "{pending}");
+            let has = |contract: &Vec<u8>| most_pending(contract) == pending;
+            assert!(contracts.iter().any(has), "{pending}");
         }
         // With 32 or fewer there can be one clause.
         let many = |taken| {
