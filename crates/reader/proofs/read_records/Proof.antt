@@ -10,7 +10,7 @@ use lib.Dec.{eqb}
 use lib.ListN.{getD, set}
 use Rattle.reader.specs.Table.{clause}
 use Rattle.reader.specs.Codes.{sortNumber}
-use Rattle.reader.proofs.Stack.{stepAt, StackAfter, few-pending, after-none, read-refused, read-pushed, ended}
+use Rattle.reader.proofs.Stack.{codeBelow, stepAt, StackAfter, few-pending, after-none, read-refused, read-pushed, ended}
 use Rattle.reader.proofs.read_records.Statement.{statement}
 use Rattle.reader.proofs.read_records.Tie as tie
 use Rattle.reader.proofs.read_records.Reads as reads
@@ -29,7 +29,11 @@ step : (c : lts.After-read-record (peek-reads.Asked, peek-reads.Learnt, read-rec
     → let d = c .before .before .before .before .before .before in
     let v = d .loop in
     stepAt (d .before .before .args .contract .now) (v .stack) (v .pending) (v .k) ≡ c .read-record .result
-step c = rw (← c .before .before .before .peek .ensures, ← c .before .peek2 .ensures) (sym (c .read-record .ensures))
+step c =
+    let v = c .before .before .before .before .before .before .loop in
+    let below : c .before .before .before .peek .result ≡ codeBelow (v .stack) (v .pending) 1 = c .before .before .before .peek .ensures in
+    let top : c .before .peek2 .result ≡ codeBelow (v .stack) (v .pending) 0 = c .before .peek2 .ensures in
+    rw (← below, ← top) (sym (c .read-record .ensures))
 
 -- where it completes a tree, the stack has it
 pushed : (c : lts.After-known-told2 (peek-reads.Asked, peek-reads.Learnt, read-record-reads.Asked, read-record-reads.Learnt) reads.Pre reads.Post Inv-loop μ-loop)
