@@ -7,8 +7,8 @@
 //! Where one of them reads no wide records, the cases have narrow ones instead, and actions up to 15:
 //! of what is left both mean the same. Case number i is that of the seed S + i, so
 //! `before --seed S --cases 1` repeats one case. The second form times both archives on the
-//! benchmark's inputs, whose records are narrow, but for those that the earlier one refuses; the
-//! third measures the stack that the calls use.
+//! benchmark's inputs, whose records are narrow, and on contracts as they are typed, but for those
+//! that the earlier one alone refuses; the third measures the stack that the calls use.
 
 #![deny(unsafe_code)]
 #![warn(clippy::undocumented_unsafe_blocks)]
