@@ -6,7 +6,7 @@ use Rattle.records.specs.Refusals.{firstFailing}
 use Rattle.periods.specs.Forms.{eitherMark}
 use Rattle.periods.specs.Periods.{bit, tries, succeeds, periodFrom}
 use Rattle.periods.specs.Traces.{wholePeriods, recordAt, firstRecords, periodAt, periodsOf, markedAt, marksTest, formOf, formTest, startTest, traceTest, periodTest}
-use Rattle.periods.specs.SameAttempts.{recordOf, recordsOf}
+use Rattle.periods.specs.Making.{recordOf, recordsOf}
 use Rattle.periods.specs.Examples.{PeriodVectors}
 
 pub period-vectors : PeriodVectors

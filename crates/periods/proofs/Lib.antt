@@ -4,5 +4,6 @@ pub mod Periods
 pub mod Recorded
 pub mod Traces
 pub mod First
+pub mod Making
 pub mod SameAttempts
 pub mod Examples

@@ -17,7 +17,7 @@ use Rattle.periods.specs.Forms.{eitherMark}
 use Rattle.periods.specs.Limits.{actions}
 use Rattle.periods.specs.Periods.{Party, party1, party2, Period, bit, tries, periodFrom}
 use Rattle.periods.specs.Traces.{periodAt, formOf, formTest, periodIn, periodTest}
-use Rattle.periods.specs.SameAttempts.{recordOf}
+use Rattle.periods.specs.Making.{recordOf}
 
 -- some record holds this period
 pub record Recorded (x : Period) : Type 0 where

@@ -11,7 +11,7 @@ use Rattle.periods.specs.Limits.{actions}
 use Rattle.periods.specs.Forms.{formMark, maskBytes, periodBytes, eitherMark}
 use Rattle.periods.specs.Periods.{party1, party2, partyNumber, partyOf, other, Period, tries, succeeds}
 use Rattle.periods.specs.Traces.{recordAt, firstRecords, marksTest, formOf, periodRecords, tracePeriods, formTest, startTest, traceTest, periodIn, periodTest}
-use Rattle.periods.specs.SameAttempts.{recordOf, recordsOf}
+use Rattle.periods.specs.Making.{recordOf, recordsOf}
 
 -- a narrow record, of masks below 256: "`54 50`, two bytes of party 1's attempts, two of party 2's"
 abbrev pub narrowRecord : (one two : ℕ) → List ℕ

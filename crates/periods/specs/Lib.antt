@@ -3,6 +3,7 @@ pub mod Limits
 pub mod Forms
 pub mod Periods
 pub mod Traces
+pub mod Making
 pub mod SameAttempts
 pub mod Computing
 pub mod Examples

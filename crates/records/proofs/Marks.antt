@@ -1,4 +1,4 @@
--- The marks of the records. Document 01, "Records" and "Image and row machine".
+-- The marks of the records. Document 01, "Records" and "Image and row machine"; document 02.
 use Prim.Native.Nat.{ℕ, suc, _+_, _≤_}
 use native.Mathlib.Nat.{add-zero}
 use native.Mathlib.Numerals.{add-one}
@@ -10,18 +10,19 @@ use lib.Dec.{eqb}
 use lib.ListN.{length, take, drop, getD}
 use lib.Seq.{drop-cons, getD-drop}
 use borrow.Author.Tests.{eqb-true}
-use Rattle.records.specs.Marks.{contractMark, narrowMark, wideMark, rowMark, endMark, marked}
+use Rattle.records.specs.Marks.{contractMark, narrowMark, wideMark, logMark, rowMark, endMark, marked}
 
 abbrev pub marks : List (List ℕ)
-marks = contractMark ∷ narrowMark ∷ wideMark ∷ rowMark ∷ endMark ∷ []
+marks = contractMark ∷ narrowMark ∷ wideMark ∷ logMark ∷ rowMark ∷ endMark ∷ []
 
 -- they are pairwise different: each matches itself and no other
 pub marks-differ : map (λ (m : List ℕ). map (marked m 0) marks) marks
-    ≡ (true ∷ false ∷ false ∷ false ∷ false ∷ [])
-    ∷ (false ∷ true ∷ false ∷ false ∷ false ∷ [])
-    ∷ (false ∷ false ∷ true ∷ false ∷ false ∷ [])
-    ∷ (false ∷ false ∷ false ∷ true ∷ false ∷ [])
-    ∷ (false ∷ false ∷ false ∷ false ∷ true ∷ [])
+    ≡ (true ∷ false ∷ false ∷ false ∷ false ∷ false ∷ [])
+    ∷ (false ∷ true ∷ false ∷ false ∷ false ∷ false ∷ [])
+    ∷ (false ∷ false ∷ true ∷ false ∷ false ∷ false ∷ [])
+    ∷ (false ∷ false ∷ false ∷ true ∷ false ∷ false ∷ [])
+    ∷ (false ∷ false ∷ false ∷ false ∷ true ∷ false ∷ [])
+    ∷ (false ∷ false ∷ false ∷ false ∷ false ∷ true ∷ [])
     ∷ []
 unfolding marked
 marks-differ = refl

@@ -7,7 +7,7 @@ use mathlib.Core.List.{List, [], _∷_, _++_, map}
 use Rattle.records.specs.declared.Test.{Test}
 use Rattle.records.specs.declared.Test.the-variants.{Passed, Refused}
 use Rattle.records.specs.declared.Fault.{Fault}
-use Rattle.records.specs.declared.Fault.the-variants.{BadLength, BadMark, UnknownKind, BadField, BadOperands, NotOneClause, EmptyList, ShortBuffer, BadImage, BadState, BadPeriod, FullCount, LongInput}
+use Rattle.records.specs.declared.Fault.the-variants.{BadLength, BadMark, UnknownKind, BadField, BadOperands, NotOneClause, EmptyList, ShortBuffer, BadImage, BadState, BadPeriod, FullCount, LongInput, BadLog, OutOfOrder, ShortTrace}
 use Rattle.records.specs.Refusals.{faultNumber, numberOf, require, firstOf, passed}
 use lib.Dec.{eqb, leb, ltb, lit<}
 use borrow.Author.Tests.{leb-true, ltb-true}
@@ -50,13 +50,14 @@ require-passed false f p e = absurd (refused-passed e)
 
 -- ---- the numbers of tests
 
--- document 01's table, in its order
+-- document 01's table, in its order, and what document 02 adds to it
 abbrev pub faults : List Fault
 faults =
     BadLength ∷ BadMark ∷ UnknownKind ∷ BadField ∷ BadOperands ∷ NotOneClause ∷ EmptyList
-    ∷ ShortBuffer ∷ BadImage ∷ BadState ∷ BadPeriod ∷ FullCount ∷ LongInput ∷ []
+    ∷ ShortBuffer ∷ BadImage ∷ BadState ∷ BadPeriod ∷ FullCount ∷ LongInput
+    ∷ BadLog ∷ OutOfOrder ∷ ShortTrace ∷ []
 
-pub fault-numbers : map faultNumber faults ≡ 1 ∷ 2 ∷ 3 ∷ 4 ∷ 5 ∷ 6 ∷ 7 ∷ 8 ∷ 9 ∷ 10 ∷ 11 ∷ 12 ∷ 13 ∷ []
+pub fault-numbers : map faultNumber faults ≡ 1 ∷ 2 ∷ 3 ∷ 4 ∷ 5 ∷ 6 ∷ 7 ∷ 8 ∷ 9 ∷ 10 ∷ 11 ∷ 12 ∷ 13 ∷ 14 ∷ 15 ∷ 16 ∷ []
 fault-numbers = refl
 
 -- a fault's number is 1 or above, and of one byte
@@ -74,6 +75,9 @@ numbered BadState = refl
 numbered BadPeriod = refl
 numbered FullCount = refl
 numbered LongInput = refl
+numbered BadLog = refl
+numbered OutOfOrder = refl
+numbered ShortTrace = refl
 
 pub fault-bounds : (f : Fault) → (1 ≤ faultNumber f) × (faultNumber f < 256)
 fault-bounds f =

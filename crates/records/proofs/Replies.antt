@@ -2,16 +2,18 @@
 use Prim.Native.Nat.{ℕ, _+_, _^_, _≤_, _<_}
 use native.Mathlib.Nat.{zero-add, add-assoc, mod-eq-of-lt}
 use native.Mathlib.Omega.{arith}
+use mathlib.Core.Bool.{Bool, true, false, cond}
 use mathlib.Core.Path.{_≡_, refl, _∙_}
 use mathlib.Core.List.{List, [], _∷_, _++_, append-assoc, append-nil}
 use lib.ListN.{length, drop, length-append}
 use lib.Seq.{sets}
 use borrow.Author.Tests.{lt-ltb, le-ltb}
+use lib.Dec.{ltb}
 use Rattle.records.specs.Fields.{bytes, field}
 use Rattle.records.specs.declared.Test.{Test}
 use Rattle.records.specs.declared.Test.the-variants.{Passed, Refused}
 use Rattle.records.specs.Refusals.{numberOf, placeOf}
-use Rattle.records.specs.Replies.{Field, four, eight, fieldsBytes, fieldsSize, Answer, alone, replyOf, replyBytes, headOf, zeroed, Gives, unwritten, written, answered, call}
+use Rattle.records.specs.Replies.{Field, four, eight, fieldsBytes, fieldsSize, Answer, alone, replyOf, replyBytes, headOf, zeroed, After, Gives, unwritten, written, answered, call}
 use Rattle.records.proofs.Fields.{length-bytes}
 use Rattle.records.proofs.Refusals.{number-small}
 use Rattle.records.proofs.Written.{sets-append, drop-after, field-in, field-spelled}
@@ -100,6 +102,16 @@ module _ {Buffers : Type 0} (t : Test) (a : Answer) (before later : Buffers) (ar
       of Passed = refl
       of (Refused f k) = refl
 
+  -- the buffers that it leaves are those before or those later, so what holds of both holds of them
+  pub call-buffers : (P : Buffers → Type 0) → P before → P later → P (call t a before later area .buffers)
+  unfolding call
+  call-buffers P b l = go (ltb (length area) (replyBytes a)) t
+    where
+      go : (short : Bool) (u : Test) → P (cond short (unwritten before area) (answered u a before later area) .buffers)
+      go true u = b
+      go false Passed = l
+      go false (Refused f k) = b
+
   -- the three ways out of a call
   pub gives-no-room : length area < replyBytes a → Gives (call t a before later area) 0 before area
   gives-no-room h = rw (call-no-room h) record { result-is = refl; buffers-are = refl; reply-is = refl }
@@ -111,3 +123,20 @@ module _ {Buffers : Type 0} (t : Test) (a : Answer) (before later : Buffers) (ar
   pub gives-passed : replyBytes a ≤ length area → t ≡ Passed → (l : Buffers) (r : List ℕ) → l ≡ later → r ≡ sets area 0 (replyOf Passed a)
       → Gives (call t a before later area) 1 l r
   gives-passed h e l r i j = rw (call-passed h e) record { result-is = refl; buffers-are = i; reply-is = j }
+
+-- result and reply don't go by the buffers
+pub call-apart : {Buffers : Type 0} (t : Test) (a : Answer) (before later other : Buffers) (area : List ℕ)
+    → (call t a before later area .result ≡ call t a before other area .result) × (call t a before later area .reply ≡ call t a before other area .reply)
+unfolding call
+call-apart {Buffers} t a before later other area = go (ltb (length area) (replyBytes a)) t
+  where
+    left : Bool → Test → After Buffers
+    left short u = cond short (unwritten before area) (answered u a before later area)
+
+    right : Bool → Test → After Buffers
+    right short u = cond short (unwritten before area) (answered u a before other area)
+
+    go : (short : Bool) (u : Test) → (left short u .result ≡ right short u .result) × (left short u .reply ≡ right short u .reply)
+    go true u = (refl, refl)
+    go false Passed = (refl, refl)
+    go false (Refused f k) = (refl, refl)

@@ -8,7 +8,7 @@ use Rattle.records.specs.declared.Fault.the-variants.{BadState}
 use Rattle.records.specs.declared.Test.{Test}
 use Rattle.records.specs.declared.Test.the-variants.{Passed, Refused}
 use Rattle.records.specs.Fields.{bytes, field}
-use Rattle.records.specs.Marks.{contractMark, narrowMark, wideMark, rowMark, endMark, marked}
+use Rattle.records.specs.Marks.{contractMark, narrowMark, wideMark, logMark, rowMark, endMark, marked}
 use Rattle.records.specs.Verdicts.{«open», met, broken, met-after, broken-after, since, verdictNumber, verdictName}
 use Rattle.records.specs.Refusals.{numberOf, placeOf}
 use Rattle.records.specs.Replies.{four, After, headOf, call}
@@ -36,8 +36,8 @@ callWith t n = call t (record { own = 7; others = four 0x0102 ∷ [] }) (1 ∷ [
 
 -- The faults' numbers are pinned by `fault-numbers` in proofs/Refusals.antt.
 pub record RecordVectors : Type 0 where
-  pub marks : contractMark ∷ narrowMark ∷ wideMark ∷ rowMark ∷ endMark ∷ []
-      ≡ (0x54 ∷ 0x43 ∷ []) ∷ (0x54 ∷ 0x50 ∷ []) ∷ (0x54 ∷ 0x51 ∷ []) ∷ (0x54 ∷ 0x52 ∷ []) ∷ (0x54 ∷ 0x45 ∷ []) ∷ []
+  pub marks : contractMark ∷ narrowMark ∷ wideMark ∷ logMark ∷ rowMark ∷ endMark ∷ []
+      ≡ (0x54 ∷ 0x43 ∷ []) ∷ (0x54 ∷ 0x50 ∷ []) ∷ (0x54 ∷ 0x51 ∷ []) ∷ (0x54 ∷ 0x4c ∷ []) ∷ (0x54 ∷ 0x52 ∷ []) ∷ (0x54 ∷ 0x45 ∷ []) ∷ []
   -- both bytes of a mark count, from byte `at` on
   pub mark-bytes :
       map (λ (l : List ℕ). marked l 1 (0x54 ∷ 0x52 ∷ []))

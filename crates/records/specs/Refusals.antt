@@ -1,9 +1,9 @@
 -- Refusals: the faults of document 01's table and their numbers, and what a call's tests find in their order.
--- Document 01, "Replies that refuse".
+-- Document 01, "Replies that refuse"; 14 to 16 are those of document 02, "Join the two parties' logs", "added like all later ones to document 01's table".
 use Prim.Native.Nat.{ℕ, zero, suc}
 use mathlib.Core.Bool.{Bool, true, false, cond}
 use Rattle.records.specs.declared.Fault.{Fault}
-use Rattle.records.specs.declared.Fault.the-variants.{BadLength, BadMark, UnknownKind, BadField, BadOperands, NotOneClause, EmptyList, ShortBuffer, BadImage, BadState, BadPeriod, FullCount, LongInput}
+use Rattle.records.specs.declared.Fault.the-variants.{BadLength, BadMark, UnknownKind, BadField, BadOperands, NotOneClause, EmptyList, ShortBuffer, BadImage, BadState, BadPeriod, FullCount, LongInput, BadLog, OutOfOrder, ShortTrace}
 use Rattle.records.specs.declared.Test.{Test}
 use Rattle.records.specs.declared.Test.the-variants.{Passed, Refused}
 
@@ -22,6 +22,9 @@ faultNumber BadState = 10
 faultNumber BadPeriod = 11
 faultNumber FullCount = 12
 faultNumber LongInput = 13
+faultNumber BadLog = 14
+faultNumber OutOfOrder = 15
+faultNumber ShortTrace = 16
 
 -- "An accepted call gives number 0 and place 0. A refusal gives its number and a place"
 abbrev pub numberOf : Test → ℕ

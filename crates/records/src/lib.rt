@@ -17,6 +17,8 @@ pub const NARROW_MARK: [u8; 2] = [0x54, 0x50];
 
 pub const WIDE_MARK: [u8; 2] = [0x54, 0x51];
 
+pub const LOG_MARK: [u8; 2] = [0x54, 0x4C];
+
 pub const ROW_MARK: [u8; 2] = [0x54, 0x52];
 
 pub const END_MARK: [u8; 2] = [0x54, 0x45];
@@ -102,7 +104,7 @@ pub fn put_mark(s: &mut [u8], at: usize, mark: [u8; 2])
 
 // ---- refusals
 
-// Document 01's table, in its order.
+// Document 01's table, in its order, and what document 02 adds to it.
 pub enum Fault {
     BadLength,
     BadMark,
@@ -117,6 +119,9 @@ pub enum Fault {
     BadPeriod,
     FullCount,
     LongInput,
+    BadLog,
+    OutOfOrder,
+    ShortTrace,
 }
 
 // What a call's tests find: all passed, or the first refusal, a fault at a place.
@@ -143,6 +148,9 @@ pub fn fault_number(f: Fault) -> u32
         Fault::BadPeriod => 11,
         Fault::FullCount => 12,
         Fault::LongInput => 13,
+        Fault::BadLog => 14,
+        Fault::OutOfOrder => 15,
+        Fault::ShortTrace => 16,
     }
 }
 

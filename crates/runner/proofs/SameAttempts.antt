@@ -4,15 +4,18 @@ use Prim.Native.Nat.{ℕ, _≤_}
 use native.Mathlib.Omega.{arith}
 use mathlib.Core.List.{List}
 use mathlib.Core.Path.{_≡_, sym, ap, _∙_}
+use lib.ListN.{length}
 use Rattle.records.specs.declared.Test.the-variants.{Passed}
 use Rattle.records.specs.Holding.{AllBytes}
 use Rattle.records.proofs.Refusals.{first-passed}
 use Rattle.records.proofs.Searches.{failing-same}
 use Rattle.periods.specs.declared.Form.the-variants.{Wide}
 use Rattle.periods.specs.Traces.{marksTest, formOf, periodRecords, tracePeriods, startTest, traceTest, periodIn, periodTest}
-use Rattle.periods.specs.SameAttempts.{recordOf, inWide, SameAttempts}
-use Rattle.periods.proofs.Traces.{marks-pass, trace-marks}
-use Rattle.periods.proofs.SameAttempts.{as-many, same-periods, wide-marked, in-wide, record-in-wide}
+use Rattle.periods.specs.Making.{recordOf}
+use Rattle.periods.specs.SameAttempts.{inWide, SameAttempts}
+use Rattle.periods.proofs.Traces.{length-periodsOf, marks-pass, trace-marks}
+use Rattle.periods.proofs.Making.{wide-marked}
+use Rattle.periods.proofs.SameAttempts.{as-many, same-periods, in-wide, record-in-wide}
 use Rattle.layout.specs.Images.{rowCount, imageOf}
 use Rattle.states.specs.States.{stateOf, freshBytes}
 use Rattle.machine.specs.Machine.{undecided, afterPeriods}
@@ -75,7 +78,10 @@ module _ (t u : List ℕ) (p : traceTest t ≡ Passed) (q : traceTest u ≡ Pass
 
 module _ (trace : List ℕ) (b : AllBytes trace) where
   wide-marks : (n : ℕ) → n ≤ periodRecords trace → marksTest (formOf (inWide trace)) (inWide trace) n ≡ Passed
-  wide-marks n h = marks-pass (formOf (inWide trace)) (inWide trace) n (λ i l. wide-marked trace b i (omega arith))
+  wide-marks n h =
+      let w = tracePeriods trace (periodRecords trace) in
+      let e : length w ≡ periodRecords trace = length-periodsOf (formOf trace) trace (periodRecords trace) in
+      marks-pass (formOf (inWide trace)) (inWide trace) n (λ i l. wide-marked w i (omega arith))
 
   pub wide-run : traceTest trace ≡ Passed → (image state reply : List ℕ) → run image state (inWide trace) reply ≡ run image state trace reply
   unfolding traceTest

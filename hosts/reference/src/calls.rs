@@ -1,4 +1,5 @@
-//! What begin, step, run and decide leave in the areas that they are lent.
+//! What begin, step, run and decide leave in the areas that they are lent; for join see
+//! [`crate::logs`].
 //!
 //! The result is 1, or 0 if the reply area "is too short for the reply": then "the call writes
 //! nothing anywhere". After a refusal "every lent buffer but the reply's area is unchanged".
@@ -9,7 +10,7 @@ use crate::records::{
 };
 use crate::state::{check_length, State};
 
-/// Bytes of the reply of compile and begin: number, a four-byte field, place.
+/// Bytes of the reply of compile, begin and join: number, a four-byte field, place.
 pub const SHORT_REPLY: usize = 16;
 /// Bytes of the reply of step and run: number, verdict, place, blame, decision period.
 pub const LONG_REPLY: usize = 24;
@@ -17,15 +18,16 @@ pub const LONG_REPLY: usize = 24;
 /// a four-byte zero.
 pub const DECIDE_REPLY: usize = 32;
 
-/// The reply of compile: number, rows, place. Begin's has a zero in place of the rows.
+/// The reply of compile: number, rows, place. In place of the rows begin's has a zero, and join's
+/// the trace's record count.
 pub fn short_reply(answer: Result<u32, Refusal>) -> [u8; SHORT_REPLY] {
-    let (number, rows, place) = match answer {
-        Ok(rows) => (0, rows, 0),
+    let (number, count, place) = match answer {
+        Ok(count) => (0, count, 0),
         Err(refusal) => (refusal.number, 0, refusal.place),
     };
     let mut reply = [0; SHORT_REPLY];
     reply[0..4].copy_from_slice(&number.to_le_bytes());
-    reply[4..8].copy_from_slice(&rows.to_le_bytes());
+    reply[4..8].copy_from_slice(&count.to_le_bytes());
     reply[8..16].copy_from_slice(&place.to_le_bytes());
     reply
 }

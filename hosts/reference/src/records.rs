@@ -9,6 +9,8 @@ pub const CONTRACT_MARK: [u8; 2] = [0x54, 0x43];
 pub const NARROW_MARK: [u8; 2] = [0x54, 0x50];
 /// The mark of a wide period record.
 pub const WIDE_MARK: [u8; 2] = [0x54, 0x51];
+/// The mark of a log record.
+pub const LOG_MARK: [u8; 2] = [0x54, 0x4c];
 /// The mark of a row.
 pub const ROW_MARK: [u8; 2] = [0x54, 0x52];
 /// The mark of an image's end record.

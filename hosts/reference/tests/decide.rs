@@ -58,11 +58,12 @@ fn marked(trace: &[u8], number: usize, mark: [u8; 2]) -> Vec<u8> {
 }
 
 /// Marks that no period record has: the other records' among them.
-const BAD_MARKS: [[u8; 2]; 7] = [
+const BAD_MARKS: [[u8; 2]; 8] = [
     [0x54, 0x4f],
     [0x55, 0x50],
     [0x50, 0x54],
     [0x54, 0x43],
+    [0x54, 0x4c],
     [0x54, 0x52],
     [0x54, 0x45],
     [0, 0],

@@ -5,6 +5,7 @@ mod common;
 use common::*;
 use reference::calls::{begin, run, step};
 use reference::contract::{compile, least_buffer, read};
+use reference::logs::join;
 use reference::{image, Refusal};
 
 fn refusal(number: u32, place: u64) -> Refusal {
@@ -400,4 +401,21 @@ fn steps_and_runs() {
     assert_eq!((state, verdict(&reply)), (other, (4, 2, 1)));
     run(&image, &mut other, &[], &mut reply);
     assert_eq!((state, verdict(&reply)), (other, (4, 2, 1)));
+}
+
+#[test]
+fn logs() {
+    let first = [0x54, 0x4c, 1, 0, 0, 0, 0, 0];
+    let twice = [first, first].concat();
+    let (mut trace, mut reply) = ([7; 9], [7; 16]);
+    for (log, number, place) in [
+        (&first[..7], 14, 0),
+        (&[0x54, 0x50, 1, 0, 0, 0, 0, 0], 14, 0),
+        (&[0x54, 0x4c, 0, 0, 0, 0, 0, 0], 14, 0),
+        (&twice, 15, 1),
+        (&first, 16, 0),
+    ] {
+        assert_eq!(join(log, &[], &mut trace, &mut reply), 1);
+        assert_eq!((answer(&reply), trace), ((number, place), [7; 9]));
+    }
 }
