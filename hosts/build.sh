@@ -4,7 +4,7 @@ set -euo pipefail
 cd "$(dirname "${BASH_SOURCE[0]}")/.."
 
 # The crates with calls.
-crates=(compiler runner)
+crates=(compiler runner joiner)
 
 rm -f target/libmonitor.a
 

@@ -6,6 +6,7 @@ cd "$(dirname "${BASH_SOURCE[0]}")/.."
 bash hosts/build.sh
 rt check watch
 runner=target/staticlib/librunner.a
+joiner=target/staticlib/libjoiner.a
 monitor=target/libmonitor.a
 watch=$PWD/target/bin/watch
 built=$PWD/target/hosts
@@ -32,8 +33,9 @@ try_host() {
     echo "ok $host"
 }
 
-# The runner stands without the compiler.
+# The runner stands without the compiler, and the joiner without both.
 try_host smoke "$runner"
+try_host join "$joiner"
 try_host samples "$monitor"
 try_host decide "$monitor"
 try_host forms "$monitor"

@@ -1,6 +1,7 @@
-/* Compile at its edges: refusals, buffers and reply areas; and the contract of "Watch" through all five calls. */
+/* Compile at its edges: refusals, buffers and reply areas; and the contract of "Watch" through all six calls. */
 /* Document 01, "Calls", "Replies that refuse" and "Watch"; document 02, "Duties with a deadline", "Duties that both parties */
-/* own", "Stop reading once it is decided" and "Thirty-two actions". What it prints is held to the file compile.expected. */
+/* own", "Stop reading once it is decided", "Thirty-two actions" and "Join the two parties' logs". */
+/* What it prints is held to the file compile.expected. */
 #include "testing.h"
 
 _Static_assert(MONITOR_BUFFER_BYTES(1, 0) == 776, "776 bytes take one record that is no deadline");
@@ -22,15 +23,18 @@ static const struct bytes shortest = BYTES(DEADLINE(1));
 static const struct bytes longest = BYTES(DEADLINE(MONITOR_MAX_WINDOW));
 static const struct bytes windows = BYTES(DEADLINE(3), DEADLINE(5), MONITOR_RECORD(MONITOR_KIND_BOTH, 0, 0), REPEAT);
 
-/* The contract and the trace of "Watch", the latter also in wide records. */
+/* The contract and the trace of "Watch", the latter also in wide records and as two logs, which have no record of a period */
+/* without attempts. */
 static const struct bytes watched =
     BYTES(DUTY, MONITOR_RECORD(MONITOR_KIND_DUTY, MONITOR_PARTY_1, 1), MONITOR_RECORD(MONITOR_KIND_REPAIR, 0, 0), REPEAT);
 static const struct bytes narrow_trace =
     BYTES(MONITOR_PERIOD(1, 1), MONITOR_PERIOD(0, 0), MONITOR_PERIOD(2, 0), MONITOR_PERIOD(1, 1));
 static const struct bytes wide_trace =
     BYTES(MONITOR_WIDE_PERIOD(1, 1), MONITOR_WIDE_PERIOD(0, 0), MONITOR_WIDE_PERIOD(2, 0), MONITOR_WIDE_PERIOD(1, 1));
+static const struct bytes first_log = BYTES(MONITOR_LOG_RECORD(1, 1), MONITOR_LOG_RECORD(3, 2), MONITOR_LOG_RECORD(4, 1));
+static const struct bytes second_log = BYTES(MONITOR_LOG_RECORD(1, 1), MONITOR_LOG_RECORD(4, 1));
 
-/* ---- the macros, and "Watch" by all five calls */
+/* ---- the macros, and "Watch" by all six calls */
 
 /* The macros' bytes, also where a mask has its highest bit. */
 static void records(void)
@@ -38,11 +42,14 @@ static void records(void)
     static const uint8_t made[] = {MONITOR_RECORD(MONITOR_KIND_STAR, MONITOR_PARTY_2, 31),
                                    MONITOR_RECORD(MONITOR_KIND_DUTY, MONITOR_PARTY_BOTH, 9),
                                    MONITOR_DEADLINE(MONITOR_PARTY_2, 14, 13), MONITOR_PERIOD(0x8001, 0x1234),
-                                   MONITOR_WIDE_PERIOD(0x80000001, 0x12345678), MONITOR_WIDE_PERIOD(~0, INT32_MIN)};
+                                   MONITOR_WIDE_PERIOD(0x80000001, 0x12345678), MONITOR_WIDE_PERIOD(~0, INT32_MIN),
+                                   MONITOR_LOG_RECORD(0x1234, 0x89abcdef), MONITOR_LOG_RECORD(65535, INT32_MIN)};
     static const uint8_t meant[] = {0x54, 0x43, 23, 2, 31, 0, 0x54, 0x43, 1, 3, 9, 0, 0x54, 0x43, 10, 2, 14, 13,
                                     0x54, 0x50, 0x01, 0x80, 0x34, 0x12,
                                     0x54, 0x51, 0x01, 0x00, 0x00, 0x80, 0x78, 0x56, 0x34, 0x12,
-                                    0x54, 0x51, 0xff, 0xff, 0xff, 0xff, 0x00, 0x00, 0x00, 0x80};
+                                    0x54, 0x51, 0xff, 0xff, 0xff, 0xff, 0x00, 0x00, 0x00, 0x80,
+                                    0x54, 0x4c, 0x34, 0x12, 0xef, 0xcd, 0xab, 0x89,
+                                    0x54, 0x4c, 0xff, 0xff, 0x00, 0x00, 0x00, 0x80};
 
     check("the macros' bytes", sizeof made == sizeof meant && memcmp(made, meant, sizeof meant) == 0);
 }
@@ -81,6 +88,23 @@ static void watch(struct bytes periods)
     put_decided(lend(DECIDE, sizeof(struct monitor_decide_reply)));
     printf("\n");
     check("the image is as compile left it", memcmp(image.all, compiled.all, sizeof image.all) == 0);
+}
+
+/* The trace that join makes of the logs, for the other calls. */
+static void watch_logs(void)
+{
+    static uint8_t joined[MONITOR_TRACE_BYTES(4)];
+
+    copy(&logs[0], first_log);
+    copy(&logs[1], second_log);
+    uint32_t result = join(sizeof joined, sizeof(struct monitor_join_reply));
+    struct monitor_join_reply r = join_reply();
+    printf("join:");
+    PUT(result, r.number, r.records, r.place);
+    printf("\n");
+    check("the trace is the one in wide records", holds(&trace, wide_trace));
+    memcpy(joined, start(&trace), sizeof joined);
+    watch((struct bytes){joined, sizeof joined});
 }
 
 /* ---- compile alone */
@@ -209,6 +233,7 @@ int main(void)
     records();
     watch(narrow_trace);
     watch(wide_trace);
+    watch_logs();
     refusals();
     buffers();
     areas("watch", watched);

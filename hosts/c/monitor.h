@@ -1,4 +1,5 @@
-/* The plugin contract monitor's calls. libmonitor.a has all of them, librunner.a begin, step, run and decide alone. */
+/* The plugin contract monitor's calls. libmonitor.a has all of them, librunner.a begin, step, run and decide alone, */
+/* libjoiner.a join alone. */
 /* docs/HOSTS.md is the page for a host's author; docs/FORMAT.md says what the bytes mean. */
 #ifndef MONITOR_H
 #define MONITOR_H
@@ -10,7 +11,8 @@
 extern "C" {
 #endif
 
-/* Sizes in bytes, the most records of a contract, the most rows of an image, the number of actions, and the longest window. */
+/* Sizes in bytes, the most records of a contract and of a log, the most rows of an image, the number of actions, and the */
+/* longest window. */
 enum {
     MONITOR_RECORD_BYTES = 6,       /* a contract record */
     MONITOR_MAX_RECORDS = 64,
@@ -20,6 +22,8 @@ enum {
     MONITOR_HEAD_BYTES = 10,        /* a state before its row values */
     MONITOR_PERIOD_BYTES = 6,       /* a narrow period record: mark 54 50, actions 0 to 15 */
     MONITOR_WIDE_PERIOD_BYTES = 10, /* a wide period record: mark 54 51, actions 0 to 31 */
+    MONITOR_LOG_RECORD_BYTES = 8,   /* a record of one party's log: mark 54 4C */
+    MONITOR_MAX_LOG_RECORDS = 65535,
     MONITOR_MAX_ROWS = 5952
 };
 
@@ -29,6 +33,10 @@ enum {
 #define MONITOR_BUFFER_BYTES(records, windows) (MONITOR_ROW_BYTES * (32 * (size_t)(records) + 65 + 4 * (size_t)(windows)))
 #define MONITOR_IMAGE_BYTES(rows) (MONITOR_ROW_BYTES * ((size_t)(rows) + 1))
 #define MONITOR_STATE_BYTES(rows) (MONITOR_HEAD_BYTES + (size_t)(rows))
+
+/* The bytes of a trace of so many periods in wide records, as join writes it. */
+/* A buffer of MONITOR_TRACE_BYTES(MONITOR_MAX_LOG_RECORDS) takes the trace of any two logs. */
+#define MONITOR_TRACE_BYTES(periods) (MONITOR_WIDE_PERIOD_BYTES * (size_t)(periods))
 
 /* Kinds of contract records. Operands stand before their operator. */
 enum monitor_kind {
@@ -73,6 +81,10 @@ enum monitor_party {
 #define MONITOR_PERIOD(one, two) 0x54, 0x50, MONITOR_TWO_BYTES(one), MONITOR_TWO_BYTES(two)
 #define MONITOR_WIDE_PERIOD(one, two) 0x54, 0x51, MONITOR_FOUR_BYTES(one), MONITOR_FOUR_BYTES(two)
 
+/* The bytes of a log record, for an initializer, from the period's number, 1 to 65,535, and the party's attempts in it, all 32 */
+/* bits. In a log each number is above the one before it. An argument is evaluated more than once. */
+#define MONITOR_LOG_RECORD(period, attempts) 0x54, 0x4c, MONITOR_TWO_BYTES(period), MONITOR_FOUR_BYTES(attempts)
+
 /* A number's bytes in a field of two and in one of four, low byte first. */
 #define MONITOR_TWO_BYTES(number) (uint8_t)((uint32_t)(number) & 0xff), (uint8_t)((uint32_t)(number) >> 8 & 0xff)
 #define MONITOR_FOUR_BYTES(number) MONITOR_TWO_BYTES(number), MONITOR_TWO_BYTES((uint32_t)(number) >> 16)
@@ -91,8 +103,15 @@ enum monitor_refusal {
     MONITOR_REFUSED_BAD_IMAGE = 9,      /* its length, a row or the end record */
     MONITOR_REFUSED_BAD_STATE = 10,     /* its length, or (step, run) not sound */
     MONITOR_REFUSED_BAD_PERIOD = 11,    /* a single byte; the first record's mark; the length for its form; a later mark */
-    MONITOR_REFUSED_FULL_COUNT = 12     /* periods taken would pass 4,294,967,295, or decide's trace has more records */
+    MONITOR_REFUSED_FULL_COUNT = 12,    /* periods taken would pass 4,294,967,295, or decide's trace has more records */
+    /* 13 is given by the program `watch` alone. */
+    MONITOR_REFUSED_BAD_LOG = 14,       /* its length; a record's mark, or its number 0 */
+    MONITOR_REFUSED_OUT_OF_ORDER = 15,  /* a log record's number isn't above the one before it */
+    MONITOR_REFUSED_SHORT_TRACE = 16    /* join's buffer for the trace */
 };
+
+/* What is added to the place of a record in log 2. A bad length has place 0 in either log. */
+enum { MONITOR_LOG_2_PLACE = 65536 };
 
 enum monitor_verdict {
     MONITOR_VERDICT_OPEN = 0,
@@ -155,6 +174,13 @@ struct monitor_decide_reply {
     uint32_t zero;
 };
 
+/* 16 bytes. */
+struct monitor_join_reply {
+    uint32_t number;
+    uint32_t records; /* of the trace */
+    uint64_t place;
+};
+
 /* Each call takes areas that don't overlap, as pointer (not NULL) and length in bytes. */
 /* The result is 1, or 0 where the reply area is too short: then nothing is written. */
 /* A refusal writes the reply alone. Calls keep nothing between them, so different states may be stepped in different threads. */
@@ -187,6 +213,14 @@ uint32_t monitor_run(const uint8_t *image, size_t image_length,
 uint32_t monitor_decide(const uint8_t *image, size_t image_length,
                         const uint8_t *trace, size_t trace_length,
                         uint8_t *reply, size_t reply_length);
+
+/* Joins two logs, log1 party 1's and log2 party 2's, on the period number: writes their trace into the first */
+/* MONITOR_TRACE_BYTES(records) bytes of the buffer, and no others. It is in wide records, from period 1 to the greater of the */
+/* two last numbers; in a period that its log lacks a party tries nothing. Two empty logs give an empty trace. */
+uint32_t monitor_join(const uint8_t *log1, size_t log1_length,
+                      const uint8_t *log2, size_t log2_length,
+                      uint8_t *trace, size_t trace_length,
+                      uint8_t *reply, size_t reply_length);
 
 #ifdef __cplusplus
 }

@@ -42,6 +42,11 @@ FIELD(monitor_decide_reply, records, 24, 4);
 FIELD(monitor_decide_reply, zero, 28, 4);
 SIZE(monitor_decide_reply, 32);
 
+FIELD(monitor_join_reply, number, 0, 4);
+FIELD(monitor_join_reply, records, 4, 4);
+FIELD(monitor_join_reply, place, 8, 8);
+SIZE(monitor_join_reply, 16);
+
 #define KIND(name, number) _Static_assert(MONITOR_KIND_##name == (number), #name)
 KIND(DUTY, 1);
 KIND(BAN, 2);
@@ -76,6 +81,10 @@ REFUSED(BAD_IMAGE, 9);
 REFUSED(BAD_STATE, 10);
 REFUSED(BAD_PERIOD, 11);
 REFUSED(FULL_COUNT, 12);
+REFUSED(BAD_LOG, 14);
+REFUSED(OUT_OF_ORDER, 15);
+REFUSED(SHORT_TRACE, 16);
+_Static_assert(MONITOR_LOG_2_PLACE == 65536, "what a place in log 2 has more");
 
 #define VERDICT(name, number) _Static_assert(MONITOR_VERDICT_##name == (number), #name)
 VERDICT(OPEN, 0);
@@ -99,6 +108,9 @@ _Static_assert(MONITOR_ACTIONS == 32, "the number of actions");
 _Static_assert(MONITOR_MAX_WINDOW == 15, "the longest window");
 _Static_assert(MONITOR_PERIOD_BYTES == 6, "a narrow period record");
 _Static_assert(MONITOR_WIDE_PERIOD_BYTES == 10, "a wide period record");
+_Static_assert(MONITOR_LOG_RECORD_BYTES == 8, "a log record");
+_Static_assert(MONITOR_MAX_LOG_RECORDS == 65535, "the most records of a log");
+_Static_assert(MONITOR_TRACE_BYTES(1) == 10 && MONITOR_TRACE_BYTES(65535) == 655350, "a trace of wide records");
 _Static_assert(MONITOR_MAX_ROWS == 5952, "the most rows");
 _Static_assert(MONITOR_IMAGE_BYTES(MONITOR_MAX_ROWS) == 47624, "the longest image");
 _Static_assert(MONITOR_STATE_BYTES(MONITOR_MAX_ROWS) == 5962, "its state");

@@ -89,8 +89,8 @@ struct bytes {
 #define BYTES(...) {(const uint8_t[]){__VA_ARGS__}, sizeof((const uint8_t[]){__VA_ARGS__})}
 #define NO_BYTES {(const uint8_t *)"", 0}
 
-/* Fields of two and of four bytes; a row, an end record, and a narrow and a wide period record with both parties' attempts. */
-/* The bytes of the header's macros are tested in compile.c. */
+/* Fields of two and of four bytes; a row, an end record, a narrow and a wide period record with both parties' attempts, and a */
+/* log record. The bytes of the header's macros are tested in compile.c. */
 #define TWO MONITOR_TWO_BYTES
 #define FOUR MONITOR_FOUR_BYTES
 #define ROW(kind, x, y) 'T', 'R', kind, 0, TWO(x), TWO(y)
@@ -99,6 +99,7 @@ struct bytes {
 #define NOBODY PERIOD(0, 0)
 #define WIDE_PERIOD MONITOR_WIDE_PERIOD
 #define WIDE_NOBODY WIDE_PERIOD(0, 0)
+#define LOG MONITOR_LOG_RECORD
 
 /* The forms of a period record, and how many bytes it has. */
 enum form { NARROW, WIDE };
@@ -128,11 +129,15 @@ static inline size_t put_period(uint8_t *to, enum form form, uint32_t first, uin
 
 /* ---- areas that are lent, each between guard bytes */
 
+/* The most bytes of an area: an image of one row too many. A test may name more before it includes this. */
+#ifndef MAX_BYTES
+#define MAX_BYTES (MONITOR_ROW_BYTES * (MONITOR_MAX_ROWS + 2))
+#endif
+
 enum {
     GUARD = 165,
     GUARD_BYTES = 16,
     UNWRITTEN = 238,                                          /* each byte of an area before a call writes it */
-    MAX_BYTES = MONITOR_ROW_BYTES * (MONITOR_MAX_ROWS + 2),   /* an image of one row too many */
     BUFFER_BYTES = MONITOR_ROW_BYTES * (MONITOR_MAX_ROWS + 1) /* an image buffer that takes every contract */
 };
 
@@ -141,7 +146,7 @@ struct area {
     size_t length;
 };
 
-static struct area contract, image, state, trace, reply;
+static struct area contract, image, state, logs[2], trace, reply;
 
 static inline uint8_t *start(struct area *a)
 {
@@ -188,9 +193,15 @@ static inline size_t changed(struct area *a, uint8_t before)
     return reach(start(a), a->length, before);
 }
 
+/* Whether one or more bytes all have the value. */
+static inline int all_have(const uint8_t *from, size_t length, uint8_t value)
+{
+    return from[0] == value && memcmp(from, from + 1, length - 1) == 0;
+}
+
 static inline void check_guards(struct area *a)
 {
-    if (reach(a->all, GUARD_BYTES, GUARD) != 0 || reach(start(a) + a->length, MAX_BYTES - a->length + GUARD_BYTES, GUARD) != 0)
+    if (!all_have(a->all, GUARD_BYTES, GUARD) || !all_have(start(a) + a->length, MAX_BYTES - a->length + GUARD_BYTES, GUARD))
         fault("guard bytes changed");
 }
 
@@ -244,6 +255,12 @@ static inline struct monitor_decide_reply decide_reply(void)
                                          four(r + 28)};
 }
 
+static inline struct monitor_join_reply join_reply(void)
+{
+    const uint8_t *r = start(&reply);
+    return (struct monitor_join_reply){four(r), four(r + 4), eight(r + 8)};
+}
+
 /* A decide's result and its reply's fields. */
 static inline void put_decided(uint32_t result)
 {
@@ -288,6 +305,33 @@ static inline uint32_t compile(size_t buffer_length, size_t reply_length)
     int written = result == 1 && compile_reply().number == MONITOR_ACCEPTED;
     if (changed(&image, UNWRITTEN) != (written ? MONITOR_IMAGE_BYTES(compile_reply().rows) : 0))
         fault("changed bytes are not the image's");
+    return result;
+}
+
+/* Join, also into a trace buffer that holds something. */
+static inline uint32_t join_over(size_t reply_length)
+{
+    static struct area before[COUNT(logs)];
+
+    memcpy(before, logs, sizeof before);
+    fill(&reply, UNWRITTEN, reply_length);
+    uint32_t result = monitor_join(start(&logs[0]), logs[0].length, start(&logs[1]), logs[1].length,
+                                   start(&trace), trace.length, start(&reply), reply.length);
+    for (size_t k = 0; k < COUNT(logs); k++)
+        check_kept(&logs[k], &before[k]);
+    check_guards(&trace);
+    check_guards(&reply);
+    return result;
+}
+
+/* Join into an unwritten buffer, of which just the trace may change; its last byte must not be the unwritten one. */
+static inline uint32_t join(size_t buffer_length, size_t reply_length)
+{
+    fill(&trace, UNWRITTEN, buffer_length);
+    uint32_t result = join_over(reply_length);
+    int written = result == 1 && join_reply().number == MONITOR_ACCEPTED;
+    if (changed(&trace, UNWRITTEN) != (written ? MONITOR_TRACE_BYTES(join_reply().records) : 0))
+        fault("changed bytes are not the trace's");
     return result;
 }
 

@@ -5,7 +5,7 @@ use Rattle.records.specs.Marks.{marked}
 use Rattle.records.specs.Refusals.{firstFailing}
 use Rattle.records.specs.Replies.{fieldsBytes, call}
 use Rattle.periods.specs.Making.{recordOf, recordsOf}
-use Rattle.joiner.specs.Logs.{logRecords, numberAt, attemptsAt, goodRecord, rises, recordWith, attemptsIn, lastNumber}
+use Rattle.joiner.specs.Logs.{logRecords, numberAt, attemptsAt, goodRecord, rises, recordWith, hasPeriod, attemptsIn, lastNumber}
 use Rattle.joiner.specs.Joined.{joinedTo, joinedCount}
 use Rattle.joiner.specs.Refusals.{lengthTest, recordsTest, logTest, orderTest, logsTest, joinTest}
 use Rattle.joiner.specs.Calls.{join}
@@ -13,7 +13,7 @@ use Rattle.joiner.specs.Examples.{JoinVectors}
 
 pub join-vectors : JoinVectors
 unfolding
-    bytes value field marked firstFailing fieldsBytes call recordOf recordsOf logRecords numberAt attemptsAt goodRecord rises recordWith attemptsIn lastNumber
+    bytes value field marked firstFailing fieldsBytes call recordOf recordsOf logRecords numberAt attemptsAt goodRecord rises recordWith hasPeriod attemptsIn lastNumber
     joinedTo joinedCount lengthTest recordsTest logTest orderTest logsTest joinTest join
 join-vectors =
     record {

@@ -6,7 +6,7 @@ use mathlib.Core.Bool.{Bool, true, false, cond}
 use mathlib.Core.List.{List, [], _∷_, _++_, append-assoc}
 use mathlib.Core.Logic.{⊎-elim}
 use mathlib.Core.Path.{_≡_, refl, sym, ap, _∙_}
-use lib.Dec.{ltb, lit<}
+use lib.Dec.{lit<}
 use lib.ListN.{length, drop}
 use lib.Seq.{sets}
 use Rattle.records.specs.Fields.{bytes}
@@ -24,7 +24,7 @@ use Rattle.periods.specs.Traces.{recordAt, firstRecords}
 use Rattle.periods.specs.Making.{recordOf}
 use Rattle.periods.proofs.Making.{Fits, AllFit, allFit-more, length-recordsOf, records-record, made-passes, made-in, wide-count, wide-passes, wide-periods}
 use Rattle.joiner.specs.Limits.{logRecordBytes}
-use Rattle.joiner.specs.Logs.{logRecords, attemptsAt, recordWith, attemptsIn}
+use Rattle.joiner.specs.Logs.{attemptsAt, recordWith, hasPeriod, attemptsIn}
 use Rattle.joiner.specs.Joined.{joinedPeriod, joinedTo, joinedCount, joined, joinedTrace}
 use Rattle.joiner.specs.Refusals.{logsTest, joinTest}
 use Rattle.joiner.specs.Calls.{join}
@@ -48,7 +48,7 @@ joined-around log1 log2 k (suc n) h =
 -- a log's attempts have four bytes
 attempts-small : (log : List ℕ) → AllBytes log → (p : ℕ) → attemptsIn log p < 256 ^ maskBytes Wide
 unfolding attemptsIn attemptsAt
-attempts-small log b p = go (ltb (recordWith log p) (logRecords log))
+attempts-small log b p = go (hasPeriod log p)
   where
     go : (t : Bool) → cond t (attemptsAt log (recordWith log p)) 0 < 256 ^ maskBytes Wide
     go true = field-lt log (logRecordBytes * recordWith log p + 4) 4 b

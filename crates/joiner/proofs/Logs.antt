@@ -10,7 +10,7 @@ use lib.Dec.{eqb, ltb}
 use lib.ListN.{length}
 use Rattle.records.proofs.Cases.{lt-or-le}
 use Rattle.records.proofs.Searches.{all-pass, failing-is}
-use Rattle.joiner.specs.Logs.{logRecords, numberAt, attemptsAt, rises, recordWith, attemptsIn}
+use Rattle.joiner.specs.Logs.{logRecords, numberAt, attemptsAt, rises, recordWith, hasPeriod, attemptsIn}
 
 -- no more records than bytes
 pub few-records : (log : List ℕ) → logRecords log ≤ length log
@@ -34,7 +34,7 @@ pub record GoodLog (log : List ℕ) : Type 0 where
 
 -- a period that the log lacks
 pub lacks : (log : List ℕ) (p : ℕ) → ((k : ℕ) → k < logRecords log → ¬ (numberAt log k ≡ p)) → attemptsIn log p ≡ 0
-unfolding attemptsIn recordWith
+unfolding attemptsIn hasPeriod recordWith
 lacks log p h =
     let n = logRecords log in
     rw (all-pass (λ (k : ℕ). not (eqb (numberAt log k) p)) n (λ i l. rw (ne-eqb (numberAt log i) p (h i l))), le-ltb n n (omega arith))
@@ -49,7 +49,7 @@ module _ (log : List ℕ) (g : GoodLog log) where
 
   -- a period that the log has: record k's number is no other's
   pub has : (k : ℕ) → k < logRecords log → attemptsIn log (numberAt log k) ≡ attemptsAt log k
-  unfolding attemptsIn recordWith
+  unfolding attemptsIn hasPeriod recordWith
   has k l =
       let n = logRecords log in
       let p = numberAt log k in

@@ -38,11 +38,12 @@ rises log (suc k) = ltb (numberAt log k) (numberAt log (suc k))
 unfoldable pub recordWith : List ℕ → (period : ℕ) → ℕ
 recordWith log p = firstFailing (λ (k : ℕ). not (eqb (numberAt log k) p)) 0 (logRecords log)
 
+unfoldable pub hasPeriod : List ℕ → (period : ℕ) → Bool
+hasPeriod log p = ltb (recordWith log p) (logRecords log)
+
 -- what its party tries: "a party tries nothing in a period that its log lacks"
 unfoldable pub attemptsIn : List ℕ → (period : ℕ) → ℕ
-attemptsIn log p =
-    let k = recordWith log p in
-    cond (ltb k (logRecords log)) (attemptsAt log k) 0
+attemptsIn log p = cond (hasPeriod log p) (attemptsAt log (recordWith log p)) 0
 
 -- its last number, 0 where it is empty
 unfoldable pub lastNumber : List ℕ → ℕ

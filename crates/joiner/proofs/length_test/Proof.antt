@@ -1,4 +1,6 @@
 -- `joiner::length_test` meets its contract: two comparisons.
+use Rattle.joiner.specs.Limits.{maxLogRecords}
+use Prim.Native.Nat.{_<_, _≤_}
 use borrow.Author.Needs.{needs}
 use borrow.Author.Tests.{eq-eqb, ne-eqb, le-leb, lt-leb}
 use Rattle.joiner.specs.Refusals.{lengthTest}
@@ -14,11 +16,17 @@ log-records-requires c κs = search needs
 
 returns-2 : tie.Need-returns-2
 unfolding lengthTest
-returns-2 c = rw (eq-eqb _ _ (c .before .before .if1 .left), ← c .before .log-records .ensures, lt-leb _ _ (c .if2 .taken))
+returns-2 c =
+    let n = c .before .log-records in
+    let many : maxLogRecords < n .result = c .if2 .taken in
+    rw (eq-eqb _ _ (c .before .before .if1 .left), ← n .ensures, lt-leb _ _ many)
 
 returns-3 : tie.Need-returns-3
 unfolding lengthTest
-returns-3 c = rw (eq-eqb _ _ (c .before .before .if1 .left), ← c .before .log-records .ensures, le-leb _ _ (c .if2 .left))
+returns-3 c =
+    let n = c .before .log-records in
+    let few : n .result ≤ maxLogRecords = c .if2 .left in
+    rw (eq-eqb _ _ (c .before .before .if1 .left), ← n .ensures, le-leb _ _ few)
 
 pub length-test-spec : {M : Type 1} → statement M
 length-test-spec = tie.close (tie.spec returns log-records-requires returns-2 returns-3)

@@ -1,9 +1,12 @@
 -- `joiner::put_trace` meets its contract: after p periods their records are written, and each log stands at its next record.
-use Prim.Native.Nat.{_-_, _*_, _^_, _≤_, _<_}
+use Rattle.joiner.specs.Merging.{attemptsNext}
+use Rattle.records.specs.Marks.{wideMark}
+use Rattle.records.specs.Fields.{bytes}
+use Prim.Native.Nat.{_+_, _-_, _*_, _^_, _≤_, _<_}
 use native.Mathlib.Omega.{arith}
 use mathlib.Core.Path.{_≡_}
 use lib.ListN.{length}
-use lib.Seq.{length-sets}
+use lib.Seq.{sets, length-sets}
 use Rattle.periods.specs.declared.Form.the-variants.{Wide}
 use Rattle.periods.specs.Forms.{periodBytes}
 use Rattle.joiner.specs.Joined.{joinedCount}
@@ -78,22 +81,27 @@ loop-less c = omega arith
 
 loop-again : tie.Need-loop-again Inv-loop μ-loop
 loop-again c =
-    let p = c .before .before .before .before .before .before .before .before .before .before .before .before .before .before in
+    let two = c .before .before in
+    let one = two .before .before .before .before in
+    let mark = one .before .before .before .before in
+    let size = mark .before .before in
+    let test = size .before in
+    let p = test .before in
     let a = p .before .before .before .before .before in
     let g = good-logs _ _ (logs-passed _ _ _ (a .pre)) in
-    let m = merged-next (a .args .log1 .now) (a .args .log2 .now) (a .args .trace .now) (g .0) (g .1) (p .loop .p) (p .loop .i) (p .loop .j) (p .loop .trace) (p .loop .inv .3) in (
+    let at = periodBytes Wide * p .loop .p in
+    let marks : mark .put-mark .last .0 ≡ sets (p .loop .trace) at wideMark = rw (size .period-bytes .ensures) at (mark .put-mark .ensures) in
+    let attempts1 : one .put-attempts .last .1 .1 .1 .0
+    ≡ sets (mark .put-mark .last .0) (at + 2) (bytes 4 (attemptsNext (a .args .log1 .now) (p .loop .i) (p .loop .p + 1))) =
+    rw (size .period-bytes .ensures) at (one .put-attempts .ensures .0) in
+    let attempts2 : two .put-attempts2 .last .1 .1 .1 .0
+    ≡ sets (one .put-attempts .last .1 .1 .1 .0) (at + 6) (bytes 4 (attemptsNext (a .args .log2 .now) (p .loop .j) (p .loop .p + 1))) =
+    rw (size .period-bytes .ensures) at (two .put-attempts2 .ensures .0) in (
       p .loop .inv .0,
       p .loop .inv .1,
-      omega arith,
-      rw (
-        c .before .before .put-attempts2 .ensures .0,
-        c .before .before .put-attempts2 .ensures .1,
-        c .before .before .before .before .before .before .put-attempts .ensures .0,
-        c .before .before .before .before .before .before .put-attempts .ensures .1,
-        c .before .before .before .before .before .before .before .before .before .before .put-mark .ensures,
-        c .before .before .before .before .before .before .before .before .before .before .before .before .period-bytes .ensures,
-      )
-          m,
+      omega (arith, test .loop-test .taken),
+      rw (attempts2, two .put-attempts2 .ensures .1, attempts1, one .put-attempts .ensures .1, marks)
+          (merged-next (a .args .log1 .now) (a .args .log2 .now) (a .args .trace .now) (g .0) (g .1) (p .loop .p) (p .loop .i) (p .loop .j) (p .loop .trace) (p .loop .inv .3)),
     )
 
 same-length : tie.Need-same-length Inv-loop μ-loop
