@@ -33,9 +33,12 @@ try_host() {
     echo "ok $host"
 }
 
-# The runner stands without the compiler, and the joiner without both.
+# The runner stands without the compiler, the joiner without both, and the two stand together.
 try_host smoke "$runner"
 try_host join "$joiner"
+cc -std=c11 -O2 -o "$built/both" hosts/c/smoke.c -Wl,--whole-archive "$runner" "$joiner" -Wl,--no-whole-archive
+diff -u hosts/c/smoke.expected <("$built/both")
+echo "ok the runner and the joiner in one host"
 try_host samples "$monitor"
 try_host decide "$monitor"
 try_host forms "$monitor"
@@ -61,6 +64,9 @@ echo "ok tests of the Rust wrapper, the reference, the comparisons and the bench
 cargo run --release --quiet -p monitor --example plugin >"$built/plugin.out"
 diff -u rust/examples/plugin.expected "$built/plugin.out"
 echo "ok plugin"
+cargo run --release --quiet -p monitor --example publisher >"$built/publisher.out"
+diff -u rust/examples/publisher.expected "$built/publisher.out"
+echo "ok publisher"
 cargo run --release --quiet -p compare -- --seed 1 --cases 200000 --watch "$watch" --watch-cases 2000 --small 6
 echo "ok comparison with the reference"
 

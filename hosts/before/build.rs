@@ -13,20 +13,24 @@ use std::fs;
 use std::path::{Path, PathBuf};
 use std::process::Command;
 
-const CALLS: [&str; 5] = ["compile", "begin", "step", "run", "decide"];
+const CALLS: [&str; 6] = ["compile", "begin", "step", "run", "decide", "join"];
+/// Those that an earlier archive may lack.
+const LATER_CALLS: [&str; 2] = ["decide", "join"];
 const PLACES: usize = 4;
 
 /// The earlier archive, or today's.
 struct Side {
     name: &'static str,
     archives: Vec<PathBuf>,
-    /// The calls that it has: an earlier one may lack decide.
+    /// The calls that it has: an earlier one may lack some.
     calls: Vec<&'static str>,
 }
 
 fn main() {
     println!("cargo:rustc-check-cfg=cfg(earlier)");
-    println!("cargo:rustc-check-cfg=cfg(earlier_decide)");
+    for call in LATER_CALLS {
+        println!("cargo:rustc-check-cfg=cfg(earlier_{call})");
+    }
     println!("cargo:rerun-if-env-changed=MONITOR_BEFORE");
     println!("cargo:rerun-if-env-changed=MONITOR_ARCHIVES");
     let Some(folder) = variable("MONITOR_BEFORE") else {
@@ -37,8 +41,10 @@ fn main() {
     let folder = variable("MONITOR_ARCHIVES").unwrap_or_else(|| "../../target".into());
     let now = side("now", "MONITOR_ARCHIVES", folder);
     println!("cargo:rustc-cfg=earlier");
-    if before.calls.contains(&"decide") {
-        println!("cargo:rustc-cfg=earlier_decide");
+    for call in LATER_CALLS {
+        if before.calls.contains(&call) {
+            println!("cargo:rustc-cfg=earlier_{call}");
+        }
     }
     println!("cargo:rustc-env=ARCHIVES_BEFORE={}", list(&before.archives));
     println!("cargo:rustc-env=ARCHIVES_NOW={}", list(&now.archives));

@@ -1,5 +1,5 @@
 /* An example host in C: compiles a contract between a plugin and its host, and steps it over four periods; then it decides */
-/* these periods as a stored trace. */
+/* these periods as a stored trace, and once more as the trace that it joins of the two parties' logs. */
 /* "C" in docs/HOSTS.md has the command that builds and runs it. */
 #include <stdio.h>
 #include <string.h>
@@ -35,6 +35,17 @@ enum { PERIODS = sizeof attempts / sizeof attempts[0] };
 /* Their period records, as the host stores them, in the wide form, which has all 32 actions. */
 static uint8_t trace[PERIODS * MONITOR_WIDE_PERIOD_BYTES];
 
+/* The same as the two parties log it, each its own attempts. A party tries nothing in a period that its log lacks. */
+static const uint8_t plugin_log[] = {
+    MONITOR_LOG_RECORD(1, 1u << VALUES),
+    MONITOR_LOG_RECORD(3, 1u << CORRECTION),
+    MONITOR_LOG_RECORD(4, 1u << VALUES),
+};
+static const uint8_t host_log[] = {
+    MONITOR_LOG_RECORD(1, 1u << VALUES),
+    MONITOR_LOG_RECORD(4, 1u << VALUES),
+};
+
 /* Compile wants a buffer of MONITOR_BUFFER_BYTES; the contract has no deadline, so there are no windows to add up. The image */
 /* is the beginning of the buffer, and how many rows it has follows from the contract, so the state has room for the most. */
 /* A host with many states takes MONITOR_STATE_BYTES(rows) for each. */
@@ -57,17 +68,30 @@ static int refused(const char *call, uint32_t number, uint64_t place)
 }
 
 /* A stored trace needs no state: decide reads it up to the period that decides. */
-static int decide_trace(size_t image_length)
+static int decide_trace(size_t image_length, size_t trace_length)
 {
     struct monitor_decide_reply decided;
 
-    monitor_decide(image, image_length, trace, sizeof trace, (uint8_t *)&decided, sizeof decided);
+    monitor_decide(image, image_length, trace, trace_length, (uint8_t *)&decided, sizeof decided);
     if (decided.number != MONITOR_ACCEPTED)
         return refused("decide", decided.number, decided.place);
     if (decided.outcome == MONITOR_OUTCOME_VIOLATED)
         printf("broken by %u in period %u, ", (unsigned)decided.blame, (unsigned)decided.decision);
-    printf("%u of %u records read\n", (unsigned)decided.records, (unsigned)PERIODS);
+    printf("%u of %u records read\n", (unsigned)decided.records, (unsigned)(trace_length / MONITOR_WIDE_PERIOD_BYTES));
     return 0;
+}
+
+/* Join makes the trace of the two logs. It has as many periods as the reply says; the buffer may be longer. */
+static int decide_logs(size_t image_length)
+{
+    struct monitor_join_reply joined;
+
+    memset(trace, 0, sizeof trace);
+    monitor_join(plugin_log, sizeof plugin_log, host_log, sizeof host_log, trace, sizeof trace,
+                 (uint8_t *)&joined, sizeof joined);
+    if (joined.number != MONITOR_ACCEPTED)
+        return refused("join", joined.number, joined.place);
+    return decide_trace(image_length, MONITOR_TRACE_BYTES(joined.records));
 }
 
 int main(void)
@@ -100,5 +124,7 @@ int main(void)
     }
 
     printf("decided %u\n", (unsigned)reply.decision);
-    return decide_trace(image_length);
+    if (decide_trace(image_length, sizeof trace) != 0)
+        return 1;
+    return decide_logs(image_length);
 }

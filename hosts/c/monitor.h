@@ -105,7 +105,7 @@ enum monitor_refusal {
     MONITOR_REFUSED_BAD_PERIOD = 11,    /* a single byte; the first record's mark; the length for its form; a later mark */
     MONITOR_REFUSED_FULL_COUNT = 12,    /* periods taken would pass 4,294,967,295, or decide's trace has more records */
     /* 13 is given by the program `watch` alone. */
-    MONITOR_REFUSED_BAD_LOG = 14,       /* its length; a record's mark, or its number 0 */
+    MONITOR_REFUSED_BAD_LOG = 14,       /* its length; a record's mark, or period 0 */
     MONITOR_REFUSED_OUT_OF_ORDER = 15,  /* a log record's number isn't above the one before it */
     MONITOR_REFUSED_SHORT_TRACE = 16    /* join's buffer for the trace */
 };

@@ -84,7 +84,7 @@ REFUSED(FULL_COUNT, 12);
 REFUSED(BAD_LOG, 14);
 REFUSED(OUT_OF_ORDER, 15);
 REFUSED(SHORT_TRACE, 16);
-_Static_assert(MONITOR_LOG_2_PLACE == 65536, "what a place in log 2 has more");
+_Static_assert(MONITOR_LOG_2_PLACE == 65536, "what is added to a place in log 2");
 
 #define VERDICT(name, number) _Static_assert(MONITOR_VERDICT_##name == (number), #name)
 VERDICT(OPEN, 0);

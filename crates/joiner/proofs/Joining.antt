@@ -1,22 +1,22 @@
 -- What holds of join's traces: they can be handed on, and exchanging the logs exchanges the parties. Document 02, "Join the two parties' logs".
-use Prim.Native.Nat.{ℕ, zero, suc, _+_, _*_, _^_, _<_, _≤_}
+use Prim.Native.Nat.{ℕ, zero, suc, _+_, _-_, _*_, _^_, _<_, _≤_}
 use native.Mathlib.Nat.{zero-add, max-comm}
 use native.Mathlib.Omega.{arith}
 use mathlib.Core.Bool.{Bool, true, false, cond}
 use mathlib.Core.List.{List, [], _∷_, _++_, append-assoc}
-use mathlib.Core.Logic.{⊎-elim}
+use mathlib.Core.Logic.{_⊎_, inl, inr, ⊎-elim}
 use mathlib.Core.Path.{_≡_, refl, sym, ap, _∙_}
-use lib.Dec.{lit<}
+use lib.Dec.{eqb, lit<}
 use lib.ListN.{length, drop}
 use lib.Seq.{sets}
 use Rattle.records.specs.Fields.{bytes}
 use Rattle.records.specs.Holding.{AllBytes}
 use Rattle.records.specs.declared.Test.the-variants.{Passed}
-use Rattle.records.specs.Replies.{alone, headSize, After, call}
+use Rattle.records.specs.Replies.{alone, headOf, headSize, After, call}
 use Rattle.records.proofs.Cases.{lt-or-le}
 use Rattle.records.proofs.Fields.{field-lt}
 use Rattle.records.proofs.Written.{take-through, drop-after, part-in}
-use Rattle.records.proofs.Replies.{call-passed, call-buffers, call-apart}
+use Rattle.records.proofs.Replies.{head-back, call-no-room, call-passed, call-refused, call-buffers, call-apart}
 use Rattle.periods.specs.declared.Form.the-variants.{Wide}
 use Rattle.periods.specs.Forms.{maskBytes, periodBytes}
 use Rattle.periods.specs.Periods.{Period}
@@ -24,7 +24,7 @@ use Rattle.periods.specs.Traces.{recordAt, firstRecords}
 use Rattle.periods.specs.Making.{recordOf}
 use Rattle.periods.proofs.Making.{Fits, AllFit, allFit-more, length-recordsOf, records-record, made-passes, made-in, wide-count, wide-passes, wide-periods}
 use Rattle.joiner.specs.Limits.{logRecordBytes}
-use Rattle.joiner.specs.Logs.{attemptsAt, recordWith, hasPeriod, attemptsIn}
+use Rattle.joiner.specs.Logs.{logRecords, numberAt, attemptsAt, recordWith, hasPeriod, attemptsIn, lastNumber}
 use Rattle.joiner.specs.Joined.{joinedPeriod, joinedTo, joinedCount, joined, joinedTrace}
 use Rattle.joiner.specs.Refusals.{logsTest, joinTest}
 use Rattle.joiner.specs.Calls.{join}
@@ -54,7 +54,20 @@ attempts-small log b p = go (hasPeriod log p)
     go true = field-lt log (logRecordBytes * recordWith log p + 4) 4 b
     go false = lit< tt
 
+-- a log's last number has two bytes
+last-small : (log : List ℕ) → AllBytes log → lastNumber log < 256 ^ 2
+unfolding lastNumber numberAt
+last-small log b = go (eqb (logRecords log) 0)
+  where
+    go : (t : Bool) → cond t 0 (numberAt log (logRecords log - 1)) < 256 ^ 2
+    go true = lit< tt
+    go false = field-lt log (logRecordBytes * (logRecords log - 1) + 2) 2 b
+
 module _ (log1 log2 : List ℕ) (b1 : AllBytes log1) (b2 : AllBytes log2) where
+  count-small : joinedCount log1 log2 < 256 ^ 2
+  unfolding joinedCount
+  count-small = let l = last-small log1 b1 in let m = last-small log2 b2 in omega arith
+
   joined-fits : (p : ℕ) → Fits Wide (joinedPeriod log1 log2 p)
   joined-fits p = record { fits1 = attempts-small log1 b1 p; fits2 = attempts-small log2 b2 p }
 
@@ -77,6 +90,17 @@ rest-kept log1 log2 trace reply =
     let e = length-trace log1 log2 in
     call-buffers (joinTest log1 log2 trace) (alone (joinedCount log1 log2)) trace (sets trace 0 (joinedTrace log1 log2)) reply
     (λ (l : List ℕ). drop m l ≡ drop m trace) refl (drop-after trace 0 (joinedTrace log1 log2) m (omega arith))
+
+-- where it isn't accepted, all of them do
+untouched : (log1 log2 trace reply : List ℕ) → (length reply < headSize) ⊎ ¬ (joinTest log1 log2 trace ≡ Passed) → join log1 log2 trace reply .buffers ≡ trace
+unfolding join
+untouched log1 log2 trace reply n =
+    let a = alone (joinedCount log1 log2) in
+    let l = sets trace 0 (joinedTrace log1 log2) in
+    ⊎-elim (λ (h : length reply < headSize). rw (call-no-room (joinTest log1 log2 trace) a trace l reply h))
+    (λ (r : ¬ (joinTest log1 log2 trace ≡ Passed)).
+    ⊎-elim (λ (h : length reply < headSize). rw (call-no-room (joinTest log1 log2 trace) a trace l reply h))
+    (λ (h : headSize ≤ length reply). rw (call-refused (joinTest log1 log2 trace) a trace l reply h r)) (lt-or-le (length reply) headSize)) n
 
 -- where it is accepted
 module _ (log1 log2 trace reply : List ℕ) (h : headSize ≤ length reply) (t : joinTest log1 log2 trace ≡ Passed) where
@@ -105,13 +129,22 @@ module _ (log1 log2 trace reply : List ℕ) (h : headSize ≤ length reply) (t :
         let e = length-trace log1 log2 in
         rw left (rw zero-add at (part-in trace 0 (joinedTrace log1 log2) (periodBytes Wide * k) (periodBytes Wide) fits (omega arith)) ∙ trace-record)
 
+  -- the count has two bytes, so it is read back
+  replied : AllBytes log1 → AllBytes log2 → headOf (join log1 log2 trace reply .reply) ≡ record { number = 0; own = joinedCount log1 log2; place = 0 }
+  unfolding join
+  replied b1 b2 =
+      let a = alone (joinedCount log1 log2) in
+      rw (call-passed (joinTest log1 log2 trace) a trace (sets trace 0 (joinedTrace log1 log2)) reply h t)
+      (head-back reply Passed a h (omega (arith, count-small log1 log2 b1 b2)) (lit< tt))
+
   pub handed : AllBytes log1 → AllBytes log2 → Handed log1 log2 trace reply
   handed b1 b2 =
       let w = joined log1 log2 in
       let n = length-joinedTo log1 log2 (joinedCount log1 log2) in
       record {
-        passes = rw first-bytes (wide-passes w);
+        replies = replied b1 b2;
         as-many = rw first-bytes (wide-count w ∙ n);
+        passes = rw first-bytes (wide-passes w);
         periods = rw first-bytes (rw n at (wide-periods w (all-fit log1 log2 b1 b2 (joinedCount log1 log2))));
         record-passes = λ k l. rw (first-bytes, trace-record k l) (made-passes Wide (joinedPeriod log1 log2 (suc k)));
         record-period = λ k l. rw (first-bytes, trace-record k l) (made-in Wide (joinedPeriod log1 log2 (suc k)) (joined-fits log1 log2 b1 b2 (suc k)));
@@ -153,4 +186,5 @@ exchanges log1 log2 trace reply e =
           buffer-record log2 log1 trace reply h (exchanged-test log1 log2 trace e ∙ p) k (rw c l)
           ∙ exchanged-record (attemptsIn log1 (suc k)) (attemptsIn log2 (suc k))
           ∙ ap exchanged (sym (buffer-record log1 log2 trace reply h p k l));
+      not-accepted = λ n. untouched log2 log1 trace reply (⊎-elim inl (λ r. inr (λ p. r (sym (exchanged-test log1 log2 trace e) ∙ p))) n) ∙ sym (untouched log1 log2 trace reply n);
     }

@@ -1,4 +1,4 @@
--- Where the merge stands in a good log, period by period.
+-- Where the merge stands in a log whose numbers rise, period by period.
 use Prim.Native.Nat.{ℕ, suc, _+_, _<_, _≤_}
 use native.Mathlib.Omega.{arith}
 use mathlib.Core.Bool.{Bool, true, false, and-eq-true-iff}
@@ -9,8 +9,14 @@ use borrow.Author.Tests.{lt-ltb, eqb-true, eqb-false, ltb-true}
 use lib.Dec.{ltb}
 use Rattle.records.proofs.Cases.{lt-or-le}
 use Rattle.joiner.specs.Logs.{logRecords, numberAt, attemptsIn}
-use Rattle.joiner.specs.Merging.{isOf, attemptsNext, recordNext, StandsAt}
-use Rattle.joiner.proofs.Logs.{GoodLog, lacks, above, has}
+use Rattle.joiner.specs.Merging.{isOf, attemptsNext, recordNext}
+use Rattle.joiner.proofs.Logs.{RisingLog, lacks, above, has}
+
+-- after period p a log stands at record k: the records before it are of periods up to p, and it is of a later one
+pub record StandsAt (log : List ℕ) (p k : ℕ) : Type 0 where
+  pub within : k ≤ logRecords log
+  pub before : (i : ℕ) → i < k → numberAt log i ≤ p
+  pub ahead : k < logRecords log → p < numberAt log k
 
 -- a record of a period is there
 pub is-of-inside : (log : List ℕ) (k p : ℕ) → isOf log k p ≡ true → (k < logRecords log) × (numberAt log k ≡ p)
@@ -23,7 +29,7 @@ is-not-of : (log : List ℕ) (k p : ℕ) → isOf log k p ≡ false → k < logR
 unfolding isOf
 is-not-of log k p e l = eqb-false (numberAt log k) p (rw (lt-ltb k (logRecords log) l) at e)
 
-module _ (log : List ℕ) (g : GoodLog log) where
+module _ (log : List ℕ) (g : RisingLog log) where
   -- before period 1 it stands at record 0
   pub stands-first : StandsAt log 0 0
   stands-first = record { within = omega arith; before = λ i h. absurd (omega arith); ahead = λ h. g .from-1 0 h }

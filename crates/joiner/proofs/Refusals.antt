@@ -20,7 +20,7 @@ use Rattle.joiner.specs.Limits.{logRecordBytes, maxLogRecords, log1Place
 use Rattle.joiner.specs.Logs.{logRecords, numberAt, goodRecord, rises}
 use Rattle.joiner.specs.Joined.{joinedCount}
 use Rattle.joiner.specs.Refusals.{lengthTest, recordsTest, logTest, orderTest, logsTest, joinTest}
-use Rattle.joiner.proofs.Logs.{GoodLog}
+use Rattle.joiner.proofs.Logs.{RisingLog}
 
 -- ---- what they show
 
@@ -40,17 +40,17 @@ module _ (log : List ℕ) (first : ℕ) where
   unfolding orderTest rises
   ordered e k h = ltb-true (numberAt log k) (numberAt log (suc k)) (none-found (rises log) (logRecords log) OutOfOrder _ e (suc k) h)
 
-  pub good-log : logTest log first ≡ Passed → orderTest log first ≡ Passed → GoodLog log
-  good-log e o = record { from-1 = numbered e; rising = ordered o }
+  pub rising-log : logTest log first ≡ Passed → orderTest log first ≡ Passed → RisingLog log
+  rising-log e o = record { from-1 = numbered e; rising = ordered o }
 
 -- two logs that pass are good
-pub good-logs : (log1 log2 : List ℕ) → logsTest log1 log2 ≡ Passed → GoodLog log1 × GoodLog log2
+pub rising-logs : (log1 log2 : List ℕ) → logsTest log1 log2 ≡ Passed → RisingLog log1 × RisingLog log2
 unfolding logsTest
-good-logs log1 log2 e =
+rising-logs log1 log2 e =
     let a = first-passed (logTest log1 log1Place) _ e in
     let b = first-passed (logTest log2 log2Place) _ (a .1) in
     let c = first-passed (orderTest log1 log1Place) (orderTest log2 log2Place) (b .1) in
-    (good-log log1 log1Place (a .0) (c .0), good-log log2 log2Place (b .0) (c .1))
+    (rising-log log1 log1Place (a .0) (c .0), rising-log log2 log2Place (b .0) (c .1))
 
 -- good logs pass at other places too, so they may be exchanged
 passes-anywhere : (ok : Bool) (f : Fault) (p q : ℕ) → require ok f p ≡ Passed → require ok f q ≡ Passed

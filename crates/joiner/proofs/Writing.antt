@@ -16,9 +16,9 @@ use Rattle.periods.specs.Periods.{Period}
 use Rattle.periods.specs.Making.{recordOf, recordsOf}
 use Rattle.periods.proofs.Making.{length-recordsOf, recordsOf-append}
 use Rattle.joiner.specs.Joined.{joinedPeriod, joinedTo}
-use Rattle.joiner.specs.Merging.{attemptsNext, recordNext, StandsAt}
-use Rattle.joiner.proofs.Logs.{GoodLog}
-use Rattle.joiner.proofs.Merging.{stands-first, tries-next, stands-next}
+use Rattle.joiner.specs.Merging.{attemptsNext, recordNext}
+use Rattle.joiner.proofs.Logs.{RisingLog}
+use Rattle.joiner.proofs.Merging.{StandsAt, stands-first, tries-next, stands-next}
 
 -- a wide record is its mark and then both parties' attempts
 record-written : (l : List ℕ) (i : ℕ) (x : Period)
@@ -38,10 +38,10 @@ pub record Merged (log1 log2 trace : List ℕ) (p i j : ℕ) (l : List ℕ) : Ty
   pub stands2 : StandsAt log2 p j
   pub written : l ≡ sets trace 0 (recordsOf Wide (joinedTo log1 log2 p))
 
-module _ (log1 log2 trace : List ℕ) (good1 : GoodLog log1) (good2 : GoodLog log2) where
+module _ (log1 log2 trace : List ℕ) (rises1 : RisingLog log1) (rises2 : RisingLog log2) where
   pub merged-first : Merged log1 log2 trace 0 0 0 trace
   unfolding joinedTo recordsOf
-  merged-first = record { stands1 = stands-first log1 good1; stands2 = stands-first log2 good2; written = refl }
+  merged-first = record { stands1 = stands-first log1 rises1; stands2 = stands-first log2 rises2; written = refl }
 
   module _ (p i j : ℕ) (l : List ℕ) (m : Merged log1 log2 trace p i j l) where
     -- the next period, as the merge finds it
@@ -49,7 +49,7 @@ module _ (log1 log2 trace : List ℕ) (good1 : GoodLog log1) (good2 : GoodLog lo
     next = record { attempts1 = attemptsNext log1 i (p + 1); attempts2 = attemptsNext log2 j (p + 1) }
 
     next-is : next ≡ joinedPeriod log1 log2 (suc p)
-    next-is = rw (tries-next log1 good1 p i (m .stands1), tries-next log2 good2 p j (m .stands2))
+    next-is = rw (tries-next log1 rises1 p i (m .stands1), tries-next log2 rises2 p j (m .stands2))
 
     more : sets (sets trace 0 (recordsOf Wide (joinedTo log1 log2 p))) (periodBytes Wide * p) (recordOf Wide (joinedPeriod log1 log2 (suc p)))
         ≡ sets trace 0 (recordsOf Wide (joinedTo log1 log2 (p + 1)))
@@ -64,8 +64,8 @@ module _ (log1 log2 trace : List ℕ) (good1 : GoodLog log1) (good2 : GoodLog lo
         (sets (sets (sets l (periodBytes Wide * p) wideMark) (periodBytes Wide * p + 2) (bytes 4 (next .attempts1))) (periodBytes Wide * p + 6) (bytes 4 (next .attempts2)))
     merged-next =
         record {
-          stands1 = stands-next log1 good1 p i (m .stands1);
-          stands2 = stands-next log2 good2 p j (m .stands2);
+          stands1 = stands-next log1 rises1 p i (m .stands1);
+          stands2 = stands-next log2 rises2 p j (m .stands2);
           written = rw (← record-written l (periodBytes Wide * p) next, m .written, next-is) more;
         }
 

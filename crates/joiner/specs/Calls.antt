@@ -1,5 +1,5 @@
--- What join leaves in the bytes that it was lent. Document 02, "Join the two parties' logs"; document 01, "Replies that refuse". The logs are lent to be read
--- only, so they are afterwards as they were; the trace is the one buffer beside the reply area.
+-- What join leaves in the bytes that it was lent. Document 02, "Join the two parties' logs"; document 01, "Replies that refuse". The logs are lent
+-- to be read only, so they are afterwards as they were; the trace is the one buffer beside the reply area.
 use Prim.Native.Nat.{ℕ}
 use mathlib.Core.List.{List}
 use lib.Seq.{sets}

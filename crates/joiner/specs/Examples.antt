@@ -1,5 +1,5 @@
 -- Vectors of join. What is expected stands in numbers and bytes, from document 02's text, "Join the two parties' logs".
-use Prim.Native.Nat.{ℕ, _*_}
+use Prim.Native.Nat.{ℕ, _*_, _<_}
 use mathlib.Core.List.{List, [], _∷_, _++_, map}
 use mathlib.Core.Path.{_≡_}
 use lib.ListN.{length, replicate, take}
@@ -9,6 +9,7 @@ use Rattle.records.specs.Replies.{After}
 use Rattle.records.specs.Examples.{numberAndPlace, area, head, leaves}
 use Rattle.periods.specs.Examples.{wideRecord}
 use Rattle.joiner.specs.Logs.{logRecords, numberAt, attemptsAt, attemptsIn, lastNumber}
+use Rattle.joiner.specs.Joined.{joined}
 use Rattle.joiner.specs.Refusals.{lengthTest, logTest, orderTest, joinTest}
 use Rattle.joiner.specs.Calls.{join}
 
@@ -16,7 +17,7 @@ use Rattle.joiner.specs.Calls.{join}
 abbrev pub logRecord : (number attempts : ℕ) → List ℕ
 logRecord number attempts = 0x54 ∷ 0x4c ∷ number ∷ 0 ∷ attempts ∷ 0 ∷ 0 ∷ 0 ∷ []
 
--- two records whose bytes all differ, of periods 0x0102 and 0x090a
+-- two records whose fields' bytes all differ, of periods 0x0102 and 0x090a
 abbrev pub twoRecords : List ℕ
 twoRecords = 0x54 ∷ 0x4c ∷ 2 ∷ 1 ∷ 8 ∷ 7 ∷ 6 ∷ 0x85 ∷ 0x54 ∷ 0x4c ∷ 10 ∷ 9 ∷ 16 ∷ 15 ∷ 14 ∷ 13 ∷ []
 
@@ -30,7 +31,7 @@ twoAndThree = logRecord 2 4 ++ logRecord 3 8
 abbrev pub four : List ℕ
 four = logRecord 4 16
 
--- bad records: a period record's mark in either byte, and period 0
+-- bad records: a wrong second byte of the mark, a wrong first one, and period 0
 abbrev pub otherLog : List ℕ
 otherLog = 0x54 ∷ 0x50 ∷ 1 ∷ 0 ∷ 1 ∷ 0 ∷ 0 ∷ 0 ∷ []
 
@@ -43,6 +44,10 @@ periodZero = logRecord 0 1
 -- out of order in record 1
 abbrev pub falling : List ℕ
 falling = logRecord 3 1 ++ logRecord 2 1
+
+-- period 0x0101 alone
+abbrev pub longLog : List ℕ
+longLog = 0x54 ∷ 0x4c ∷ 1 ∷ 1 ∷ 1 ∷ 0 ∷ 0 ∷ 0 ∷ []
 
 -- the lengths 0 to 17
 abbrev pub lengths : List ℕ
@@ -66,6 +71,9 @@ pub record JoinVectors : Type 0 where
   pub attempts-in : map (attemptsIn oneAndThree) (0 ∷ 1 ∷ 2 ∷ 3 ∷ 4 ∷ []) ++ map (attemptsIn []) (0 ∷ 1 ∷ []) ≡ 0 ∷ 1 ∷ 0 ∷ 2 ∷ 0 ∷ 0 ∷ 0 ∷ []
   pub last-numbers : map lastNumber ([] ∷ four ∷ oneAndThree ∷ twoRecords ∷ []) ≡ 0 ∷ 4 ∷ 3 ∷ 0x090a ∷ []
   -- ---- the trace
+  -- a period that both logs have, once
+  pub periods-of-both : joined twoAndThree twoAndThree
+      ≡ record { attempts1 = 0; attempts2 = 0 } ∷ record { attempts1 = 4; attempts2 = 4 } ∷ record { attempts1 = 8; attempts2 = 8 } ∷ []
   -- "log 1 being party 1's"; a period that both logs have, one that either alone has
   pub overlapping : joinedIn 31 oneAndThree twoAndThree ≡ leaves (wideRecord 1 0 ++ wideRecord 0 4 ++ wideRecord 2 8 ++ area 1) (head 0 3 0)
   -- exchanged
@@ -89,7 +97,7 @@ pub record JoinVectors : Type 0 where
       ≡ ((0, 0) ∷ replicate 7 (14, 0)) ++ ((0, 0) ∷ replicate 7 (14, 0)) ++ ((0, 0) ∷ (14, 0) ∷ [])
   -- "over 65,535 records too"
   pub most-records : (log : List ℕ) → length log ≡ 8 * 65535 → lengthTest log ≡ Passed
-  pub too-many-records : (log : List ℕ) → length log ≡ 8 * 65536 → lengthTest log ≡ Refused BadLog 0
+  pub too-many-records : (log : List ℕ) → 8 * 65535 < length log → lengthTest log ≡ Refused BadLog 0
   -- 14: "a wrong mark or period 0", the first record that has either; period 0x0100 is none
   pub bad-records :
       map (λ (l : List ℕ). numberAndPlace (logTest l 0))
@@ -108,12 +116,16 @@ pub record JoinVectors : Type 0 where
   pub log-1-first : tested (four ++ otherLog) otherLog ∷ tested (four ++ otherLog) (0 ∷ []) ∷ tested (0 ∷ []) otherLog ∷ tested falling (four ++ four) ∷ []
       ≡ (14, 1) ∷ (14, 1) ∷ (14, 0) ∷ (15, 1) ∷ []
   -- 14 of log 2 before 15 of log 1
-  pub bad-log-first : tested falling (four ++ otherLog) ∷ tested falling (0 ∷ []) ∷ tested (falling ++ otherLog) [] ∷ [] ≡ (14, 65537) ∷ (14, 0) ∷ (14, 2) ∷ []
+  pub bad-log-first : tested falling (four ++ otherLog) ∷ tested falling (0 ∷ []) ∷ tested (falling ++ otherLog) [] ∷ tested [] (falling ++ otherLog) ∷ []
+      ≡ (14, 65537) ∷ (14, 0) ∷ (14, 2) ∷ (14, 65538) ∷ []
   -- "a log's length before its records"
   pub length-first : tested (four ++ otherLog ++ (0 ∷ [])) [] ∷ tested [] (four ++ otherLog ++ (0 ∷ [])) ∷ [] ≡ (14, 0) ∷ (14, 0) ∷ []
   -- 16 last, at 0; what the trace needs is 10 bytes for each record
   pub room : tested four falling ∷ tested four [] ∷ tested [] four ∷ tested [] oneAndThree ∷ [] ≡ (15, 65537) ∷ (16, 0) ∷ (16, 0) ∷ (0, 0) ∷ []
   pub one-byte-short : map (λ (n : ℕ). numberAndPlace (joinTest four oneAndThree (area n))) (0 ∷ 39 ∷ 40 ∷ 41 ∷ []) ≡ (16, 0) ∷ (16, 0) ∷ (0, 0) ∷ (0, 0) ∷ []
+  -- more periods than a byte counts: 257 of them
+  pub long-room : map (λ (n : ℕ). numberAndPlace (joinTest longLog [] (area n))) (2569 ∷ 2570 ∷ []) ≡ (16, 0) ∷ (0, 0) ∷ []
+  pub long-reply : join [] longLog (area 2570) (area 16) .reply ≡ 0 ∷ 0 ∷ 0 ∷ 0 ∷ 1 ∷ 1 ∷ 0 ∷ 0 ∷ 0 ∷ 0 ∷ 0 ∷ 0 ∷ 0 ∷ 0 ∷ 0 ∷ 0 ∷ []
   -- ---- replies
   -- a refusal writes the reply alone; the place has eight bytes
   pub refused : joinedIn 30 falling oneAndThree ∷ joinedIn 29 oneAndThree oneAndThree ∷ [] ≡ leaves (area 30) (head 15 0 1) ∷ leaves (area 29) (head 16 0 0) ∷ []

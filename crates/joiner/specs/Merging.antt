@@ -1,5 +1,5 @@
 -- What the program computes with: where a merge of the two logs stands.
-use Prim.Native.Nat.{ℕ, _+_, _<_, _≤_}
+use Prim.Native.Nat.{ℕ, _+_}
 use mathlib.Core.Bool.{Bool, _&&_, cond}
 use mathlib.Core.List.{List}
 use lib.Dec.{eqb, ltb}
@@ -15,9 +15,3 @@ attemptsNext log k p = cond (isOf log k p) (attemptsAt log k) 0
 
 unfoldable pub recordNext : List ℕ → (k period : ℕ) → ℕ
 recordNext log k p = cond (isOf log k p) (k + 1) k
-
--- after period p a log stands at record k: the records before it are of periods up to p, and it is of a later one
-pub record StandsAt (log : List ℕ) (p k : ℕ) : Type 0 where
-  pub within : k ≤ logRecords log
-  pub before : (i : ℕ) → i < k → numberAt log i ≤ p
-  pub ahead : k < logRecords log → p < numberAt log k

@@ -1,5 +1,6 @@
--- The tests of join, in their order. Document 02, "Join the two parties' logs": 14, 15 and 16, "tested in that order, log 1 before log 2 within 14 and within
--- 15, a log's length before its records". `first` is the place of the log's record 0: "The place is the record in its own log, with 65,536 added for log 2".
+-- The tests of join, in their order. Document 02, "Join the two parties' logs": 14, 15 and 16, "tested in that order, log 1 before log 2 within 14
+-- and within 15, a log's length before its records". `first` is the place of the log's record 0: "The place is the record in its own log, with
+-- 65,536 added for log 2".
 use Prim.Native.Nat.{ℕ, _+_, _*_, _%_}
 use mathlib.Core.Bool.{_&&_}
 use mathlib.Core.List.{List}

@@ -93,6 +93,15 @@ fn last_number(log: &[u8]) -> u32
     number_at(log, n - 1)
 }
 
+// How many records the trace has: the greater of the two last numbers.
+fn joined_count(log1: &[u8], log2: &[u8]) -> u32
+    ensures { λ r. ⌜ (r ≡ joinedCount (now (log1 .entry)) (now (log2 .entry))) × (r < 256 ^ 2) ⌝ }
+{
+    let one = last_number(log1);
+    let two = last_number(log2);
+    if one < two { two } else { one }
+}
+
 // ---- the tests
 
 // The first record without the mark or with number 0; as many as there are where each is good.
@@ -108,7 +117,7 @@ fn first_bad(log: &[u8]) -> usize
 }
 
 // The first record whose number is not above the one before it; as many as there are where each is.
-fn first_falling(log: &[u8]) -> usize
+fn first_out_of_order(log: &[u8]) -> usize
     ensures { λ r. ⌜ r ≡ firstFailing (rises (now (log .entry))) 0 (logRecords (now (log .entry))) ⌝ }
 {
     let n = log_records(log);
@@ -153,20 +162,11 @@ fn order_test(log: &[u8], first: usize) -> Test
     requires { ⌜ first ≤ log2Place ⌝ }
     ensures { λ r. ⌜ r ≡ orderTest (now (log .entry)) first ⌝ }
 {
-    let bad = first_falling(log);
+    let bad = first_out_of_order(log);
     if bad != log_records(log) {
         return Test::Refused(Fault::OutOfOrder, first + bad);
     }
     Test::Passed
-}
-
-// How many records the trace has: the greater of the two last numbers.
-fn joined_count(log1: &[u8], log2: &[u8]) -> u32
-    ensures { λ r. ⌜ (r ≡ joinedCount (now (log1 .entry)) (now (log2 .entry))) × (r < 256 ^ 2) ⌝ }
-{
-    let one = last_number(log1);
-    let two = last_number(log2);
-    if one < two { two } else { one }
 }
 
 // 14 of both logs, then 15 of both.
@@ -211,8 +211,8 @@ fn is_of(log: &[u8], k: usize, period: u32) -> bool
     k < log_records(log) && number_at(log, k) == period
 }
 
-// Writes what a log's party tries in this period, where the log stands at record k, from byte `at` on: nothing, if that record is of a later period. Gives
-// the record at which the log stands then.
+// Writes what a log's party tries in this period, from byte `at` on, where the log stands at record k: no attempts, if that record
+// is of a later period or there is none. Gives the record at which the log stands then.
 fn put_attempts(log: &[u8], k: usize, period: u32, trace: &mut [u8], at: usize) -> usize
     requires { ⌜ at + 4 ≤ length (now trace) ⌝ }
     ensures written { λ _. ⌜ now (trace .exit) ≡ sets (now (trace .entry)) at (bytes 4 (attemptsNext (now (log .entry)) k period)) ⌝ }
@@ -226,10 +226,11 @@ fn put_attempts(log: &[u8], k: usize, period: u32, trace: &mut [u8], at: usize) 
     k
 }
 
-// Writes the trace, period by period, from the records i of log 1 and j of log 2 at which the logs stand.
-fn put_trace(log1: &[u8], log2: &[u8], trace: &mut [u8])
+// Writes the trace, period by period, from the records i of log 1 and j of log 2 at which the logs stand, and gives its record count.
+fn put_trace(log1: &[u8], log2: &[u8], trace: &mut [u8]) -> u32
     requires { ⌜ joinTest (now log1) (now log2) (now trace) ≡ Passed ⌝ }
-    ensures { λ _. ⌜ now (trace .exit) ≡ sets (now (trace .entry)) 0 (joinedTrace (now (log1 .entry)) (now (log2 .entry))) ⌝ }
+    ensures written { λ _. ⌜ now (trace .exit) ≡ sets (now (trace .entry)) 0 (joinedTrace (now (log1 .entry)) (now (log2 .entry))) ⌝ }
+    ensures count { λ r. ⌜ r ≡ joinedCount (now (log1 .entry)) (now (log2 .entry)) ⌝ }
 {
     let n = joined_count(log1, log2);
     let mut p = 0;
@@ -242,6 +243,7 @@ fn put_trace(log1: &[u8], log2: &[u8], trace: &mut [u8])
         j = put_attempts(log2, j, p + 1, trace, at + 6);
         p += 1;
     }
+    n
 }
 
 // Joins two logs to a trace in the buffer's first bytes. The result is 1, or 0 where the reply area is too short.
@@ -257,7 +259,7 @@ pub extern "C" fn monitor_join(log1: &[u8], log2: &[u8], trace: &mut [u8], reply
         records::put_head(reply, t, 0);
         return 1;
     };
-    put_trace(log1, log2, trace);
-    records::put_head(reply, t, joined_count(log1, log2));
+    let count = put_trace(log1, log2, trace);
+    records::put_head(reply, t, count);
     1
 }

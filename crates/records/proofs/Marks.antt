@@ -1,4 +1,5 @@
--- The marks of the records. Document 01, "Records" and "Image and row machine"; document 02.
+-- The marks of the records. Document 01, "Records" and "Image and row machine"; document 02, "Thirty-two actions" and "Join
+-- the two parties' logs".
 use Prim.Native.Nat.{ℕ, suc, _+_, _≤_}
 use native.Mathlib.Nat.{add-zero}
 use native.Mathlib.Numerals.{add-one}

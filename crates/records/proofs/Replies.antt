@@ -124,7 +124,7 @@ module _ {Buffers : Type 0} (t : Test) (a : Answer) (before later : Buffers) (ar
       → Gives (call t a before later area) 1 l r
   gives-passed h e l r i j = rw (call-passed h e) record { result-is = refl; buffers-are = i; reply-is = j }
 
--- result and reply don't go by the buffers
+-- result and reply don't go by the later buffers
 pub call-apart : {Buffers : Type 0} (t : Test) (a : Answer) (before later other : Buffers) (area : List ℕ)
     → (call t a before later area .result ≡ call t a before other area .result) × (call t a before later area .reply ≡ call t a before other area .reply)
 unfolding call

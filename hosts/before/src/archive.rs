@@ -8,6 +8,9 @@ type Short = unsafe extern "C" fn(Read, usize, Written, usize, Written, usize) -
 type Long = unsafe extern "C" fn(Read, usize, Written, usize, Read, usize, Written, usize) -> u32;
 /// Decide.
 type Deciding = unsafe extern "C" fn(Read, usize, Read, usize, Written, usize) -> u32;
+/// Join.
+type Joining =
+    unsafe extern "C" fn(Read, usize, Read, usize, Written, usize, Written, usize) -> u32;
 
 /// An archive's calls, on byte slices as in `monitor::calls`.
 #[derive(Clone, Copy)]
@@ -16,13 +19,14 @@ pub struct Archive {
     pub begin: Short,
     pub step: Long,
     pub run: Long,
-    /// An earlier archive may lack it.
+    /// An earlier archive may lack it, and the next.
     pub decide: Option<Deciding>,
+    pub join: Option<Joining>,
 }
 
 /// The archive whose calls have these names.
 macro_rules! archive {
-    ($compile:ident $begin:ident $step:ident $run:ident $($decide:ident)?) => {{
+    ($compile:ident $begin:ident $step:ident $run:ident $($decide:ident $($join:ident)?)?) => {{
         extern "C" {
             fn $compile(a: Read, b: usize, c: Written, d: usize, e: Written, f: usize) -> u32;
             fn $begin(a: Read, b: usize, c: Written, d: usize, e: Written, f: usize) -> u32;
@@ -46,29 +50,51 @@ macro_rules! archive {
                 g: Written,
                 h: usize,
             ) -> u32;
-            $(fn $decide(a: Read, b: usize, c: Read, d: usize, e: Written, f: usize) -> u32;)?
+            $(
+                fn $decide(a: Read, b: usize, c: Read, d: usize, e: Written, f: usize) -> u32;
+                $(
+                    fn $join(
+                        a: Read,
+                        b: usize,
+                        c: Read,
+                        d: usize,
+                        e: Written,
+                        f: usize,
+                        g: Written,
+                        h: usize,
+                    ) -> u32;
+                )?
+            )?
         }
         let decides: &[Deciding] = &[$($decide)?];
+        let joins: &[Joining] = &[$($($join)?)?];
         Archive {
             compile: $compile,
             begin: $begin,
             step: $step,
             run: $run,
             decide: decides.first().copied(),
+            join: joins.first().copied(),
         }
     }};
 }
 
-/// An archive that has decide just where the earlier one has it.
-#[cfg(all(earlier, earlier_decide))]
+/// An archive that has decide and join just where the earlier one has them. Join came after decide.
+#[cfg(all(earlier, earlier_join))]
 macro_rules! earlier {
     ($($name:ident)*) => {
         archive!($($name)*)
     };
 }
+#[cfg(all(earlier, earlier_decide, not(earlier_join)))]
+macro_rules! earlier {
+    ($compile:ident $begin:ident $step:ident $run:ident $decide:ident $join:ident) => {
+        archive!($compile $begin $step $run $decide)
+    };
+}
 #[cfg(all(earlier, not(earlier_decide)))]
 macro_rules! earlier {
-    ($compile:ident $begin:ident $step:ident $run:ident $decide:ident) => {
+    ($compile:ident $begin:ident $step:ident $run:ident $decide:ident $join:ident) => {
         archive!($compile $begin $step $run)
     };
 }
@@ -102,19 +128,35 @@ pub fn sides() -> Option<Sides> {
     let before = Copies {
         files: env!("ARCHIVES_BEFORE"),
         places: [
-            earlier!(before_0_compile before_0_begin before_0_step before_0_run before_0_decide),
-            earlier!(before_1_compile before_1_begin before_1_step before_1_run before_1_decide),
-            earlier!(before_2_compile before_2_begin before_2_step before_2_run before_2_decide),
-            earlier!(before_3_compile before_3_begin before_3_step before_3_run before_3_decide),
+            earlier!(
+                before_0_compile before_0_begin before_0_step before_0_run before_0_decide before_0_join
+            ),
+            earlier!(
+                before_1_compile before_1_begin before_1_step before_1_run before_1_decide before_1_join
+            ),
+            earlier!(
+                before_2_compile before_2_begin before_2_step before_2_run before_2_decide before_2_join
+            ),
+            earlier!(
+                before_3_compile before_3_begin before_3_step before_3_run before_3_decide before_3_join
+            ),
         ],
     };
     let now = Copies {
         files: env!("ARCHIVES_NOW"),
         places: [
-            archive!(now_0_compile now_0_begin now_0_step now_0_run now_0_decide),
-            archive!(now_1_compile now_1_begin now_1_step now_1_run now_1_decide),
-            archive!(now_2_compile now_2_begin now_2_step now_2_run now_2_decide),
-            archive!(now_3_compile now_3_begin now_3_step now_3_run now_3_decide),
+            archive!(
+                now_0_compile now_0_begin now_0_step now_0_run now_0_decide now_0_join
+            ),
+            archive!(
+                now_1_compile now_1_begin now_1_step now_1_run now_1_decide now_1_join
+            ),
+            archive!(
+                now_2_compile now_2_begin now_2_step now_2_run now_2_decide now_2_join
+            ),
+            archive!(
+                now_3_compile now_3_begin now_3_step now_3_run now_3_decide now_3_join
+            ),
         ],
     };
     Some(Sides {
@@ -143,7 +185,9 @@ fn apart(archives: &[Archive]) -> bool {
 impl Archive {
     /// Today's archive, as hosts link it.
     pub fn of_hosts() -> Archive {
-        archive!(monitor_compile monitor_begin monitor_step monitor_run monitor_decide)
+        archive!(
+            monitor_compile monitor_begin monitor_step monitor_run monitor_decide monitor_join
+        )
     }
 
     pub fn compile(&self, contract: &[u8], image: &mut [u8], reply: &mut [u8]) -> u32 {
@@ -184,6 +228,31 @@ impl Archive {
         Some(result)
     }
 
+    /// The result, if the archive has the call.
+    pub fn join(
+        &self,
+        log1: &[u8],
+        log2: &[u8],
+        trace: &mut [u8],
+        reply: &mut [u8],
+    ) -> Option<u32> {
+        let join = self.join?;
+        // SAFETY: as in `decide`.
+        let result = unsafe {
+            join(
+                log1.as_ptr(),
+                log1.len(),
+                log2.as_ptr(),
+                log2.len(),
+                trace.as_mut_ptr(),
+                trace.len(),
+                reply.as_mut_ptr(),
+                reply.len(),
+            )
+        };
+        Some(result)
+    }
+
     /// Where the code of each call begins.
     fn addresses(&self) -> impl Iterator<Item = usize> {
         let always = [
@@ -193,7 +262,8 @@ impl Archive {
             self.run as usize,
         ];
         let decide = self.decide.map(|decide| decide as usize);
-        always.into_iter().chain(decide)
+        let join = self.join.map(|join| join as usize);
+        always.into_iter().chain(decide).chain(join)
     }
 }
 

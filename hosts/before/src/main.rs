@@ -3,7 +3,8 @@
 //!
 //! The earlier archive is linked beside today's where `MONITOR_BEFORE` names its folder at the build.
 //! The first form makes every call of `compare`'s cases with both archives on equal copies of what
-//! is lent, but for decide where the earlier one lacks it; all must be the same at the call's end.
+//! is lent, but for decide and join where the earlier one lacks them; all must be the same at the
+//! call's end.
 //! Where one of them reads no wide records, the cases have narrow ones instead, and actions up to 15:
 //! of what is left both mean the same. Case number i is that of the seed S + i, so
 //! `before --seed S --cases 1` repeats one case. The second form times both archives on the
@@ -110,8 +111,14 @@ fn print_sides(sides: &Sides) {
     if sides.alike {
         println!("Both hold the same code.");
     }
-    if sides.before.places[0].decide.is_none() {
-        println!("The earlier archive has no decide, so that call isn't compared.");
+    let before = &sides.before.places[0];
+    for (call, is_lacking) in [
+        ("decide", before.decide.is_none()),
+        ("join", before.join.is_none()),
+    ] {
+        if is_lacking {
+            println!("The earlier archive has no {call}, so that call isn't compared.");
+        }
     }
 }
 

@@ -130,6 +130,20 @@ pub fn decide(archive: &Archive, image: &[u8], trace: &[u8]) -> Option<usize> {
     accepted(unsafe { call.stack() }, &reply)
 }
 
+/// As `decide`.
+pub fn join(archive: &Archive, logs: [&[u8]; 2], trace: &mut [u8]) -> Option<usize> {
+    let mut reply = [0xff; 16];
+    let areas = [
+        read(logs[0]),
+        read(logs[1]),
+        written(trace),
+        written(&mut reply),
+    ];
+    let call = Call::new(archive.join? as *const (), &areas);
+    // SAFETY: as in `compile`.
+    accepted(unsafe { call.stack() }, &reply)
+}
+
 /// The bytes of a call, if it was accepted.
 fn accepted(bytes: usize, reply: &[u8]) -> Option<usize> {
     replied(bytes, reply, 0)

@@ -19,16 +19,24 @@ pub struct Tally {
     pub begins: u64,
     pub steps: u64,
     pub runs: u64,
-    /// None where the earlier archive lacks decide.
+    /// None where the earlier archive lacks the call; so the next.
     pub decides: u64,
+    pub joins: u64,
 }
 
 impl Display for Tally {
     fn fmt(&self, to: &mut Formatter) -> fmt::Result {
         write!(
             to,
-            "{} cases with {} compiles ({} taken), {} begins, {} steps, {} runs, {} decides",
-            self.cases, self.compiles, self.taken, self.begins, self.steps, self.runs, self.decides
+            "{} cases with {} compiles ({} taken), {} begins, {} steps, {} runs, {} decides, {} joins",
+            self.cases,
+            self.compiles,
+            self.taken,
+            self.begins,
+            self.steps,
+            self.runs,
+            self.decides,
+            self.joins
         )
     }
 }
@@ -152,6 +160,9 @@ impl Calls<'_> {
                 self.take(&name("run"), Archive::run, trace, *reply)
             }
             Call::Decide { trace, reply } => self.decide(&name("decide"), trace, *reply, tally),
+            Call::Join { logs, trace, reply } => {
+                self.join(&name("join"), logs, [*trace, *reply], tally)
+            }
         }
     }
 
@@ -225,6 +236,37 @@ impl Calls<'_> {
         tally.decides += 1;
         same(name, [before, now], &[&reply, &self.image, &trace])
     }
+
+    /// Join, which is compared where both archives have it.
+    fn join(
+        &mut self,
+        name: &str,
+        logs: &[Vec<u8>; 2],
+        [trace, reply]: [usize; 2],
+        tally: &mut Tally,
+    ) -> Result<(), Difference> {
+        let one = Lent::new("log 1", &logs[0], &mut self.random);
+        let two = Lent::new("log 2", &logs[1], &mut self.random);
+        let mut trace = Lent::random("trace buffer", trace, &mut self.random);
+        let mut reply = Lent::random("reply area", reply, &mut self.random);
+        let before = self.pair.before.join(
+            one.reference(),
+            two.reference(),
+            trace.reference_mut(),
+            reply.reference_mut(),
+        );
+        let now = self.pair.now.join(
+            one.product(),
+            two.product(),
+            trace.product_mut(),
+            reply.product_mut(),
+        );
+        let (Some(before), Some(now)) = (before, now) else {
+            return Ok(());
+        };
+        tally.joins += 1;
+        same(name, [before, now], &[&reply, &trace, &one, &two])
+    }
 }
 
 /// That both archives gave the same result and left the same bytes.
@@ -262,21 +304,33 @@ mod tests {
         }
         assert_eq!(tally.cases, 1000);
         assert!(0 < tally.taken && tally.taken < tally.compiles);
-        assert!([tally.begins, tally.steps, tally.runs, tally.decides]
-            .iter()
-            .all(|n| *n > 300));
+        let calls = [tally.begins, tally.steps, tally.runs, tally.decides];
+        assert!(calls.iter().all(|n| *n > 300));
+        assert!(tally.joins > 100);
     }
 
     #[test]
-    fn a_decide_that_the_earlier_archive_lacks_is_not_compared() {
+    fn what_the_earlier_archive_lacks_is_not_compared() {
         for (now, call) in spoiled::<RESULT>() {
             let mut pair = pair(now);
-            pair.before.decide = None;
+            (pair.before.decide, pair.before.join) = (None, None);
             let mut tally = Tally::default();
             let differs =
                 (0..1000).any(|seed| pair.check(&Case::of_seed(seed), &mut tally).is_err());
-            assert_eq!((differs, tally.decides), (call != "decide", 0), "{call}");
+            assert_eq!(differs, !["decide", "join"].contains(&call), "{call}");
+            assert_eq!((tally.decides, tally.joins), (0, 0), "{call}");
         }
+    }
+
+    #[test]
+    fn decide_is_compared_where_join_is_lacking() {
+        let mut pair = pair(Archive::of_hosts());
+        pair.before.join = None;
+        let mut tally = Tally::default();
+        for seed in 0..100 {
+            pair.check(&Case::of_seed(seed), &mut tally).unwrap();
+        }
+        assert!(tally.decides > 0 && tally.joins == 0);
     }
 
     #[test]
@@ -290,10 +344,10 @@ mod tests {
     #[test]
     fn every_other_byte_is_a_difference() {
         for (archive, call) in spoiled::<OUTPUT>() {
-            let area = if call == "compile" {
-                "image buffer"
-            } else {
-                "state"
+            let area = match call {
+                "compile" => "image buffer",
+                "join" => "trace buffer",
+                _ => "state",
             };
             let text = difference(archive);
             assert!(text.contains(call) && text.contains(area), "{text}");

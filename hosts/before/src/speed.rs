@@ -3,10 +3,11 @@
 use crate::archive::{Archive, Sides, PLACES};
 use bench::compile::{calls, LENGTHS};
 use bench::contracts::{self, Family, Open, FAMILIES};
+use bench::join::{self, Logs};
 use bench::product::{self, HEAD, LONGEST_IMAGE, PERIOD};
-use bench::timing::{fastest, nanoseconds, Plan, Side};
+use bench::timing::{each_of, fastest, nanoseconds, Plan, Side};
 use bench::{rows, steps, Input};
-use monitor::Record;
+use monitor::{Period, Record};
 use std::cell::RefCell;
 
 pub fn measure(plan: &Plan, sides: &Sides) {
@@ -14,8 +15,9 @@ pub fn measure(plan: &Plan, sides: &Sides) {
     plan.say(
         "The ratio is that of now to before. Each archive is linked four times, its code 16 bytes further\n\
          on each time, and the fastest place counts. Nanoseconds are those of a row visit in run and\n\
-         decide, of a period in step, of a call in compile and in typing, which is a compile after each\n\
-         record. What the earlier archive alone refuses isn't timed, nor is a call that it lacks.\n",
+         decide, of a period in step and join, of a call in compile and in typing, which is a compile\n\
+         after each record. What the earlier archive alone refuses isn't timed, nor is a call that it\n\
+         lacks.\n",
     );
     line(plan, ["call", "input", "before", "now", "ratio"]);
     let table = Table { plan, sides };
@@ -39,6 +41,10 @@ pub fn measure(plan: &Plan, sides: &Sides) {
         .iter()
         .filter_map(|contract| table.typing(contract))
         .collect();
+    let joins = join::inputs(plan)
+        .iter()
+        .filter_map(|input| table.join(input))
+        .collect();
     plan.say("");
     for (call, ratios) in [
         ("run", runs),
@@ -46,6 +52,7 @@ pub fn measure(plan: &Plan, sides: &Sides) {
         ("decide", decides),
         ("compile", compiles),
         ("typing", typings),
+        ("join", joins),
     ] {
         plan.say(&summary(call, ratios));
     }
@@ -180,6 +187,30 @@ impl Table<'_> {
         Some(ratios)
     }
 
+    fn join(&self, input: &Logs) -> Option<Ratios> {
+        let [one, two] = &input.logs;
+        let mut end = (vec![0; Period::BYTES * input.periods], [0; 16]);
+        Archive::of_hosts().join(one, two, &mut end.0, &mut end.1);
+        let name = format!("{}, {} periods", input.name, input.periods);
+        if self.sides.before.places[0].join.is_none() {
+            return self.untimed("join", &name, "lacking");
+        }
+        let areas = RefCell::new(end.clone());
+        let calls = self.plan.size(10, 1);
+        let ratios = self.row("join", &name, input.periods, &|archive| {
+            let mut areas = areas.borrow_mut();
+            let (trace, reply) = &mut *areas;
+            trace.fill(0);
+            reply.fill(0);
+            let time = each_of(calls, || {
+                archive.join(one, two, trace, reply);
+            });
+            assert!(*areas == end, "{name}: join ends otherwise");
+            time
+        });
+        Some(ratios)
+    }
+
     fn compile(&self, family: &Family, records: usize) -> Option<Ratios> {
         let contract = family.contract(records);
         let name = match records {
@@ -303,11 +334,11 @@ mod tests {
         for (archive, call) in spoiled::<OUTPUT>() {
             assert_eq!(is_timed(archive), call == "begin", "{call}");
         }
-        // The replies of compile and decide are compared.
+        // The replies of compile, decide and join are compared.
         for (archive, call) in spoiled::<REPLY>() {
             assert_eq!(
                 is_timed(archive),
-                !["compile", "decide"].contains(&call),
+                !["compile", "decide", "join"].contains(&call),
                 "{call}"
             );
         }
@@ -341,18 +372,29 @@ mod tests {
                 table.compile(&FAMILIES[0], 8),
                 table.typing(&contracts::duty_and_ban()),
                 table.decide(input),
+                table.join(&join::inputs(plan)[0]),
             ]
             .map(|ratios| ratios.is_some())
         };
-        assert_eq!(timed(&sides(hosts, hosts)), [true; 5]);
-        assert_eq!(timed(&sides(refusing(), hosts)), [false; 5]);
-        let without = Archive {
-            decide: None,
+        let [yes, no] = [true, false];
+        assert_eq!(timed(&sides(hosts, hosts)), [yes; 6]);
+        // Join takes no image and no contract.
+        assert_eq!(timed(&sides(refusing(), hosts)), [no, no, no, no, no, yes]);
+        let without_join = Archive {
+            join: None,
             ..hosts
         };
         assert_eq!(
-            timed(&sides(without, hosts)),
-            [true, true, true, true, false]
+            timed(&sides(without_join, hosts)),
+            [yes, yes, yes, yes, yes, no]
+        );
+        let without_both = Archive {
+            decide: None,
+            ..without_join
+        };
+        assert_eq!(
+            timed(&sides(without_both, hosts)),
+            [yes, yes, yes, yes, no, no]
         );
     }
 

@@ -5,23 +5,24 @@ use std::ptr;
 
 /// The result is another one.
 pub const RESULT: u8 = 0;
-/// The last byte of the image buffer or of the state is another one.
+/// The last byte of the image buffer, of the state or of the trace buffer is another one.
 pub const OUTPUT: u8 = 1;
 /// The last byte of the reply area is another one.
 pub const REPLY: u8 = 2;
 
 /// An archive with the fault in each call that can have it, and the call's name.
 pub fn spoiled<const FAULT: u8>() -> Vec<(Archive, &'static str)> {
-    let mut archives = [Archive::of_hosts(); 5];
+    let mut archives = [Archive::of_hosts(); 6];
     archives[0].compile = compile::<FAULT>;
     archives[1].begin = begin::<FAULT>;
     archives[2].step = step::<FAULT>;
     archives[3].run = run::<FAULT>;
     archives[4].decide = Some(decide::<FAULT>);
-    let calls = ["compile", "begin", "step", "run", "decide"];
+    archives[5].join = Some(join::<FAULT>);
+    let calls = ["compile", "begin", "step", "run", "decide", "join"];
     // Decide writes nothing but its reply.
-    let faulty = if FAULT == OUTPUT { 4 } else { 5 };
-    archives.into_iter().zip(calls).take(faulty).collect()
+    let can_have = |(_, call): &(Archive, &str)| FAULT != OUTPUT || *call != "decide";
+    archives.into_iter().zip(calls).filter(can_have).collect()
 }
 
 /// Today's archive, but compile, begin and step refuse whatever they are given.
@@ -185,4 +186,28 @@ unsafe extern "C" fn decide<const FAULT: u8>(
         reply_length,
     );
     spoil::<FAULT>(result, ptr::null_mut(), 0, reply, reply_length)
+}
+
+unsafe extern "C" fn join<const FAULT: u8>(
+    log1: *const u8,
+    log1_length: usize,
+    log2: *const u8,
+    log2_length: usize,
+    trace: *mut u8,
+    trace_length: usize,
+    reply: *mut u8,
+    reply_length: usize,
+) -> u32 {
+    let join = Archive::of_hosts().join.expect("today's archive has it");
+    let result = join(
+        log1,
+        log1_length,
+        log2,
+        log2_length,
+        trace,
+        trace_length,
+        reply,
+        reply_length,
+    );
+    spoil::<FAULT>(result, trace, trace_length, reply, reply_length)
 }

@@ -3,11 +3,12 @@
 use crate::archive::{Archive, Sides};
 use crate::painted;
 use bench::contracts::{self, FAMILIES};
+use bench::join::{self, Logs};
 use bench::product::{self, LONGEST_IMAGE, PERIOD};
 use bench::timing::Plan;
 use bench::{steps, Input};
 use monitor::Record::{Any, Duty, Repeat, Seq, Star, Then, Until, When};
-use monitor::{Action, Contract, Fault, Party, Record};
+use monitor::{Action, Contract, Fault, Party, Period, Record};
 
 pub fn measure(sides: &Sides) {
     println!(
@@ -29,6 +30,10 @@ pub fn measure(sides: &Sides) {
         for (number, call) in ["begin", "step", "run", "decide"].into_iter().enumerate() {
             row(call, &name, bytes.map(|bytes| bytes[number]));
         }
+    }
+    for input in join::inputs(&Plan::new(false)) {
+        let bytes = archives.map(|archive| of_join(&archive, &input));
+        row("join", input.name, bytes);
     }
 }
 
@@ -62,6 +67,12 @@ fn of_calls(archive: &Archive, input: &Input) -> [Option<usize>; 4] {
         painted::run(archive, image, &mut state, trace),
         painted::decide(archive, image, trace),
     ]
+}
+
+fn of_join(archive: &Archive, input: &Logs) -> Option<usize> {
+    let [one, two] = &input.logs;
+    let mut trace = vec![0; Period::BYTES * input.periods];
+    painted::join(archive, [one, two], &mut trace)
 }
 
 /// A lone record, and contracts of 64 records in several shapes.
@@ -138,6 +149,9 @@ mod tests {
             let bytes = of_calls(&Archive::of_hosts(), &input);
             assert!(bytes.iter().all(|bytes| *bytes >= Some(8)), "{bytes:?}");
         }
+        for input in join::inputs(&Plan::new(true)) {
+            assert!(of_join(&Archive::of_hosts(), &input) >= Some(8));
+        }
     }
 
     #[test]
@@ -148,8 +162,11 @@ mod tests {
         assert_eq!(of_calls(&refusing(), image)[0], None);
         let without = Archive {
             decide: None,
+            join: None,
             ..Archive::of_hosts()
         };
         assert_eq!(of_calls(&without, image)[3], None);
+        let logs = &join::inputs(&Plan::new(true))[0];
+        assert_eq!(of_join(&without, logs), None);
     }
 }

@@ -4,7 +4,7 @@ use crate::contracts::{self, Open};
 use crate::inputs::{self, Input, Random};
 use crate::product::{self, Decided, MAX_ROWS, PERIOD};
 use crate::steps;
-use crate::timing::{nanoseconds, Plan, Side, Times};
+use crate::timing::{each_of, Plan, Side, Times};
 use crate::tree::decided;
 
 const LENGTHS: [usize; 5] = [100, 1_000, 10_000, 100_000, 1_000_000];
@@ -134,11 +134,6 @@ fn check_run(name: &str, image: &[u8], trace: &[u8], expected: Decided) {
     product::run(image, &mut state, trace);
     let left = product::decided_by(&state);
     assert_eq!(left, expected, "{name}: run leaves another decision");
-}
-
-/// The nanoseconds of each of so many calls.
-fn each_of(calls: usize, mut call: impl FnMut()) -> f64 {
-    nanoseconds(|| (0..calls).for_each(|_| call())) / calls as f64
 }
 
 fn length_line(plan: &Plan, [records, run, decide, ratio, alone, same]: [&str; 6]) {

@@ -27,12 +27,12 @@ impl Random {
         self.0
     }
 
-    fn below(&mut self, limit: usize) -> usize {
+    pub fn below(&mut self, limit: usize) -> usize {
         ((self.next() >> 16) % limit as u64) as usize
     }
 
     /// Attempts at lower actions.
-    fn mask(&mut self) -> u32 {
+    pub fn mask(&mut self) -> u32 {
         u32::from((self.next() >> 24) as u16)
     }
 

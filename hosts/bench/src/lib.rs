@@ -9,6 +9,8 @@ pub mod contracts;
 pub mod deadlines;
 pub mod decide;
 mod inputs;
+pub mod join;
+mod merge;
 pub mod periods;
 #[allow(unsafe_code)]
 mod plain;

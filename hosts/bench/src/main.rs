@@ -2,14 +2,14 @@
 //!
 //! In one run it times `run` against row machines without checks and against the reference's tree
 //! monitor, `step` and wide records against `run` over narrow ones, compile and run against their
-//! input's length, deadlines against their window, `decide` against `run`, and, where a path is given,
-//! the program `watch`. Whatever is timed together is also checked to agree. With `--check` all sizes
+//! input's length, deadlines against their window, `decide` against `run`, `join` against a merge by
+//! hand, and, where a path is given, the program `watch`. Whatever is timed together is also checked to agree. With `--check` all sizes
 //! are tiny, nothing is printed but the last line, and no time counts.
 
 #![forbid(unsafe_code)]
 
 use bench::timing::Plan;
-use bench::{compile, deadlines, decide, periods, rows, steps, tree, watch};
+use bench::{compile, deadlines, decide, join, periods, rows, steps, tree, watch};
 use std::env;
 use std::path::PathBuf;
 use std::process::ExitCode;
@@ -39,7 +39,7 @@ fn options() -> Option<Options> {
 
 fn measure_all(plan: &Plan, options: &Options) {
     plan.say(&plan.method());
-    let sections: [fn(&Plan); 7] = [
+    let sections: [fn(&Plan); 8] = [
         rows::measure,
         tree::measure,
         steps::measure,
@@ -47,13 +47,14 @@ fn measure_all(plan: &Plan, options: &Options) {
         periods::measure,
         deadlines::measure,
         decide::measure,
+        join::measure,
     ];
     for section in sections {
         section(plan);
     }
     match &options.watch {
         Some(program) => watch::measure(plan, program),
-        None => plan.say("\n8. `watch`: not measured, no path is given"),
+        None => plan.say("\n9. `watch`: not measured, no path is given"),
     }
 }
 

@@ -46,7 +46,7 @@ fn moved<const MOVED: usize>(image: &[u8]) -> Vec<Box<dyn Machine>> {
 
 /// Moves the code that follows on by so many bytes.
 #[inline(always)]
-fn move_code<const BYTES: usize>() {
+pub fn move_code<const BYTES: usize>() {
     // SAFETY: one-byte instructions that do nothing.
     #[cfg(target_arch = "x86_64")]
     unsafe {

@@ -1,4 +1,4 @@
-//! The five calls on input that they accept.
+//! The six calls on input that they accept.
 
 use monitor::calls;
 
@@ -30,7 +30,8 @@ pub struct Decided {
     pub records: u32,
 }
 
-fn field(bytes: &[u8], at: usize) -> u32 {
+/// A four-byte field of a reply or a state.
+pub fn field(bytes: &[u8], at: usize) -> u32 {
     u32::from_le_bytes(bytes[at..at + 4].try_into().expect("four bytes"))
 }
 
@@ -98,6 +99,14 @@ pub fn decide(image: &[u8], trace: &[u8]) -> Decided {
         decision: field(&reply, 20),
         records: field(&reply, 24),
     }
+}
+
+/// One call of join; the trace's number of records.
+pub fn join(log1: &[u8], log2: &[u8], trace: &mut [u8]) -> usize {
+    let mut reply = [0; 16];
+    let result = calls::join(log1, log2, trace, &mut reply);
+    assert_eq!((result, field(&reply, 0)), (1, 0), "join refuses");
+    field(&reply, 4) as usize
 }
 
 /// What decide has to give on a trace that leaves a begun state like this.

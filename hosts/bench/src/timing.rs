@@ -64,6 +64,11 @@ pub fn nanoseconds(work: impl FnOnce()) -> f64 {
     start.elapsed().as_nanos() as f64
 }
 
+/// The nanoseconds of each of so many calls.
+pub fn each_of(calls: usize, mut call: impl FnMut()) -> f64 {
+    nanoseconds(|| (0..calls).for_each(|_| call())) / calls as f64
+}
+
 /// The times of one side in nanoseconds, turn by turn.
 pub struct Times(Vec<f64>);
 

@@ -1,4 +1,4 @@
-//! Section 8: the program `watch` as a whole process.
+//! Section 9: the program `watch` as a whole process.
 
 use crate::contracts::{self, Open};
 use crate::inputs::{self, Random};
@@ -11,7 +11,7 @@ use std::process::{Child, Command, Stdio};
 
 pub fn measure(plan: &Plan, program: &Path) {
     plan.say(
-        "\n8. `watch`: milliseconds of a whole process, from its start to its end\n   \
+        "\n9. `watch`: milliseconds of a whole process, from its start to its end\n   \
          The input comes through a pipe.\n",
     );
     line(

@@ -2,9 +2,10 @@
 
 use crate::contracts;
 use crate::images;
+use crate::logs;
 use crate::random::Random;
 use crate::traces;
-use reference::calls::{decide, DECIDE_REPLY};
+use reference::calls::{decide, DECIDE_REPLY, SHORT_REPLY};
 use reference::contract::{least_buffer, read, sum_of_windows};
 use reference::image::MAX_BYTES;
 use reference::records::four_bytes;
@@ -16,14 +17,16 @@ pub enum Family {
     DamagedContracts,
     Images,
     DamagedImages,
+    Logs,
 }
 
 /// The families with their names, in the summary's order.
-pub const FAMILIES: [(Family, &str); 4] = [
+pub const FAMILIES: [(Family, &str); 5] = [
     (Family::Contracts, "contracts"),
     (Family::DamagedContracts, "damaged contracts"),
     (Family::Images, "images"),
     (Family::DamagedImages, "damaged images, states, traces"),
+    (Family::Logs, "logs"),
 ];
 
 /// How a case gets its image and state.
@@ -41,21 +44,38 @@ pub enum Start {
     },
 }
 
-/// A call on the image and the state, or on the image alone (decide), with a reply area of that
-/// length.
+/// A call on the image and the state, on the image alone (decide) or on neither (join), with a
+/// reply area of that length.
 #[derive(Clone)]
 pub enum Call {
-    Begin { reply: usize },
-    Step { period: Vec<u8>, reply: usize },
-    Run { trace: Vec<u8>, reply: usize },
-    Decide { trace: Vec<u8>, reply: usize },
+    Begin {
+        reply: usize,
+    },
+    Step {
+        period: Vec<u8>,
+        reply: usize,
+    },
+    Run {
+        trace: Vec<u8>,
+        reply: usize,
+    },
+    Decide {
+        trace: Vec<u8>,
+        reply: usize,
+    },
+    /// With a trace buffer of the length `trace`.
+    Join {
+        logs: [Vec<u8>; 2],
+        trace: usize,
+        reply: usize,
+    },
 }
 
 impl Call {
     /// The period records that it is given.
     pub fn records(&self) -> Option<&[u8]> {
         match self {
-            Call::Begin { .. } => None,
+            Call::Begin { .. } | Call::Join { .. } => None,
             Call::Step { period, .. } => Some(period),
             Call::Run { trace, .. } | Call::Decide { trace, .. } => Some(trace),
         }
@@ -64,9 +84,17 @@ impl Call {
     /// The same, to be changed.
     pub fn records_mut(&mut self) -> Option<&mut Vec<u8>> {
         match self {
-            Call::Begin { .. } => None,
+            Call::Begin { .. } | Call::Join { .. } => None,
             Call::Step { period, .. } => Some(period),
             Call::Run { trace, .. } | Call::Decide { trace, .. } => Some(trace),
+        }
+    }
+
+    /// All bytes that it is given to read, to be changed.
+    pub fn given_mut(&mut self) -> Vec<&mut Vec<u8>> {
+        match self {
+            Call::Join { logs, .. } => logs.iter_mut().collect(),
+            other => other.records_mut().into_iter().collect(),
         }
     }
 }
@@ -86,10 +114,11 @@ impl Case {
         let mut random = Random::new(seed);
         let fill = random.next();
         let (family, start, calls) = match random.below(100) {
-            0..=39 => contract_case(&mut random),
-            40..=64 => damaged_contract_case(&mut random),
-            65..=79 => image_case(&mut random),
-            _ => damaged_image_case(&mut random),
+            0..=35 => contract_case(&mut random),
+            36..=58 => damaged_contract_case(&mut random),
+            59..=71 => image_case(&mut random),
+            72..=89 => damaged_image_case(&mut random),
+            _ => log_case(&mut random),
         };
         Case {
             family,
@@ -381,12 +410,76 @@ fn step_record(random: &mut Random, fault: bool) -> Vec<u8> {
     }
 }
 
+/// Joins of logs, and an image that the joined periods are for.
+fn log_case(random: &mut Random) -> Parts {
+    let length = logs::length(random);
+    let start = start_for(random, length);
+    let periods = match &start {
+        Start::Contract { bytes, .. } if length <= logs::MAX_SHORT => match read(bytes) {
+            Ok(clause) => traces::for_clause(random, &clause, length),
+            Err(_) => traces::any(random, length),
+        },
+        _ => traces::any(random, length),
+    };
+    let joins = if length <= logs::MAX_MIDDLING {
+        random.between(1, 3)
+    } else {
+        1
+    };
+    let calls = (0..joins).map(|_| join(random, &periods)).collect();
+    (Family::Logs, start, calls)
+}
+
+/// A contract or an image, the smaller the more periods there are.
+fn start_for(random: &mut Random, periods: usize) -> Start {
+    if random.percent(60) {
+        let bytes = match periods {
+            0..=16 => contracts::good(random),
+            17..=logs::MAX_SHORT => contracts::short(random, 8),
+            _ => contracts::short(random, 3),
+        };
+        return Start::Contract {
+            buffer: least_buffer(&bytes),
+            bytes,
+            reply: SHORT_REPLY,
+        };
+    }
+    let bytes = match periods {
+        0..=16 => images::good(random),
+        17..=logs::MAX_SHORT => images::small(random, 24),
+        _ => images::small(random, 6),
+    };
+    let state = images::state(random, images::rows_of(&bytes));
+    Start::Image { bytes, state }
+}
+
+/// A join of logs of these periods' attempts, half of them damaged.
+fn join(random: &mut Random, periods: &[Period]) -> Call {
+    let mut logs = logs::of_periods(random, periods);
+    let need = logs::trace_bytes(&logs);
+    if random.percent(50) {
+        logs::damage(random, &mut logs);
+    }
+    let reply = match random.below(10) {
+        0 => any_room(random, SHORT_REPLY),
+        1 => random.below(49),
+        _ => room(random, SHORT_REPLY),
+    };
+    Call::Join {
+        logs,
+        trace: logs::buffer(random, need),
+        reply,
+    }
+}
+
 #[cfg(test)]
 mod tests {
     use super::*;
     use crate::contracts::{names_upper, RECORD};
     use reference::calls::LONG_REPLY;
+    use reference::logs::joined;
     use reference::records::read_trace;
+    use std::cmp::Ordering;
     use std::collections::BTreeSet;
 
     const QUIET: Period = Period { one: 0, two: 0 };
@@ -397,7 +490,7 @@ mod tests {
     fn calls_with_records(case: &Case) -> impl Iterator<Item = (usize, &[u8], bool)> {
         case.calls.iter().filter_map(|call| {
             let (number, has_room) = match call {
-                Call::Begin { .. } => return None,
+                Call::Begin { .. } | Call::Join { .. } => return None,
                 Call::Step { reply, .. } => (0, *reply >= LONG_REPLY),
                 Call::Run { reply, .. } => (1, *reply >= LONG_REPLY),
                 Call::Decide { reply, .. } => (2, *reply >= DECIDE_REPLY),
@@ -430,7 +523,7 @@ mod tests {
     fn every_family_has_calls_of_every_sort() {
         // By call and family: without room, then the sorts of the records.
         let mut counts = [[[0; 8]; FAMILIES.len()]; 3];
-        for case in (0..20000).map(Case::of_seed) {
+        for case in (0..30000).map(Case::of_seed) {
             for (call, records, has_room) in calls_with_records(&case) {
                 let sort = if has_room {
                     1 + sort_of(call, records)
@@ -440,11 +533,53 @@ mod tests {
                 counts[call][case.family as usize][sort] += 1;
             }
         }
-        // A step's one record has no later mark.
+        // A step's one record has no later mark. The family of logs has joins alone.
         for (families, sorts) in counts.iter().zip([6, 8, 8]) {
             let often = |family: &[usize; 8]| family[..sorts].iter().all(|count| *count > 10);
-            assert!(families.iter().all(often), "{counts:?}");
+            let (logs, others) = families.split_last().expect("there are families");
+            assert!(others.iter().all(often), "{counts:?}");
+            assert_eq!(*logs, [0; 8]);
         }
+    }
+
+    /// By the reference's answer: no room for the reply, accepted with a trace buffer of just the
+    /// length and with a longer one, refused for a log, for a buffer that is one byte too short, and
+    /// for a shorter one.
+    #[test]
+    fn joins_of_every_sort_come_up() {
+        let mut counts = [0; 6];
+        for case in (0..10000).map(Case::of_seed) {
+            for call in &case.calls {
+                let Call::Join { logs, trace, reply } = call else {
+                    continue;
+                };
+                let sort = match joined(&logs[0], &logs[1]) {
+                    _ if *reply < SHORT_REPLY => 0,
+                    Err(_) => 3,
+                    Ok(periods) => match trace.cmp(&(10 * periods.len())) {
+                        Ordering::Equal => 1,
+                        Ordering::Greater => 2,
+                        Ordering::Less if trace + 1 == 10 * periods.len() => 4,
+                        Ordering::Less => 5,
+                    },
+                };
+                counts[sort] += 1;
+            }
+        }
+        assert!(counts.iter().all(|count| *count > 50), "{counts:?}");
+    }
+
+    #[test]
+    fn joins_have_reply_areas_of_every_length_to_48() {
+        let mut seen = BTreeSet::new();
+        for case in (0..20000).map(Case::of_seed) {
+            seen.extend(case.calls.iter().filter_map(|call| match call {
+                Call::Join { reply, .. } => Some(*reply),
+                _ => None,
+            }));
+        }
+        let all: BTreeSet<usize> = (0..=48).chain([2048]).collect();
+        assert_eq!(seen, all);
     }
 
     /// The number of each call that is given records, their form as a number, and their length.

@@ -3,6 +3,7 @@
 use crate::cases::{Call, Case, Start};
 use crate::guard::Lent;
 use crate::images::{names_upper, rows_of, ROW};
+use crate::joins::{self, Joined, Judged};
 use crate::random::Random;
 use crate::report::{Difference, Tally};
 use crate::traces;
@@ -243,6 +244,13 @@ impl Calls {
                 Call::Decide { trace, reply } => {
                     self.decide(&format!("call {number}, decide"), trace, *reply, tally)?;
                 }
+                Call::Join { logs, trace, reply } => {
+                    let call = format!("call {number}, join");
+                    let (lengths, random) = ([*trace, *reply], &mut self.random);
+                    if let Some(joined) = joins::check(&call, logs, lengths, random, tally)? {
+                        self.judged(&call, &joined, tally)?;
+                    }
+                }
             }
         }
         if let Some(meaning) = &self.meaning {
@@ -439,6 +447,19 @@ impl Calls {
             .map_err(|difference| difference.between(&["run", "decide"]))
     }
 
+    /// The trace that join wrote is one: run takes all of it, on a state just begun, and decide reads
+    /// it; they say what the reference says of the joined periods.
+    fn judged(&self, call: &str, joined: &Joined, tally: &mut Tally) -> Result<(), Difference> {
+        let Ok(image) = image::read(self.image.reference()) else {
+            return Ok(());
+        };
+        let meant = Judged::meant(&image, &joined.periods);
+        let came = Judged::came(self.image.product(), &joined.trace);
+        meant.compare(call, &came)?;
+        tally.decide(four_bytes(&came.decided, 4));
+        self.decided(call, &joined.trace, &came.decided)
+    }
+
     /// A run "ends as that many steps would".
     fn same_as_steps(
         &self,
@@ -594,6 +615,42 @@ mod tests {
             let same = calls.same_as_run("decide", &trace, &other);
             assert!(same.is_err(), "another {what}");
         }
+    }
+
+    #[test]
+    fn other_joined_periods_are_a_difference() {
+        const BOTH: Period = Period { one: 1, two: 1 };
+        const NOBODY: Period = Period { one: 0, two: 0 };
+        let judged = |periods: [Period; 2], trace: [Period; 2], meaning: &[u8]| {
+            let joined = Joined {
+                trace: traces::bytes(Form::Wide, &trace),
+                periods: periods.to_vec(),
+            };
+            let judged = calls(meaning).judged("join", &joined, &mut Tally::default());
+            judged.err().map(|difference| difference.to_string())
+        };
+        let (met, broken) = ([BOTH, NOBODY], [NOBODY, BOTH]);
+        for periods in [met, broken] {
+            assert_eq!(judged(periods, periods, &DUTY), None);
+        }
+        for (periods, trace) in [(met, broken), (broken, met)] {
+            let difference = judged(periods, trace, &DUTY).unwrap();
+            assert!(difference.contains("a run over the joined periods"));
+        }
+        // After the decision the periods are only counted.
+        assert_eq!(judged(met, [BOTH, BOTH], &DUTY), None);
+        let difference = judged(broken, broken, &JOINT_DUTY).unwrap();
+        assert!(difference.contains("the contract's outcome"));
+    }
+
+    #[test]
+    fn a_trace_that_is_none_is_a_difference() {
+        let joined = Joined {
+            trace: vec![0x54, 0x51, 0, 0, 0, 0, 0, 0, 0],
+            periods: vec![Period { one: 0, two: 0 }],
+        };
+        let judged = calls(&DUTY).judged("join", &joined, &mut Tally::default());
+        assert!(judged.is_err());
     }
 
     #[test]

@@ -123,6 +123,12 @@ pub fn good(random: &mut Random) -> Vec<u8> {
     of_records(random, records, 0)
 }
 
+/// A contract of at most so many records that is taken.
+pub fn short(random: &mut Random, most: usize) -> Vec<u8> {
+    let records = random.between(1, most);
+    of_records(random, records, 0)
+}
+
 /// Deadlines joined with each other, mostly as many as 64 records can have.
 fn many_deadlines(random: &mut Random) -> Vec<u8> {
     let mut style = Style::random(random, 0);

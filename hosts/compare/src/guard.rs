@@ -2,9 +2,13 @@
 
 use crate::random::Random;
 use crate::report::{hex, Difference};
+use std::ops::Range;
 
 /// Guard bytes on each side.
 const GUARD: usize = 64;
+/// Most bytes of an area that is printed whole, and of the part that is printed of a longer one.
+const MAX_WHOLE: usize = 2100;
+const MAX_PART: usize = 300;
 
 /// An area lent to both: the product gets one copy, the reference the other. Both copies lie
 /// between the same random bytes and must be the same after each call.
@@ -76,13 +80,24 @@ impl Lent {
         } else {
             format!("guard bytes of the {}", self.name)
         };
-        let (first, last) = (first.min(self.from), last.max(self.to - 1).max(first));
+        let printed = self.printed(first, last);
         Err(Difference::new(
             call,
             &what,
-            hex(&self.reference[first..=last]),
-            hex(&self.product[first..=last]),
+            hex(&self.reference[printed.clone()]),
+            hex(&self.product[printed]),
         ))
+    }
+
+    /// What is printed where bytes from `first` to `last` differ: the whole area, with guard bytes
+    /// that differ; of a long one only what differs, or its beginning.
+    fn printed(&self, first: usize, last: usize) -> Range<usize> {
+        let whole = first.min(self.from)..(last + 1).max(self.to);
+        if whole.len() <= MAX_WHOLE {
+            whole
+        } else {
+            first..(last + 1).min(first + MAX_PART)
+        }
     }
 }
 
@@ -105,6 +120,27 @@ mod tests {
             let what = format!("bytes {place} to {place} of the reply area");
             assert!(changed(24, place).contains(&what));
         }
+    }
+
+    /// How many bytes are printed of each side where the product's bytes from that place on differ.
+    fn printed(length: usize, place: usize, bytes: usize) -> usize {
+        let mut lent = Lent::random("trace buffer", length, &mut Random::new(1));
+        let from = lent.from + place;
+        lent.product[from..from + bytes]
+            .iter_mut()
+            .for_each(|byte| *byte ^= 1);
+        let difference = lent.compare("join").unwrap_err().to_string();
+        let last = difference.lines().last().expect("a line for each side");
+        last.split_whitespace().count() - 1
+    }
+
+    #[test]
+    fn of_a_long_area_the_difference_is_printed() {
+        assert_eq!(printed(40, 20, 2), 40);
+        assert_eq!(printed(MAX_WHOLE, 20, 2), MAX_WHOLE);
+        assert_eq!(printed(MAX_WHOLE + 1, 20, 2), 2);
+        assert_eq!(printed(655_350, 655_340, 10), 10);
+        assert_eq!(printed(655_350, 0, 655_350), MAX_PART);
     }
 
     #[test]

@@ -35,6 +35,11 @@ pub fn good(random: &mut Random) -> Vec<u8> {
     }
 }
 
+/// A good image of at most so many rows.
+pub fn small(random: &mut Random, most: usize) -> Vec<u8> {
+    of_rows(random, 1, most)
+}
+
 /// What compile writes for a random contract.
 fn compiled(random: &mut Random) -> Vec<u8> {
     let contract = contracts::good(random);

@@ -3,14 +3,14 @@
 //! `compare [--cases N] [--seed S] [--watch PATH] [--watch-cases M] [--small R]`: case number i is
 //! that of the seed S + i, so `compare --seed S --cases 1` repeats one case, and
 //! `compare --seed S --cases 0 --watch PATH --watch-cases 1` one input of `watch`. With `--small R`
-//! short traces are compared too, and every contract of at most R records on one action, with
-//! windows of 2 or 3.
+//! short traces and short logs are compared too, and every contract of at most R records on one
+//! action, with windows of 2 or 3.
 
 #![forbid(unsafe_code)]
 
 use compare::cases::{Case, Start, FAMILIES};
 use compare::report::{self, Summary, Tally};
-use compare::{check, short, shrink, small, watch};
+use compare::{check, short, short_logs, shrink, small, watch};
 use std::env;
 use std::path::{Path, PathBuf};
 use std::process::ExitCode;
@@ -78,21 +78,28 @@ fn print_smaller(case: Case) {
     }
 }
 
-/// Compares the short traces; false after a difference, which is printed.
-fn compare_short() -> bool {
+/// Compares cases that aren't drawn; false after a difference, which is printed.
+fn compare_all(cases: impl Iterator<Item = Case>, name: &str) -> bool {
     let mut tally = Tally::default();
-    for case in short::cases() {
+    for case in cases {
         tally.case();
         if check::check(&case, &mut tally).is_err() {
-            println!("a short trace: a difference");
+            println!("{name}: a difference");
             print_smaller(case);
             return false;
         }
     }
-    tally.print(
-        "short traces (every length up to 21 bytes, every damaged mark, mixtures of the forms)",
-    );
+    tally.print(name);
     true
+}
+
+fn compare_short() -> bool {
+    let traces =
+        "short traces (every length up to 21 bytes, every damaged mark, mixtures of the forms)";
+    let logs =
+        "short logs (every pair of at most 3 records on numbers 0 to 4 or with a wrong mark, \
+                bytes that are no whole record, every trace buffer near the need)";
+    compare_all(short::cases(), traces) && compare_all(short_logs::cases(), logs)
 }
 
 /// Compares one input of `watch`; false after a difference, which is printed.

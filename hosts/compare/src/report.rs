@@ -2,13 +2,15 @@
 
 use crate::cases::{Call, Case, Start, FAMILIES};
 use crate::contracts::most_pending;
+use crate::logs::{self, numbers};
 use crate::traces;
 use crate::watch::split;
 use reference::contract::{sum_of_windows, KINDS};
-use reference::records::Form;
+use reference::logs::{check_log_length, LogRecord, LOG_TWO_PLACE};
+use reference::records::{four_bytes, Form};
 use reference::Monitor;
 use std::cmp::Ordering;
-use std::collections::BTreeMap;
+use std::collections::{BTreeMap, BTreeSet};
 use std::fmt::{self, Debug, Display, Formatter};
 
 /// A first difference between the product and the reference.
@@ -118,6 +120,11 @@ pub fn print_case(case: &Case) {
                 println!("call {number}: decide, reply area of {reply}");
                 print_lines("  trace", trace, traces::record_bytes(trace));
             }
+            Call::Join { logs, trace, reply } => {
+                println!("call {number}: join, trace buffer of {trace}, reply area of {reply}");
+                print_lines("  log 1", &logs[0], logs::RECORD);
+                print_lines("  log 2", &logs[1], logs::RECORD);
+            }
         }
     }
 }
@@ -160,6 +167,16 @@ pub struct Tally {
     max_rows: usize,
     /// Greatest sum of a compiled contract's windows.
     max_windows: usize,
+    /// Joins refused with 14 by a length, by a record, and with 15; of each, by log 1 and by log 2.
+    bad_logs: [[usize; 2]; 3],
+    /// Accepted joins by the numbers that the logs have: both are empty, one is, they have the same
+    /// numbers, some in common, none.
+    common: [usize; 5],
+    /// Accepted joins by the trace's records: 0, 1 to 16, 17 to 1,000, up to 65,534, 65,535.
+    traces: [usize; 5],
+    /// Most records of a log in an accepted join, and of a trace.
+    max_log: usize,
+    max_trace: usize,
 }
 
 const NO_ROOM: u32 = 99;
@@ -167,6 +184,17 @@ const NO_ROOM: u32 = 99;
 /// The index of the first limit that isn't below the value.
 fn bucket(value: usize, limits: [usize; 4]) -> usize {
     limits.iter().position(|limit| value <= *limit).unwrap_or(4)
+}
+
+/// The log whose length refusal 14 at place 0 is about, 0 or 1; none if it is log 1's first record.
+fn bad_length(logs: [&[u8]; 2]) -> Option<usize> {
+    let is_bad = |log: &[u8]| check_log_length(log.len()).is_err();
+    let first = logs[0].get(..logs::RECORD).map(LogRecord::of_record);
+    match first {
+        _ if is_bad(logs[0]) => Some(0),
+        Some(None) => None,
+        _ => Some(1),
+    }
 }
 
 impl Tally {
@@ -188,7 +216,7 @@ impl Tally {
             self.no_room(call);
             return false;
         }
-        let number = reference::records::four_bytes(reply, 0);
+        let number = four_bytes(reply, 0);
         self.reply(call, number);
         number == 0
     }
@@ -225,6 +253,38 @@ impl Tally {
         self.bad_marks[stands] += 1;
     }
 
+    /// Counts a join of these logs by its reply.
+    pub fn join(&mut self, log1: &[u8], log2: &[u8], reply: &[u8]) {
+        let [number, records, place] = [0, 4, 8].map(|at| four_bytes(reply, at) as usize);
+        let in_log_2 = usize::from(place >= LOG_TWO_PLACE);
+        match number {
+            0 => self.joined(log1, log2, records),
+            14 if place == 0 => match bad_length([log1, log2]) {
+                Some(log) => self.bad_logs[0][log] += 1,
+                None => self.bad_logs[1][0] += 1,
+            },
+            14 => self.bad_logs[1][in_log_2] += 1,
+            15 => self.bad_logs[2][in_log_2] += 1,
+            _ => {}
+        }
+    }
+
+    /// Counts an accepted join of these logs to a trace of so many records.
+    fn joined(&mut self, log1: &[u8], log2: &[u8], records: usize) {
+        let [one, two] = [log1, log2].map(|log| numbers(log).collect::<BTreeSet<u16>>());
+        let sort = match (one.len(), two.len(), one.intersection(&two).count()) {
+            (0, 0, _) => 0,
+            (0, _, _) | (_, 0, _) => 1,
+            (one, two, common) if (one, two) == (common, common) => 2,
+            (_, _, 1..) => 3,
+            _ => 4,
+        };
+        self.common[sort] += 1;
+        self.traces[bucket(records, [0, 16, 1000, 65534])] += 1;
+        self.max_log = self.max_log.max(one.len()).max(two.len());
+        self.max_trace = self.max_trace.max(records);
+    }
+
     pub fn compiled(&mut self, contract: &[u8], rows: usize) {
         self.records[bucket(contract.len() / 6, [1, 8, 32, 63])] += 1;
         self.max_rows = self.max_rows.max(rows);
@@ -255,9 +315,41 @@ impl Tally {
         }
     }
 
+    fn print_joins(&self) {
+        for (what, counts) in ["14 by a length", "14 by a record", "15"]
+            .iter()
+            .zip(&self.bad_logs)
+        {
+            let what = format!("joins refused with {what}");
+            print_counts(&what, &["of log 1", "of log 2"], counts);
+        }
+        let common = [
+            "both empty",
+            "one empty",
+            "the same",
+            "some in common",
+            "none in common",
+        ];
+        print_counts(
+            "accepted joins, by the logs' numbers",
+            &common,
+            &self.common,
+        );
+        let records = ["0:", "1 to 16:", "17 to 1000:", "1001 to 65534:", "65535:"];
+        print_counts(
+            "accepted joins, by the trace's records",
+            &records,
+            &self.traces,
+        );
+        if self.max_log > 0 {
+            println!("  most records of a joined log: {}", self.max_log);
+            println!("  longest joined trace: {} records", self.max_trace);
+        }
+    }
+
     pub fn print(&self, name: &str) {
         println!("{name}: {} cases", self.cases);
-        for call in ["compile", "begin", "step", "run", "decide", "watch"] {
+        for call in ["compile", "begin", "step", "run", "decide", "join", "watch"] {
             let counts: Vec<String> = self
                 .replies
                 .iter()
@@ -285,6 +377,7 @@ impl Tally {
             "none decides",
         ];
         print_counts("decides, by first bad mark", &stands, &self.bad_marks);
+        self.print_joins();
         print_counts("contracts at the end", &outcomes, &self.outcomes);
         print_counts("blames", &["1:", "2:", "3:"], &self.blames);
         let periods = ["1:", "2 to 4:", "5 to 16:", "17 to 64:", "later:"];
@@ -356,6 +449,56 @@ mod tests {
             tally.bad_mark(number, 0);
         }
         assert_eq!(tally.bad_marks, [2, 1, 3, 6]);
+    }
+
+    /// The counts of joins of these logs with a reply of that number and place.
+    fn counted(logs: [&[u8]; 2], number: u32, place: u32) -> Tally {
+        let mut reply = [0; 16];
+        reply[..4].copy_from_slice(&number.to_le_bytes());
+        reply[8..12].copy_from_slice(&place.to_le_bytes());
+        let mut tally = Tally::default();
+        tally.join(logs[0], logs[1], &reply);
+        tally
+    }
+
+    #[test]
+    fn refused_joins_are_counted_by_log() {
+        const GOOD: [u8; 8] = [0x54, 0x4c, 1, 0, 0, 0, 0, 0];
+        const BAD: [u8; 8] = [0x54, 0x4c, 0, 0, 0, 0, 0, 0];
+        let bad_logs = |logs, number, place| counted(logs, number, place).bad_logs;
+        let (good, cut) = (&GOOD[..], &GOOD[..7]);
+        assert_eq!(bad_logs([cut, &BAD], 14, 0), [[1, 0], [0, 0], [0, 0]]);
+        assert_eq!(bad_logs([good, cut], 14, 0), [[0, 1], [0, 0], [0, 0]]);
+        assert_eq!(bad_logs([&[], cut], 14, 0), [[0, 1], [0, 0], [0, 0]]);
+        assert_eq!(bad_logs([&BAD, cut], 14, 0), [[0, 0], [1, 0], [0, 0]]);
+        assert_eq!(bad_logs([good, good], 14, 7), [[0, 0], [1, 0], [0, 0]]);
+        assert_eq!(bad_logs([good, &BAD], 14, 65536), [[0, 0], [0, 1], [0, 0]]);
+        assert_eq!(bad_logs([good, good], 15, 65535), [[0, 0], [0, 0], [1, 0]]);
+        assert_eq!(bad_logs([good, good], 15, 65537), [[0, 0], [0, 0], [0, 1]]);
+        assert_eq!(bad_logs([good, good], 16, 0), [[0; 2]; 3]);
+    }
+
+    #[test]
+    fn accepted_joins_are_counted_by_numbers_and_length() {
+        let log = |numbers: &[u8]| -> Vec<u8> {
+            let record = |number: &u8| [0x54, 0x4c, *number, 0, 0, 0, 0, 0];
+            numbers.iter().flat_map(record).collect()
+        };
+        let mut tally = Tally::default();
+        for (one, two, records) in [
+            (&[][..], &[][..], 0),
+            (&[2], &[], 2),
+            (&[], &[1, 2, 20], 20),
+            (&[3, 4], &[3, 4], 4),
+            (&[3, 4], &[4, 5], 5),
+            (&[3, 4], &[4], 4),
+            (&[1, 3], &[2], 3),
+        ] {
+            tally.joined(&log(one), &log(two), records);
+        }
+        assert_eq!(tally.common, [1, 2, 1, 2, 1]);
+        assert_eq!(tally.traces, [1, 5, 1, 0, 0]);
+        assert_eq!((tally.max_log, tally.max_trace), (3, 20));
     }
 
     #[test]

@@ -102,7 +102,7 @@ fn insert_damaged(record: &[u8], records: usize, traces: &mut BTreeSet<Vec<u8>>)
 }
 
 /// All lists of up to so many of these.
-fn lists<T: Copy>(items: &[T], most: usize) -> Vec<Vec<T>> {
+pub fn lists<T: Copy>(items: &[T], most: usize) -> Vec<Vec<T>> {
     let mut all = vec![vec![]];
     let mut from = 0;
     for _ in 0..most {

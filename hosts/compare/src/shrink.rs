@@ -3,13 +3,17 @@
 
 use crate::cases::{Call, Case, Start};
 use crate::images::{rows_of, ROW};
+use crate::logs;
 use crate::traces::record_bytes;
 use crate::watch::split;
 use reference::contract::{kind_of, least_buffer};
 use reference::Form;
+use std::collections::BTreeSet;
 
-/// Most changes that are tried.
+/// Most changes that are tried; one of a long case counts as several.
 const MAX_TRIED: usize = 60000;
+/// The bytes of a case that count as one more.
+const LONG_CASE: usize = 50000;
 
 /// What is dropped of traces: wide records, narrow ones, bytes.
 const TRACE_UNITS: [usize; 3] = [Form::Wide.record_bytes(), Form::Narrow.record_bytes(), 1];
@@ -17,18 +21,25 @@ const TRACE_UNITS: [usize; 3] = [Form::Wide.record_bytes(), Form::Narrow.record_
 struct Shrinker<'a, T> {
     now: T,
     differs: &'a mut dyn FnMut(&T) -> bool,
+    /// How long a candidate is, in bytes.
+    bytes: fn(&T) -> usize,
     tried: usize,
     most: usize,
     changed: bool,
 }
 
 impl<T> Shrinker<'_, T> {
+    /// Whether no more changes are tried.
+    fn is_spent(&self) -> bool {
+        self.tried >= self.most
+    }
+
     /// Keeps the candidate if it still differs.
     fn offer(&mut self, candidate: T) -> bool {
-        if self.tried >= self.most {
+        if self.is_spent() {
             return false;
         }
-        self.tried += 1;
+        self.tried += 1 + (self.bytes)(&candidate) / LONG_CASE;
         let keeps = (self.differs)(&candidate);
         if keeps {
             self.now = candidate;
@@ -43,11 +54,12 @@ pub fn case(case: Case, differs: &mut dyn FnMut(&Case) -> bool) -> Case {
     let mut s = Shrinker {
         now: case,
         differs,
+        bytes: lent_bytes,
         tried: 0,
         most: MAX_TRIED,
         changed: true,
     };
-    while s.changed && s.tried < s.most {
+    while s.changed && !s.is_spent() {
         s.changed = false;
         drop_calls(&mut s);
         match s.now.start {
@@ -67,11 +79,12 @@ pub fn input(input: Vec<u8>, differs: &mut dyn FnMut(&Vec<u8>) -> bool) -> Vec<u
     let mut s = Shrinker {
         now: input,
         differs,
+        bytes: Vec::len,
         tried: 0,
         most: 6000,
         changed: true,
     };
-    while s.changed && s.tried < s.most {
+    while s.changed && !s.is_spent() {
         s.changed = false;
         quiet_periods(&mut s);
         while replace_in_input(&mut s) {}
@@ -127,7 +140,7 @@ fn drop_parts<T: Clone, E>(s: &mut Shrinker<T>, unit: usize, list: impl Fn(&mut 
     let mut size = list(&mut s.now).len() / unit / 2;
     loop {
         let mut at = 0;
-        while (at + 1) * unit <= list(&mut s.now).len() {
+        while (at + 1) * unit <= list(&mut s.now).len() && !s.is_spent() {
             let mut candidate = s.now.clone();
             let elements = list(&mut candidate);
             let to = ((at + size.max(1)) * unit).min(elements.len());
@@ -297,18 +310,22 @@ fn drop_row(bytes: &mut Vec<u8>, state: &mut Vec<u8>, number: usize) {
 
 /// Fewer records and an ample reply area.
 fn shrink_call(s: &mut Shrinker<Case>, call: usize) {
-    if let Call::Run { .. } | Call::Decide { .. } = s.now.calls[call] {
-        for unit in TRACE_UNITS {
-            drop_parts(s, unit, move |case| {
-                case.calls[call]
-                    .records_mut()
-                    .expect("the call has a trace")
-            });
+    match s.now.calls[call] {
+        Call::Run { .. } | Call::Decide { .. } => {
+            for unit in TRACE_UNITS {
+                drop_parts(s, unit, move |case| {
+                    case.calls[call]
+                        .records_mut()
+                        .expect("the call has a trace")
+                });
+            }
         }
+        Call::Join { .. } => shrink_join(s, call),
+        Call::Begin { .. } | Call::Step { .. } => {}
     }
     let mut candidate = s.now.clone();
     let (reply, ample) = match &mut candidate.calls[call] {
-        Call::Begin { reply } => (reply, 16),
+        Call::Begin { reply } | Call::Join { reply, .. } => (reply, 16),
         Call::Step { reply, .. } | Call::Run { reply, .. } => (reply, 24),
         Call::Decide { reply, .. } => (reply, 32),
     };
@@ -318,20 +335,81 @@ fn shrink_call(s: &mut Shrinker<Case>, call: usize) {
     }
 }
 
+/// The logs of a join, and the length of its trace buffer.
+fn join_parts(case: &mut Case, call: usize) -> (&mut [Vec<u8>; 2], &mut usize) {
+    match &mut case.calls[call] {
+        Call::Join { logs, trace, .. } => (logs, trace),
+        _ => panic!("the call is a join"),
+    }
+}
+
+/// Fewer records in either log, lower numbers, and a trace buffer of just the length.
+fn shrink_join(s: &mut Shrinker<Case>, call: usize) {
+    for log in 0..2 {
+        for unit in [logs::RECORD, 1] {
+            drop_parts(s, unit, move |case| &mut join_parts(case, call).0[log]);
+        }
+    }
+    close_gaps(s, call);
+    let mut candidate = s.now.clone();
+    let (logs, trace) = join_parts(&mut candidate, call);
+    let need = logs::trace_bytes(logs);
+    if *trace != need {
+        *trace = need;
+        s.offer(candidate);
+    }
+}
+
+/// Takes numbers that neither log has away, as many as will do, and as many records of the buffer.
+fn close_gaps(s: &mut Shrinker<Case>, call: usize) {
+    let (logs, _) = join_parts(&mut s.now, call);
+    let numbers: BTreeSet<u16> = logs.iter().flat_map(|log| logs::numbers(log)).collect();
+    let (mut before, mut lowered) = (0, 0);
+    for number in numbers.into_iter().filter(|number| *number > 0) {
+        let mut gap = number - before - 1;
+        let mut step = gap;
+        while step > 0 && !s.is_spent() {
+            let mut candidate = s.now.clone();
+            let (logs, trace) = join_parts(&mut candidate, call);
+            for log in logs {
+                logs::lower(log, number - lowered, step);
+            }
+            *trace = trace.saturating_sub(Form::Wide.record_bytes() * usize::from(step));
+            if s.offer(candidate) {
+                gap -= step;
+                lowered += step;
+                step = step.min(gap);
+            } else {
+                step /= 2;
+            }
+        }
+        before = number;
+    }
+}
+
 /// The lists of bytes in a case: the start's, the state, those of the calls.
 fn byte_lists(case: &mut Case) -> Vec<&mut Vec<u8>> {
     let mut lists = match &mut case.start {
         Start::Contract { bytes, .. } => vec![bytes],
         Start::Image { bytes, state } => vec![bytes, state],
     };
-    lists.extend(case.calls.iter_mut().filter_map(Call::records_mut));
+    lists.extend(case.calls.iter_mut().flat_map(Call::given_mut));
     lists
+}
+
+/// The bytes that a case lends to join; those of other calls are few.
+fn lent_bytes(case: &Case) -> usize {
+    let of_call = |call: &Call| match call {
+        Call::Join { logs, trace, .. } => logs[0].len() + logs[1].len() + trace,
+        _ => 0,
+    };
+    case.calls.iter().map(of_call).sum()
 }
 
 fn zero_bytes(s: &mut Shrinker<Case>) {
     for list in 0..byte_lists(&mut s.now).len() {
         for at in 0..byte_lists(&mut s.now)[list].len() {
-            if byte_lists(&mut s.now)[list][at] != 0 {
+            if byte_lists(&mut s.now)[list][at] != 0 && !s.is_spent() {
                 let mut candidate = s.now.clone();
                 byte_lists(&mut candidate)[list][at] = 0;
                 s.offer(candidate);
@@ -413,6 +491,70 @@ mod tests {
             panic!("a lone decide");
         };
         assert_eq!((trace.as_slice(), *reply), (&[0; 12][..], 32));
+    }
+
+    /// The logs and the lengths of a lone join.
+    fn lone_join(case: &Case) -> ([&[u8]; 2], usize, usize) {
+        let [Call::Join { logs, trace, reply }] = &case.calls[..] else {
+            panic!("a lone join");
+        };
+        ([&logs[0], &logs[1]], *trace, *reply)
+    }
+
+    /// A random case with a join that differs, made smaller.
+    fn smaller_join(differs: impl Fn(&[Vec<u8>; 2]) -> bool) -> Case {
+        let differs = |case: &Case| {
+            let join = |call: &Call| matches!(call, Call::Join { logs, .. } if differs(logs));
+            case.calls.iter().any(join)
+        };
+        let found = (1..).map(Case::of_seed).find(differs);
+        case(found.expect("such a case is drawn"), &mut |case| {
+            differs(case)
+        })
+    }
+
+    #[test]
+    fn a_join_gets_small() {
+        let smaller = smaller_join(|logs| logs[0].len() >= 24 && logs[1].len() >= 9);
+        assert_eq!(lone_join(&smaller), ([&[0; 24][..], &[0; 9]], 0, 16));
+    }
+
+    #[test]
+    fn numbers_get_low() {
+        // Two records in either log, and a number above 300 that both have.
+        let common = |logs: &[Vec<u8>; 2]| {
+            let [one, two] = logs.each_ref().map(|log| {
+                let numbers = logs::numbers(log);
+                numbers.collect::<BTreeSet<u16>>()
+            });
+            let common = one.intersection(&two).any(|number| *number > 300);
+            common && one.len() >= 2 && two.len() >= 2
+        };
+        let smaller = smaller_join(common);
+        let ([one, two], trace, reply) = lone_join(&smaller);
+        let lengths = [one.len(), two.len()];
+        assert_eq!((lengths, reply), ([2 * logs::RECORD; 2], 16));
+        let greatest = |log| logs::numbers(log).max();
+        assert_eq!([one, two].map(greatest), [Some(301); 2]);
+        assert_eq!(trace, logs::trace_bytes(&[one.to_vec(), two.to_vec()]));
+    }
+
+    #[test]
+    fn long_cases_count_as_several() {
+        let mut long = Case::of_seed(1);
+        long.calls = vec![Call::Join {
+            logs: [vec![0; 500_000], vec![0; 500_000]],
+            trace: 600_000,
+            reply: 16,
+        }];
+        let mut tried = 0;
+        case(long, &mut |_| {
+            tried += 1;
+            false
+        });
+        // What is offered is shorter than the case.
+        let least = MAX_TRIED / (1 + 1_600_000 / LONG_CASE);
+        assert!((least..2 * least).contains(&tried), "{tried}");
     }
 
     #[test]

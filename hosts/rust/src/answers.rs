@@ -1,15 +1,15 @@
-//! The five calls with a reply area of the right length, and what the reply says.
+//! The six calls with a reply area of the right length, and what the reply says.
 //!
 //! Four things are proved of the calls and taken for granted here, by a panic where they fail: the
-//! result is 1 where the reply has room; a number other than 0 is one of the refusals 1 to 12;
-//! verdict, outcome and blame of an accepted call are numbers of verdicts, outcomes and blames; a
-//! state that begin, step or run accepted is left sound.
+//! result is 1 where the reply has room; a number other than 0 is one of the refusals 1 to 12 and
+//! 14 to 16; verdict, outcome and blame of an accepted call are numbers of verdicts, outcomes and
+//! blames; a state that begin, step or run accepted is left sound.
 
 use core::num::NonZeroU32;
 
 use crate::{calls, Blame, DecideReply, Fault, Outcome, Refusal, Reply, RunReply, Verdict};
 
-/// The bytes of compile's and begin's reply.
+/// The bytes of compile's, begin's and join's reply.
 const SHORT_REPLY: usize = 16;
 /// The bytes of step's and run's reply.
 const LONG_REPLY: usize = 24;
@@ -63,6 +63,14 @@ pub fn decide(image: &[u8], trace: &[u8]) -> Result<DecideReply, Refusal> {
     })
 }
 
+/// The trace's record count.
+pub fn join(log1: &[u8], log2: &[u8], trace: &mut [u8]) -> Result<u32, Refusal> {
+    let mut reply = [0; SHORT_REPLY];
+    let result = calls::join(log1, log2, trace, &mut reply);
+    accepted(result, &reply)?;
+    Ok(u32_at(&reply, 4))
+}
+
 /// How many periods a state has taken.
 pub fn periods(state: &[u8]) -> u32 {
     u32_at(state, 2)
@@ -88,7 +96,7 @@ fn accepted(result: u32, reply: &[u8]) -> Result<(), Refusal> {
     match u32_at(reply, 0) {
         0 => Ok(()),
         number => Err(Refusal {
-            fault: Fault::from_number(number).expect("a refusal is 1 to 12"),
+            fault: Fault::from_number(number).expect("a call gives such a refusal"),
             place: u64::from(u32_at(reply, 8)) | u64::from(u32_at(reply, 12)) << 32,
         }),
     }

@@ -1,4 +1,4 @@
-//! The five calls as the archive has them, on byte slices of any length.
+//! The six calls as the archive has them, on byte slices of any length.
 //!
 //! The result is 1, or 0 where the reply area is too short: then nothing is written. A refusal
 //! writes the reply alone. Every field is low byte first:
@@ -9,6 +9,7 @@
 //! | begin | number | 0 | place | | | | |
 //! | step, run | number | verdict | place | blame | decision period | | |
 //! | decide | number | outcome | place | blame | decision period | records read | 0 |
+//! | join | number | records | place | | | | |
 //!
 //! That the areas of one call don't overlap, the borrow checker sees to.
 
@@ -58,6 +59,17 @@ mod archive {
             image: *const u8,
             image_length: usize,
             trace: *const u8,
+            trace_length: usize,
+            reply: *mut u8,
+            reply_length: usize,
+        ) -> u32;
+
+        pub fn monitor_join(
+            log1: *const u8,
+            log1_length: usize,
+            log2: *const u8,
+            log2_length: usize,
+            trace: *mut u8,
             trace_length: usize,
             reply: *mut u8,
             reply_length: usize,
@@ -139,6 +151,24 @@ pub fn decide(image: &[u8], trace: &[u8], reply: &mut [u8]) -> u32 {
             image.as_ptr(),
             image.len(),
             trace.as_ptr(),
+            trace.len(),
+            reply.as_mut_ptr(),
+            reply.len(),
+        )
+    }
+}
+
+/// Joins two logs into a trace of wide records, in the first bytes of the buffer. Its reply has 16
+/// bytes.
+pub fn join(log1: &[u8], log2: &[u8], trace: &mut [u8], reply: &mut [u8]) -> u32 {
+    // SAFETY: as in `compile`.
+    unsafe {
+        archive::monitor_join(
+            log1.as_ptr(),
+            log1.len(),
+            log2.as_ptr(),
+            log2.len(),
+            trace.as_mut_ptr(),
             trace.len(),
             reply.as_mut_ptr(),
             reply.len(),

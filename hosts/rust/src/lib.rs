@@ -1,11 +1,11 @@
-//! The plugin contract monitor for hosts in Rust: a safe wrapper over its five calls.
+//! The plugin contract monitor for hosts in Rust: a safe wrapper over its six calls.
 //!
 //! A contract binds two parties, say a plugin and the host that runs it. In each period (say a
 //! recalculation) each party tries some actions; an action succeeds when both try it. The monitor
 //! is given both parties' attempts and says whether the contract is open, met or broken, since
 //! which period, and who is to blame. `docs/FORMAT.md` says what contracts, periods, images and
 //! states are; it says what "document 01" says, which these pages cite, and of deadlines, joint
-//! duties, decide and thirty-two actions document 02.
+//! duties, decide, thirty-two actions and logs document 02.
 //!
 //! A host builds a [`Clause`] and makes a [`Contract`] from it, compiles that to an [`Image`] once,
 //! begins a [`Monitor`] for each spreadsheet under the contract, and steps each of them with
@@ -76,9 +76,28 @@
 //! # }
 //! ```
 //!
+//! [`join`] makes the periods from two logs, one of each party, which are lists of [`LogRecord`]s;
+//! [`join_bytes`] does so from stored ones:
+//!
+//! ```
+//! # use monitor::{join_bytes, Action, Clause, Contract, Image, Party, Refusal};
+//! # fn main() -> Result<(), Refusal> {
+//! # const VALUES: Action = Action::new(0).unwrap();
+//! # let image = Image::compile(Contract::from(Clause::duty(Party::One, VALUES).repeat()))?;
+//! # let plugin_log = *b"TL\x01\0\x01\0\0\0TL\x02\0\x01\0\0\0";
+//! # let host_log = *b"TL\x01\0\x01\0\0\0TL\x03\0\x01\0\0\0";
+//! let periods = join_bytes(&plugin_log, &host_log)?;
+//! let decided = image.decide(&periods)?;
+//! println!("{} after {} of {} periods", decided.outcome, decided.records, periods.len());
+//! # assert_eq!((decided.blame, decided.records), (Some(monitor::Blame::Two), 2));
+//! # assert_eq!(periods.len(), 3);
+//! # Ok(())
+//! # }
+//! ```
+//!
 //! Buffers have the right size by construction: only bytes that come from elsewhere can be refused
-//! for their length. [`calls`] has the five calls themselves, on byte slices. The crate needs no
-//! `std`, only `alloc`; the archive is x86-64 code.
+//! for their length, and a log of too many records. [`calls`] has the six calls themselves, on byte
+//! slices. The crate needs no `std`, only `alloc`; the archive is x86-64 code.
 
 #![no_std]
 #![deny(unsafe_code)]
@@ -91,6 +110,7 @@ mod answers;
 pub mod calls;
 mod contract;
 mod image;
+mod logs;
 mod monitor;
 mod period;
 mod refusal;
@@ -99,6 +119,7 @@ mod tree;
 
 pub use crate::contract::{Action, Contract, Owner, Party, Record, Window};
 pub use crate::image::Image;
+pub use crate::logs::{join, join_bytes, LogRecord};
 pub use crate::monitor::Monitor;
 pub use crate::period::Period;
 pub use crate::refusal::{Fault, Refusal};

@@ -173,6 +173,13 @@ impl Period {
         // many bytes in a row, and they are borrowed for as long as the list.
         unsafe { slice::from_raw_parts(periods.as_ptr().cast(), size_of_val(periods)) }
     }
+
+    /// The same bytes, to be written as wide records.
+    #[allow(unsafe_code)]
+    pub(crate) fn trace_mut(periods: &mut [Period]) -> &mut [u8] {
+        // SAFETY: as in `trace`, and any bytes are a period as far as memory goes.
+        unsafe { slice::from_raw_parts_mut(periods.as_mut_ptr().cast(), size_of_val(periods)) }
+    }
 }
 
 /// Refusal 11 at that record.

@@ -3,7 +3,10 @@
 use core::error::Error;
 use core::fmt;
 
-/// What a call, or the reading of a record, was refused for: document 01's numbers 1 to 12.
+use crate::Party;
+
+/// What a call, or the reading of a record, was refused for: numbers 1 to 12 and 14 to 16 of
+/// documents 01 and 02.
 ///
 /// Number 13 is the program `watch`'s alone, for an input that is too long; no call gives it.
 #[derive(Clone, Copy, Debug, PartialEq, Eq, Hash)]
@@ -39,10 +42,19 @@ pub enum Fault {
     /// Periods taken would pass 4,294,967,295, or a trace to decide has more records. Place: the
     /// first record too many.
     FullCount = 12,
+    /// A log's length is wrong: no multiple of 8 bytes, or over 65,535 records. Place: 0. Or a log
+    /// record has a wrong mark or period 0. Place in this and the next: the record in its own log,
+    /// with 65,536 added for log 2, which [`Refusal::log_record`] takes apart.
+    BadLog = 14,
+    /// A log record's period number is not above the one before it.
+    OutOfOrder = 15,
+    /// The trace buffer is too short. Place: 0. [`join`](crate::join) always has room; the call in
+    /// [`calls`](crate::calls) gives it.
+    ShortTrace = 16,
 }
 
 impl Fault {
-    /// The fault of this number, if it is 1 to 12.
+    /// The fault of this number, if it is 1 to 12 or 14 to 16.
     #[must_use]
     pub const fn from_number(number: u32) -> Option<Fault> {
         Some(match number {
@@ -58,11 +70,14 @@ impl Fault {
             10 => Fault::BadState,
             11 => Fault::BadPeriod,
             12 => Fault::FullCount,
+            14 => Fault::BadLog,
+            15 => Fault::OutOfOrder,
+            16 => Fault::ShortTrace,
             _ => return None,
         })
     }
 
-    /// 1 to 12.
+    /// 1 to 12 or 14 to 16.
     #[must_use]
     pub const fn number(self) -> u32 {
         self as u32
@@ -86,9 +101,51 @@ pub struct Refusal {
     pub place: u64,
 }
 
+/// What is added to the place of a record of log 2.
+const LOG_TWO: u64 = 65_536;
+
+impl Refusal {
+    /// The log record that refusal 14 or 15 is about: whose log, and the record in it, counted from
+    /// 0. `None` for other faults, and for 14 at place 0: that is a bad length of either log, or
+    /// record 0 of log 1, and the place doesn't tell which;
+    /// [`LogRecord::read_log`](crate::LogRecord::read_log) does, on each log alone.
+    ///
+    /// ```
+    /// use monitor::{join_bytes, Fault, Party};
+    ///
+    /// let good = [0x54, 0x4c, 1, 0, 1, 0, 0, 0];
+    /// let period_0 = [0x54, 0x4c, 0, 0, 1, 0, 0, 0];
+    /// let refusal = join_bytes(&good, &[good, period_0].concat()).unwrap_err();
+    /// assert_eq!((refusal.fault, refusal.place), (Fault::BadLog, 65_537));
+    /// assert_eq!(refusal.log_record(), Some((Party::Two, 1)));
+    ///
+    /// let bad_length = join_bytes(&good, &good[..7]).unwrap_err();
+    /// assert_eq!((bad_length.place, bad_length.log_record()), (0, None));
+    /// ```
+    #[must_use]
+    pub const fn log_record(&self) -> Option<(Party, u64)> {
+        match (self.fault, self.place) {
+            (Fault::BadLog, 0) => None,
+            (Fault::BadLog | Fault::OutOfOrder, place) => Some(in_log(place)),
+            _ => None,
+        }
+    }
+}
+
+/// Whose log a record of this place is in, and its number there.
+const fn in_log(place: u64) -> (Party, u64) {
+    if place < LOG_TWO {
+        (Party::One, place)
+    } else {
+        (Party::Two, place - LOG_TWO)
+    }
+}
+
 impl fmt::Display for Refusal {
     fn fmt(&self, f: &mut fmt::Formatter<'_>) -> fmt::Result {
         let place = self.place;
+        let (party, record) = in_log(place);
+        let log = party.number();
         match self.fault {
             Fault::BadLength => f.write_str("the contract is not 1 to 64 records of 6 bytes"),
             Fault::BadMark => write!(f, "record {place}: wrong mark"),
@@ -118,6 +175,17 @@ impl fmt::Display for Refusal {
             Fault::FullCount => {
                 write!(f, "period record {place}: no more periods can be counted")
             }
+            Fault::BadLog if place == 0 => f.write_str(
+                "a log is of wrong length, or record 0 of log 1 has a wrong mark or period 0",
+            ),
+            Fault::BadLog => write!(f, "log {log}, record {record}: wrong mark, or period 0"),
+            Fault::OutOfOrder => {
+                write!(
+                    f,
+                    "log {log}, record {record}: its number is not above the one before it"
+                )
+            }
+            Fault::ShortTrace => f.write_str("the trace buffer is too short"),
         }?;
         write!(f, " (refusal {})", self.fault.number())
     }

@@ -3,8 +3,8 @@
 use std::num::NonZeroU32;
 
 use monitor::{
-    Action, Blame, Clause, Contract, DecideReply, Expression, Image, Monitor, Owner, Party, Period,
-    Record, Refusal, Reply, RunReply, Verdict, Window,
+    Action, Blame, Clause, Contract, DecideReply, Expression, Image, LogRecord, Monitor, Owner,
+    Party, Period, Record, Refusal, Reply, RunReply, Verdict, Window,
 };
 
 mod common;
@@ -255,7 +255,8 @@ fn every_type_crosses_threads() {
     fn crosses<T: Send + Sync>() {}
     crosses::<Image>();
     crosses::<Monitor>();
-    crosses::<(Clause, Expression, Record, Contract, Owner, Period, Window)>();
+    crosses::<(Clause, Expression, Record, Contract, Owner, Window)>();
+    crosses::<(Period, LogRecord)>();
     crosses::<(Reply, RunReply, DecideReply, Refusal)>();
 }
 

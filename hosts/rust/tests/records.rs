@@ -249,10 +249,11 @@ fn blames_have_document_01s_numbers() {
 }
 
 #[test]
-fn faults_have_document_01s_numbers() {
-    for number in 1..=12 {
+fn faults_have_the_documents_numbers() {
+    for number in (1..=12).chain(14..=16) {
         assert_eq!(Fault::from_number(number).unwrap().number(), number);
     }
-    assert_eq!(Fault::from_number(0), None);
-    assert_eq!(Fault::from_number(13), None);
+    for number in [0, 13, 17] {
+        assert_eq!(Fault::from_number(number), None);
+    }
 }

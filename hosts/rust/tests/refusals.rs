@@ -1,4 +1,5 @@
-//! The table of refusals in documents 01 and 02: the small input of each, and a few more.
+//! The table of refusals in documents 01 and 02: the small input of each, and a few more. Those of
+//! join, 14 to 16, are in `joining.rs`.
 
 use monitor::{
     calls, Action, Blame, Contract, Fault, Image, Monitor, Owner, Party, Period, Record, Refusal,
@@ -384,10 +385,33 @@ fn refusals_in_words() {
         "the state is of wrong length, or not sound (refusal 10)",
         "period record 2: wrong mark or length (refusal 11)",
         "period record 2: no more periods can be counted (refusal 12)",
+        "log 1, record 2: wrong mark, or period 0 (refusal 14)",
+        "log 1, record 2: its number is not above the one before it (refusal 15)",
+        "the trace buffer is too short (refusal 16)",
     ];
-    for (number, words) in (1..).zip(words) {
-        let fault = Fault::from_number(number).unwrap();
+    let faults: Vec<Fault> = (0..100).filter_map(Fault::from_number).collect();
+    assert_eq!(faults.len(), words.len());
+    for (fault, words) in faults.into_iter().zip(words) {
         assert_eq!(Refusal { fault, place: 2 }.to_string(), words);
+    }
+    for (fault, place, words) in [
+        (
+            Fault::BadLog,
+            0,
+            "a log is of wrong length, or record 0 of log 1 has a wrong mark or period 0 (refusal 14)",
+        ),
+        (
+            Fault::BadLog,
+            65_536,
+            "log 2, record 0: wrong mark, or period 0 (refusal 14)",
+        ),
+        (
+            Fault::OutOfOrder,
+            65_539,
+            "log 2, record 3: its number is not above the one before it (refusal 15)",
+        ),
+    ] {
+        assert_eq!(Refusal { fault, place }.to_string(), words);
     }
     let error: Box<dyn std::error::Error> = compile(&[]).unwrap_err().into();
     assert_eq!(error.to_string(), words[0]);

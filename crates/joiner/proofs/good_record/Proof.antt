@@ -1,6 +1,12 @@
 -- `joiner::good_record` meets its contract: the mark, then the number.
+use Rattle.joiner.specs.Limits.{logRecordBytes}
+use Rattle.records.specs.Marks.{logMark, marked}
+use lib.Dec.{eqb}
+use mathlib.Core.Path.{_≡_}
+use mathlib.Core.Bool.{not}
+use Prim.Native.Nat.{_*_}
 use borrow.Author.Needs.{needs}
-use Rattle.joiner.specs.Logs.{goodRecord}
+use Rattle.joiner.specs.Logs.{numberAt, goodRecord}
 use Rattle.joiner.proofs.good_record.Statement.{statement}
 use Rattle.joiner.proofs.good_record.Tie as tie
 
@@ -15,11 +21,20 @@ number-at-requires c κs = search needs
 
 returns : tie.Need-returns
 unfolding goodRecord
-returns c = rw (← c .before .before .before .record-start .ensures .0, ← c .before .before .marked .ensures, c .before .if1 .taken, c .number-at .ensures .0)
+returns c =
+    let p = c .before .before in
+    let a = p .before .before .before .args in
+    let m : p .marked .result ≡ marked (a .log .now) (logRecordBytes * a .k) logMark = rw (p .before .record-start .ensures .0) at (p .marked .ensures) in
+    let n : not (eqb (c .number-at .result) 0) ≡ not (eqb (numberAt (a .log .now) (a .k)) 0) = rw (c .number-at .ensures .0) in
+    rw (← m, c .before .if1 .taken) n
 
 returns-2 : tie.Need-returns-2
 unfolding goodRecord
-returns-2 c = rw (← c .before .before .record-start .ensures .0, ← c .before .marked .ensures, c .if1 .left)
+returns-2 c =
+    let p = c .before in
+    let a = p .before .before .before .args in
+    let m : p .marked .result ≡ marked (a .log .now) (logRecordBytes * a .k) logMark = rw (p .before .record-start .ensures .0) at (p .marked .ensures) in
+    rw (← m, c .if1 .left)
 
 pub good-record-spec : {M : Type 1} → statement M
 good-record-spec =

@@ -1,8 +1,8 @@
 -- `joiner::length_test` meets its contract: two comparisons.
-use Rattle.joiner.specs.Limits.{maxLogRecords}
-use Prim.Native.Nat.{_<_, _≤_}
 use borrow.Author.Needs.{needs}
+use Prim.Native.Nat.{_<_, _≤_}
 use borrow.Author.Tests.{eq-eqb, ne-eqb, le-leb, lt-leb}
+use Rattle.joiner.specs.Limits.{maxLogRecords}
 use Rattle.joiner.specs.Refusals.{lengthTest}
 use Rattle.joiner.proofs.length_test.Statement.{statement}
 use Rattle.joiner.proofs.length_test.Tie as tie

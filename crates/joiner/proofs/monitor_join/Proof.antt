@@ -40,9 +40,6 @@ returns-2 c =
 put-trace-requires : tie.Need-put-trace-requires
 put-trace-requires c κs = let t = c .before in sym (t .before .before .join-test .ensures) ∙ t .enum-told .given .1
 
-joined-count-requires : tie.Need-joined-count-requires
-joined-count-requires c κs = search needs
-
 put-head-requires-2 : tie.Need-put-head-requires-2
 put-head-requires-2 c κs = search needs
 
@@ -56,12 +53,12 @@ returns-3 : tie.Need-returns-3
 unfolding join
 returns-3 c =
     let p = c .before .before in
-    let n = p .before in
-    let w = c .before .before .before .before .before .before .before in
+    let w = p .before .before .before .before in
     let t = w .before .before in
     let b = t .before .before in
+    let passed = t .enum-told .given .1 in
     rw (← b .join-test .ensures)
-    (gives-passed (b .join-test .result) _ _ _ _ (b .before .before .if1 .left) (t .enum-told .given .1) _ _ (w .put-trace .ensures) (rw (t .enum-told .given .1, n .joined-count .ensures .0) at (p .put-head2 .ensures)))
+    (gives-passed (b .join-test .result) _ _ _ _ (b .before .before .if1 .left) passed _ _ (w .put-trace .ensures .0) (rw (passed, w .put-trace .ensures .1) at (p .put-head2 .ensures)))
 
 pub monitor-join-spec : {M : Type 1} → statement M
 monitor-join-spec =
@@ -76,7 +73,6 @@ monitor-join-spec =
     same-length-2
     returns-2
     put-trace-requires
-    joined-count-requires
     put-head-requires-2
     same-length-3
     same-length-4

@@ -1,16 +1,16 @@
 -- `joiner::put_trace` meets its contract: after p periods their records are written, and each log stands at its next record.
-use Rattle.joiner.specs.Merging.{attemptsNext}
-use Rattle.records.specs.Marks.{wideMark}
-use Rattle.records.specs.Fields.{bytes}
 use Prim.Native.Nat.{_+_, _-_, _*_, _^_, _≤_, _<_}
 use native.Mathlib.Omega.{arith}
 use mathlib.Core.Path.{_≡_}
 use lib.ListN.{length}
 use lib.Seq.{sets, length-sets}
+use Rattle.records.specs.Marks.{wideMark}
+use Rattle.records.specs.Fields.{bytes}
 use Rattle.periods.specs.declared.Form.the-variants.{Wide}
 use Rattle.periods.specs.Forms.{periodBytes}
 use Rattle.joiner.specs.Joined.{joinedCount}
-use Rattle.joiner.proofs.Refusals.{good-logs, logs-passed, has-room}
+use Rattle.joiner.specs.Merging.{attemptsNext}
+use Rattle.joiner.proofs.Refusals.{rising-logs, logs-passed, has-room}
 use Rattle.joiner.proofs.Writing.{Merged, merged-first, merged-next, merged-length}
 use Rattle.joiner.proofs.put_trace.Statement.{statement}
 use Rattle.joiner.proofs.put_trace.Tie as tie
@@ -27,7 +27,7 @@ joined-count-requires c κs = tt
 loop-holds : tie.Need-loop-holds Inv-loop μ-loop
 loop-holds c =
     let a = c .before .before .before .before in
-    let g = good-logs _ _ (logs-passed _ _ _ (a .pre)) in
+    let g = rising-logs _ _ (logs-passed _ _ _ (a .pre)) in
     (c .joined-count .ensures .0, c .joined-count .ensures .1, omega arith, merged-first (a .args .log1 .now) (a .args .log2 .now) (a .args .trace .now) (g .0) (g .1))
 
 period-bytes-requires : tie.Need-period-bytes-requires Inv-loop μ-loop
@@ -88,7 +88,7 @@ loop-again c =
     let test = size .before in
     let p = test .before in
     let a = p .before .before .before .before .before in
-    let g = good-logs _ _ (logs-passed _ _ _ (a .pre)) in
+    let g = rising-logs _ _ (logs-passed _ _ _ (a .pre)) in
     let at = periodBytes Wide * p .loop .p in
     let marks : mark .put-mark .last .0 ≡ sets (p .loop .trace) at wideMark = rw (size .period-bytes .ensures) at (mark .put-mark .ensures) in
     let attempts1 : one .put-attempts .last .1 .1 .1 .0
@@ -112,7 +112,7 @@ returns c =
     let l = c .before .loop in
     let a = c .before .before .before .before .before .before .args in
     let e : l .p ≡ joinedCount (a .log1 .now) (a .log2 .now) = omega (arith, l .inv .0) in
-    rw (← e) (l .inv .3 .written)
+    (rw (← e) (l .inv .3 .written), l .inv .0)
 
 pub put-trace-spec : {M : Type 1} → statement M
 put-trace-spec =

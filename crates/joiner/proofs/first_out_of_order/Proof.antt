@@ -1,4 +1,4 @@
--- `joiner::first_falling` meets its contract: the numbers of the records before k rise.
+-- `joiner::first_out_of_order` meets its contract: the numbers of the records before k rise.
 use Prim.Native.Nat.{_-_, _≤_}
 use native.Mathlib.Nat.{sub-zero}
 use native.Mathlib.Omega.{arith}
@@ -6,8 +6,8 @@ use mathlib.Core.Path.{_≡_, sym, _∙_}
 use Rattle.records.specs.Refusals.{firstFailing}
 use Rattle.records.proofs.Searches.{failing-next, failing-here, failing-end}
 use Rattle.joiner.specs.Logs.{logRecords, rises}
-use Rattle.joiner.proofs.first_falling.Statement.{statement}
-use Rattle.joiner.proofs.first_falling.Tie as tie
+use Rattle.joiner.proofs.first_out_of_order.Statement.{statement}
+use Rattle.joiner.proofs.first_out_of_order.Tie as tie
 
 abbrev Inv-loop : tie.InvT-loop
 Inv-loop log n k₀ k = (n ≡ logRecords log) × (k ≤ n) × (firstFailing (rises log) 0 n ≡ firstFailing (rises log) k (n - k))
@@ -49,8 +49,8 @@ returns-2 c =
     let log = p .before .before .before .args .log .now in
     rw (← p .loop .inv .0) (sym (p .loop .inv .2 ∙ failing-end (rises log) (p .loop .k) (p .before .log-records .result) (c .loop-test .left)))
 
-pub first-falling-spec : {M : Type 1} → statement M
-first-falling-spec =
+pub first-out-of-order-spec : {M : Type 1} → statement M
+first-out-of-order-spec =
     tie.close
     (tie.spec
     Inv-loop
