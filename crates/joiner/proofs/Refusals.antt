@@ -1,5 +1,5 @@
 -- What the tests of join show, and which faults they can give. Document 02, "Join the two parties' logs".
-use Prim.Native.Nat.{ℕ, suc, _*_, _%_, _<_, _≤_}
+use Prim.Native.Nat.{ℕ, suc, _+_, _*_, _%_, _<_, _≤_}
 use native.Mathlib.Omega.{arith}
 use mathlib.Core.Bool.{Bool, true, _&&_, and-eq-true-iff}
 use mathlib.Core.List.{List, [], _∷_}
@@ -11,9 +11,9 @@ use Rattle.records.specs.Marks.{logMark, marked}
 use Rattle.records.specs.declared.Fault.{Fault}
 use Rattle.records.specs.declared.Fault.the-variants.{BadLog, OutOfOrder, ShortTrace}
 use Rattle.records.specs.declared.Test.the-variants.{Passed}
-use Rattle.records.specs.Refusals.{require, firstFailing}
+use Rattle.records.specs.Refusals.{firstFailing}
 use Rattle.records.proofs.Searches.{all-passed}
-use Rattle.records.proofs.Refusals.{first-passed, passed-first, require-passed, onlyFor, only-require, only-first}
+use Rattle.records.proofs.Refusals.{first-passed, passed-first, require-passed, among, onlyFor, only-require, only-first}
 use Rattle.periods.specs.declared.Form.the-variants.{Wide}
 use Rattle.periods.specs.Forms.{periodBytes}
 use Rattle.joiner.specs.Limits.{logRecordBytes, maxLogRecords, log1Place, log2Place}
@@ -24,21 +24,25 @@ use Rattle.joiner.proofs.Logs.{RisingLog}
 
 -- ---- what they show
 
--- a search that finds none, of a test that is passed
-none-found : (ok : ℕ → Bool) (n : ℕ) (f : Fault) (p : ℕ) → require (eqb (firstFailing ok 0 n) n) f p ≡ Passed → (i : ℕ) → i < n → ok i ≡ true
-none-found ok n f p e = all-passed ok n (eqb-true (firstFailing ok 0 n) n (require-passed (eqb (firstFailing ok 0 n) n) f p e))
+-- each record passes, where the test does
+none-found : (ok : ℕ → Bool) (f : Fault) (log : List ℕ) (first : ℕ) → recordsTest ok f log first ≡ Passed → (k : ℕ) → k < logRecords log → ok k ≡ true
+unfolding recordsTest
+none-found ok f log first e =
+    let n = logRecords log in
+    let bad = firstFailing ok 0 n in
+    all-passed ok n (eqb-true bad n (require-passed (eqb bad n) f (first + bad) e))
 
 module _ (log : List ℕ) (first : ℕ) where
   numbered : logTest log first ≡ Passed → (k : ℕ) → k < logRecords log → 0 < numberAt log k
-  unfolding logTest recordsTest goodRecord
+  unfolding logTest goodRecord
   numbered e k h =
-      let good = none-found (goodRecord log) (logRecords log) BadLog _ (first-passed (lengthTest log) (recordsTest log first) e .1) k h in
+      let good = none-found (goodRecord log) BadLog log first (first-passed (lengthTest log) _ e .1) k h in
       let other = eqb-false (numberAt log k) 0 (not-true (eqb (numberAt log k) 0) (and-eq-true-iff (marked log (logRecordBytes * k) logMark) _ .0 good .1)) in
       omega arith
 
   ordered : orderTest log first ≡ Passed → (k : ℕ) → suc k < logRecords log → numberAt log k < numberAt log (suc k)
   unfolding orderTest rises
-  ordered e k h = ltb-true (numberAt log k) (numberAt log (suc k)) (none-found (rises log) (logRecords log) OutOfOrder _ e (suc k) h)
+  ordered e k h = ltb-true (numberAt log k) (numberAt log (suc k)) (none-found (rises log) OutOfOrder log first e (suc k) h)
 
   pub rising-log : logTest log first ≡ Passed → orderTest log first ≡ Passed → RisingLog log
   rising-log e o = record { from-1 = numbered e; rising = ordered o }
@@ -53,19 +57,21 @@ rising-logs log1 log2 e =
     (rising-log log1 log1Place (a .0) (c .0), rising-log log2 log2Place (b .0) (c .1))
 
 -- good logs pass at other places too, so they may be exchanged
-passes-anywhere : (ok : Bool) (f : Fault) (p q : ℕ) → require ok f p ≡ Passed → require ok f q ≡ Passed
-passes-anywhere ok f p q e = rw (require-passed ok f p e)
+records-anywhere : (ok : ℕ → Bool) (f : Fault) (log : List ℕ) (p q : ℕ) → recordsTest ok f log p ≡ Passed → recordsTest ok f log q ≡ Passed
+unfolding recordsTest
+records-anywhere ok f log p q e =
+    let bad = firstFailing ok 0 (logRecords log) in
+    rw (require-passed (eqb bad (logRecords log)) f (p + bad) e)
 
 log-anywhere : (log : List ℕ) (p q : ℕ) → logTest log p ≡ Passed → logTest log q ≡ Passed
-unfolding logTest recordsTest
+unfolding logTest
 log-anywhere log p q e =
-    let t = first-passed (lengthTest log) (recordsTest log p) e in
-    let good = eqb (firstFailing (goodRecord log) 0 (logRecords log)) (logRecords log) in
-    passed-first (lengthTest log) (recordsTest log q) (t .0) (passes-anywhere good BadLog _ _ (t .1))
+    let t = first-passed (lengthTest log) _ e in
+    passed-first (lengthTest log) _ (t .0) (records-anywhere (goodRecord log) BadLog log p q (t .1))
 
 order-anywhere : (log : List ℕ) (p q : ℕ) → orderTest log p ≡ Passed → orderTest log q ≡ Passed
 unfolding orderTest
-order-anywhere log p q e = passes-anywhere (eqb (firstFailing (rises log) 0 (logRecords log)) (logRecords log)) OutOfOrder _ _ e
+order-anywhere log p q e = records-anywhere (rises log) OutOfOrder log p q e
 
 pub exchanged-logs : (log1 log2 : List ℕ) → logsTest log1 log2 ≡ Passed → logsTest log2 log1 ≡ Passed
 unfolding logsTest
@@ -95,16 +101,20 @@ module _ (log1 log2 trace : List ℕ) (e : joinTest log1 log2 trace ≡ Passed) 
 abbrev pub joinFaults : List Fault
 joinFaults = BadLog ∷ OutOfOrder ∷ ShortTrace ∷ []
 
+records-only : (ok : ℕ → Bool) (f : Fault) (log : List ℕ) (first : ℕ) → among joinFaults f ≡ true → onlyFor joinFaults (recordsTest ok f log first) ≡ true
+unfolding recordsTest
+records-only ok f log first h = only-require joinFaults f h (eqb (firstFailing ok 0 (logRecords log)) (logRecords log)) _
+
 log-only : (log : List ℕ) (first : ℕ) → onlyFor joinFaults (logTest log first) ≡ true
-unfolding logTest lengthTest recordsTest
+unfolding logTest lengthTest
 log-only log first =
-    only-first joinFaults (lengthTest log) (recordsTest log first)
+    only-first joinFaults (lengthTest log) _
     (only-require joinFaults BadLog refl (eqb (length log % logRecordBytes) 0 && leb (logRecords log) maxLogRecords) 0)
-    (only-require joinFaults BadLog refl (eqb (firstFailing (goodRecord log) 0 (logRecords log)) (logRecords log)) _)
+    (records-only (goodRecord log) BadLog log first refl)
 
 order-only : (log : List ℕ) (first : ℕ) → onlyFor joinFaults (orderTest log first) ≡ true
 unfolding orderTest
-order-only log first = only-require joinFaults OutOfOrder refl (eqb (firstFailing (rises log) 0 (logRecords log)) (logRecords log)) _
+order-only log first = records-only (rises log) OutOfOrder log first refl
 
 pub join-only : (log1 log2 trace : List ℕ) → onlyFor joinFaults (joinTest log1 log2 trace) ≡ true
 unfolding joinTest logsTest

@@ -2,10 +2,11 @@
 -- and within 15, a log's length before its records". `first` is the place of the log's record 0: "The place is the record in its own log, with
 -- 65,536 added for log 2".
 use Prim.Native.Nat.{ℕ, _+_, _*_, _%_}
-use mathlib.Core.Bool.{_&&_}
+use mathlib.Core.Bool.{Bool, _&&_}
 use mathlib.Core.List.{List}
 use lib.Dec.{eqb, leb}
 use lib.ListN.{length}
+use Rattle.records.specs.declared.Fault.{Fault}
 use Rattle.records.specs.declared.Fault.the-variants.{BadLog, OutOfOrder, ShortTrace}
 use Rattle.records.specs.declared.Test.{Test}
 use Rattle.records.specs.Refusals.{require, firstOf, firstFailing}
@@ -19,21 +20,19 @@ use Rattle.joiner.specs.Joined.{joinedCount}
 unfoldable pub lengthTest : (log : List ℕ) → Test
 lengthTest log = require (eqb (length log % logRecordBytes) 0 && leb (logRecords log) maxLogRecords) BadLog 0
 
--- then "a wrong mark or period 0", the first record with either
-unfoldable pub recordsTest : (log : List ℕ) → (first : ℕ) → Test
-recordsTest log first =
-    let bad = firstFailing (goodRecord log) 0 (logRecords log) in
-    require (eqb bad (logRecords log)) BadLog (first + bad)
+-- a log's records in their order: the first that fails is refused
+unfoldable pub recordsTest : (ok : ℕ → Bool) → Fault → (log : List ℕ) → (first : ℕ) → Test
+recordsTest ok f log first =
+    let bad = firstFailing ok 0 (logRecords log) in
+    require (eqb bad (logRecords log)) f (first + bad)
 
--- 14
+-- 14: then "a wrong mark or period 0"
 unfoldable pub logTest : (log : List ℕ) → (first : ℕ) → Test
-logTest log first = firstOf (lengthTest log) (recordsTest log first)
+logTest log first = firstOf (lengthTest log) (recordsTest (goodRecord log) BadLog log first)
 
--- 15, "a number not above the one before it", the first such record
+-- 15, "a number not above the one before it"
 unfoldable pub orderTest : (log : List ℕ) → (first : ℕ) → Test
-orderTest log first =
-    let bad = firstFailing (rises log) 0 (logRecords log) in
-    require (eqb bad (logRecords log)) OutOfOrder (first + bad)
+orderTest log first = recordsTest (rises log) OutOfOrder log first
 
 -- 14 and 15 of both logs: two good logs pass
 unfoldable pub logsTest : (log1 log2 : List ℕ) → Test

@@ -4,7 +4,7 @@ use native.Mathlib.Omega.{arith}
 use borrow.Author.Tests.{eq-eqb, ne-eqb}
 use Rattle.records.proofs.Searches.{failing-max}
 use Rattle.joiner.specs.Logs.{logRecords, rises}
-use Rattle.joiner.specs.Refusals.{orderTest}
+use Rattle.joiner.specs.Refusals.{recordsTest, orderTest}
 use Rattle.joiner.proofs.Logs.{few-records}
 use Rattle.joiner.proofs.order_test.Statement.{statement}
 use Rattle.joiner.proofs.order_test.Tie as tie
@@ -24,11 +24,11 @@ add-t7 c =
     omega arith
 
 returns : tie.Need-returns
-unfolding orderTest
+unfolding orderTest recordsTest
 returns c = rw (← c .before .before .first-out-of-order .ensures, ← c .before .log-records .ensures, ne-eqb _ _ (c .if1 .taken))
 
 returns-2 : tie.Need-returns-2
-unfolding orderTest
+unfolding orderTest recordsTest
 returns-2 c = rw (← c .before .before .first-out-of-order .ensures, ← c .before .log-records .ensures, eq-eqb _ _ (c .if1 .left))
 
 pub order-test-spec : {M : Type 1} → statement M
