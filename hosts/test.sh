@@ -36,7 +36,7 @@ try_host() {
 # The runner stands without the compiler, the joiner without both, and the two stand together.
 try_host smoke "$runner"
 try_host join "$joiner"
-cc -std=c11 -O2 -o "$built/both" hosts/c/smoke.c -Wl,--whole-archive "$runner" "$joiner" -Wl,--no-whole-archive
+cc -std=c11 -Wall -Wextra -Werror -O2 -o "$built/both" hosts/c/smoke.c -Wl,--whole-archive "$runner" "$joiner" -Wl,--no-whole-archive
 diff -u hosts/c/smoke.expected <("$built/both")
 echo "ok the runner and the joiner in one host"
 try_host samples "$monitor"

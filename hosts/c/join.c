@@ -62,7 +62,8 @@ static void put_record(unsigned period)
     put_bytes(record(&trace, period), PERIOD_BYTES);
 }
 
-/* Whether the logs, exchanged, give the last trace with the parties exchanged in each period, and nothing else. */
+/* Exchanges the logs, and tells whether they then give the last trace with the parties exchanged in each period, and nothing */
+/* else. */
 static int exchanges(struct monitor_join_reply r)
 {
     static struct area meant, first;

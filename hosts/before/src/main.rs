@@ -4,9 +4,8 @@
 //! The earlier archive is linked beside today's where `MONITOR_BEFORE` names its folder at the build.
 //! The first form makes every call of `compare`'s cases with both archives on equal copies of what
 //! is lent, but for decide and join where the earlier one lacks them; all must be the same at the
-//! call's end.
-//! Where one of them reads no wide records, the cases have narrow ones instead, and actions up to 15:
-//! of what is left both mean the same. Case number i is that of the seed S + i, so
+//! call's end. Where one of them reads no wide records, the cases have narrow ones instead, and
+//! actions up to 15: of what is left both mean the same. Case number i is that of the seed S + i, so
 //! `before --seed S --cases 1` repeats one case. The second form times both archives on the
 //! benchmark's inputs, whose records are narrow, and on contracts as they are typed, but for those
 //! that the earlier one alone refuses; the third measures the stack that the calls use.

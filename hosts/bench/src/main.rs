@@ -3,8 +3,9 @@
 //! In one run it times `run` against row machines without checks and against the reference's tree
 //! monitor, `step` and wide records against `run` over narrow ones, compile and run against their
 //! input's length, deadlines against their window, `decide` against `run`, `join` against a merge by
-//! hand, and, where a path is given, the program `watch`. Whatever is timed together is also checked to agree. With `--check` all sizes
-//! are tiny, nothing is printed but the last line, and no time counts.
+//! hand, and, where a path is given, the program `watch`. Whatever is timed together is also checked
+//! to agree. With `--check` all sizes are tiny, nothing is printed but the last line, and no time
+//! counts.
 
 #![forbid(unsafe_code)]
 

@@ -202,7 +202,7 @@ fn same_answers(
     }
 }
 
-/// That lists of the same length are; otherwise the first bytes that differ are told.
+/// That lists of the same length are the same; otherwise the first bytes that differ are told.
 fn same_records(call: &str, what: &str, expected: &[u8], came: &[u8]) -> Result<(), Difference> {
     let pairs = expected.chunks(WIDE).zip(came.chunks(WIDE));
     for (number, (expected, came)) in pairs.enumerate() {

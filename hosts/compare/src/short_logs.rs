@@ -108,7 +108,7 @@ mod tests {
         })
     }
 
-    /// Every place in both logs, and both bad lengths.
+    /// Every place in both logs.
     #[test]
     fn every_place_is_refused() {
         let refused = |(logs, _): ([Vec<u8>; 2], usize)| joined(&logs[0], &logs[1]).err();
@@ -123,19 +123,35 @@ mod tests {
         assert_eq!(seen, all.into_iter().flatten().collect());
     }
 
+    /// A bad length of one log where the other is good, for either log.
+    #[test]
+    fn either_length_is_refused() {
+        for bad in 0..2 {
+            let lone = |logs: &[Vec<u8>; 2]| {
+                !logs[bad].len().is_multiple_of(8) && joined(&logs[1 - bad], &logs[1 - bad]).is_ok()
+            };
+            let met: BTreeSet<(u32, u64)> = calls()
+                .filter(|(logs, _)| lone(logs))
+                .filter_map(|(logs, _)| joined(&logs[0], &logs[1]).err())
+                .map(|refusal| (refusal.number, refusal.place))
+                .collect();
+            assert_eq!(met, BTreeSet::from([(14, 0)]), "log {}", bad + 1);
+        }
+    }
+
     /// All sets of at most three of the numbers 1 to 4, for either party.
     #[test]
     fn every_pair_of_good_logs_is_there_with_every_buffer() {
         let mut pairs = BTreeSet::new();
-        let mut longest = BTreeSet::new();
+        let mut tried = BTreeSet::new();
         for (logs, trace) in calls() {
             if let Ok(periods) = joined(&logs[0], &logs[1]) {
-                longest.insert((periods.len(), trace));
+                tried.insert((periods.len(), trace));
                 pairs.insert(logs);
             }
         }
         assert_eq!(pairs.len(), 15 * 15);
         let buffers = |periods: usize| (0..=10 * periods + MORE).map(move |n| (periods, n));
-        assert_eq!(longest, (0..=4).flat_map(buffers).collect());
+        assert_eq!(tried, (0..=4).flat_map(buffers).collect());
     }
 }

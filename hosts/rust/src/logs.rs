@@ -187,7 +187,7 @@ impl fmt::Debug for LogRecord {
 ///
 /// # Errors
 /// Refusal 14, if a log has more than 65,535 records, and 15, if a number isn't above the one
-/// before it. [`Refusal::log_record`] tells in which log.
+/// before it; of 15 [`Refusal::log_record`] tells in which log.
 pub fn join(log1: &[LogRecord], log2: &[LogRecord]) -> Result<Vec<Period>, Refusal> {
     join_bytes(LogRecord::log(log1), LogRecord::log(log2))
 }

@@ -108,7 +108,8 @@ impl Refusal {
     /// The log record that refusal 14 or 15 is about: whose log, and the record in it, counted from
     /// 0. `None` for other faults, and for 14 at place 0: that is a bad length of either log, or
     /// record 0 of log 1, and the place doesn't tell which;
-    /// [`LogRecord::read_log`](crate::LogRecord::read_log) does, on each log alone.
+    /// [`LogRecord::read_log`](crate::LogRecord::read_log) does, on each log alone; it names log 1,
+    /// whichever log it reads.
     ///
     /// ```
     /// use monitor::{join_bytes, Fault, Party};

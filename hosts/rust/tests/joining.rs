@@ -258,12 +258,12 @@ fn place_0_does_not_tell_the_log() {
     let refusal = join_bytes(&good, &numbered(&[0])).unwrap_err();
     assert_eq!(refusal.log_record(), Some((Party::Two, 0)));
     // No log is named by other faults.
-    for number in (1..=16).filter_map(Fault::from_number) {
+    for fault in (1..=16).filter_map(Fault::from_number) {
         let refusal = Refusal {
-            fault: number,
+            fault,
             place: 65_540,
         };
-        let of_log = matches!(number, Fault::BadLog | Fault::OutOfOrder);
+        let of_log = matches!(fault, Fault::BadLog | Fault::OutOfOrder);
         assert_eq!(refusal.log_record(), of_log.then_some((Party::Two, 4)));
     }
 }
