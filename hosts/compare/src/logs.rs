@@ -243,7 +243,7 @@ mod tests {
             let sort = match length(&mut Random::new(seed)) {
                 0 => 0,
                 1..=MAX_SHORT => 1,
-                ..=MAX_MIDDLING => 2,
+                records if records <= MAX_MIDDLING => 2,
                 MAX_LOG_RECORDS => 4,
                 _ => 3,
             };
