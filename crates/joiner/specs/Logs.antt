@@ -38,6 +38,7 @@ rises log (suc k) = ltb (numberAt log k) (numberAt log (suc k))
 unfoldable pub recordWith : List ℕ → (period : ℕ) → ℕ
 recordWith log p = firstFailing (λ (k : ℕ). not (eqb (numberAt log k) p)) 0 (logRecords log)
 
+-- it has one
 unfoldable pub hasPeriod : List ℕ → (period : ℕ) → Bool
 hasPeriod log p = ltb (recordWith log p) (logRecords log)
 

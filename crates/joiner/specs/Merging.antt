@@ -1,4 +1,4 @@
--- What the program computes with: where a merge of the two logs stands.
+-- What the program computes with: what the merge asks of a log that stands at a record.
 use Prim.Native.Nat.{ℕ, _+_}
 use mathlib.Core.Bool.{Bool, _&&_, cond}
 use mathlib.Core.List.{List}

@@ -283,31 +283,30 @@ mod tests {
         assert_eq!(faults(product::join), [false; 5]);
     }
 
+    /// Changes the last byte, if there is one.
+    fn flip_last(area: &mut [u8]) {
+        if let Some(byte) = area.last_mut() {
+            *byte ^= 1;
+        }
+    }
+
     #[test]
     fn a_faulty_join_is_a_difference() {
         let [yes, no] = [true, false];
         // The logs in the other order.
         let other_order: Join = |log1, log2, trace, reply| product::join(log2, log1, trace, reply);
         assert_eq!(faults(other_order), [yes, yes, yes, no, no]);
-        // A byte past the trace.
+        // The last byte of the trace buffer.
         let past: Join = |log1, log2, trace, reply| {
             let result = product::join(log1, log2, trace, reply);
-            trace
-                .iter_mut()
-                .last()
-                .into_iter()
-                .for_each(|byte| *byte ^= 1);
+            flip_last(trace);
             result
         };
         assert_eq!(faults(past), [yes; 5]);
         // The last byte of the reply area.
         let other_reply: Join = |log1, log2, trace, reply| {
             let result = product::join(log1, log2, trace, reply);
-            reply
-                .iter_mut()
-                .last()
-                .into_iter()
-                .for_each(|byte| *byte ^= 1);
+            flip_last(reply);
             result
         };
         assert_eq!(faults(other_reply), [yes; 5]);
