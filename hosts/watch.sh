@@ -82,6 +82,9 @@ both_forms 'a deadline missed, with the blame of its last period' "$deadline_3$n
     '1 open 0\n2 open 0\n3 broken 2\n4 broken-after 2\ndecided 3\n'
 both_forms 'a repair in the period after a deadline' "$deadline_3$duty_b$repair$nobody$nobody$nobody$only_b" \
     '1 open 0\n2 open 0\n3 open 0\n4 broken 2\ndecided 4\n'
+both_forms 'an until that ends in period 2' \
+    "$duty_a$repeat"'TC\x13\x00\x01\x00TC\x09\x00\x00\x00'"$both_a"'TP\x03\x00\x03\x00'"$nobody" \
+    '1 open 0\n2 met 0\n3 met-after 0\ndecided 2\n'
 edge 'a window of 0 periods' 'TC\x0a\x01\x00\x00'"$both_a" 'refused 4 0\n'
 edge 'a window of 16 periods' 'TC\x0a\x01\x00\x10'"$both_a" 'refused 4 0\n'
 edge 'a last byte in a duty' 'TC\x01\x01\x00\x03'"$both_a" 'refused 4 0\n'

@@ -1,7 +1,8 @@
-/* Compile at its edges: refusals, buffers and reply areas; and the contract of "Watch" through all six calls. */
+/* Compile at its edges: refusals, buffers and reply areas; the contract of "Watch" through all six calls; and an image that was */
+/* compiled earlier, beside the one that compile writes now. */
 /* Document 01, "Calls", "Replies that refuse" and "Watch"; document 02, "Duties with a deadline", "Duties that both parties */
-/* own", "Stop reading once it is decided", "Thirty-two actions" and "Join the two parties' logs". */
-/* What it prints is held to the file compile.expected. */
+/* own", "Stop reading once it is decided", "Thirty-two actions", "Join the two parties' logs" and "An ending that may begin in */
+/* any period". What it prints is held to the file compile.expected. */
 #include "testing.h"
 
 _Static_assert(MONITOR_BUFFER_BYTES(1, 0) == 776, "776 bytes take one record that is no deadline");
@@ -63,15 +64,14 @@ static void begin_line(void)
     printf("\n");
 }
 
-static void watch(struct bytes periods)
+/* The image in its area on these periods: begin and steps, begin and a run, decide. */
+static void follow(struct bytes periods)
 {
-    static struct area compiled, stepped;
+    static struct area before, stepped;
     struct monitor_step_reply s = {0};
     size_t record = form_bytes(form_of(periods));
 
-    copy(&contract, watched);
-    compile_taken();
-    compiled = image;
+    before = image;
     begin_line();
     for (size_t k = 0; k < periods.length; k += record) {
         s = take_step((struct bytes){periods.at + k, record});
@@ -87,7 +87,14 @@ static void watch(struct bytes periods)
     printf("decide:");
     put_decided(lend(DECIDE, sizeof(struct monitor_decide_reply)));
     printf("\n");
-    check("the image is as compile left it", memcmp(image.all, compiled.all, sizeof image.all) == 0);
+    check("the image is as it was", memcmp(image.all, before.all, sizeof image.all) == 0);
+}
+
+static void watch(struct bytes periods)
+{
+    copy(&contract, watched);
+    compile_taken();
+    follow(periods);
 }
 
 /* The trace that join makes of the logs, for the other calls. */
@@ -105,6 +112,30 @@ static void watch_logs(void)
     check("the trace is the one in wide records", holds(&trace, wide_trace));
     memcpy(joined, start(&trace), sizeof joined);
     watch((struct bytes){joined, sizeof joined});
+}
+
+/* ---- an image from before the expression of an `until` could begin in any period */
+
+/* Until (repeat (duty 1 a), tries 1 b), and a/a, ab/a, -/-. */
+static const struct bytes notice = BYTES(DUTY, REPEAT, MONITOR_RECORD(MONITOR_KIND_TRIES, MONITOR_PARTY_1, 1),
+                                         MONITOR_RECORD(MONITOR_KIND_UNTIL, 0, 0));
+static const struct bytes notice_trace = BYTES(MONITOR_PERIOD(1, 1), MONITOR_PERIOD(3, 1), MONITOR_PERIOD(0, 0));
+
+/* What compile wrote of it then: b counts in period 1 alone, by rows 1, 6 and 7. */
+static const struct bytes earlier =
+    BYTES(ROW(0, 0, 0), ROW(1, 0, 0), ROW(3, 1, 0), ROW(6, 25, 0), ROW(3, 3, 0), ROW(4, 2, 4), ROW(2, 1, 1), ROW(4, 1, 6),
+          ROW(6, 16, 0), ROW(4, 5, 8), ROW(3, 8, 0), ROW(4, 5, 10), ROW(5, 1, 9), ROW(2, 1, 0), ROW(2, 2, 0), ROW(4, 12, 13),
+          ROW(4, 15, 14), ROW(3, 13, 0), ROW(4, 12, 17), ROW(3, 14, 0), ROW(4, 15, 19), ROW(5, 18, 20), ROW(3, 21, 0),
+          ROW(4, 7, 22), ROW(5, 0, 23), ROW(5, 24, 21), END(24, 18, 20));
+
+static void earlier_and_now(void)
+{
+    copy(&image, earlier);
+    printf("compiled earlier, %u rows\n", (unsigned)(earlier.length / MONITOR_ROW_BYTES - 1));
+    follow(notice_trace);
+    copy(&contract, notice);
+    printf("compiled now, %u rows\n", (unsigned)compile_taken());
+    follow(notice_trace);
 }
 
 /* ---- compile alone */
@@ -234,6 +265,7 @@ int main(void)
     watch(narrow_trace);
     watch(wide_trace);
     watch_logs();
+    earlier_and_now();
     refusals();
     buffers();
     areas("watch", watched);

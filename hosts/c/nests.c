@@ -1,6 +1,7 @@
 /* Nests of each operator, up to 64 records, compiled and stepped: the verdict and the blame in each period. */
 /* Document 01, "Records", "Expressions" and "Meaning of clauses"; document 02, "Duties with a deadline", "Duties that both */
-/* parties own" and "Thirty-two actions". What it prints is held to the file nests.expected. */
+/* parties own", "An ending that may begin in any period" and "Thirty-two actions". What it prints is held to the file */
+/* nests.expected. */
 #include "testing.h"
 
 /* ---- traces */
@@ -196,10 +197,10 @@ static void conditions(void)
     /* Rejected in period 10; all accepted, and the duty violated in period 32. */
     whens(ONCE, (struct periods){TURN, 12, 10, 0, 0});
     whens(AGAIN, (struct periods){TURN, 34, 32, 0, 0});
-    /* All rejected, and then the ban violated; the last one accepted; the ban violated where all are accepted. */
+    /* Accepted in period 3: the first one; the last one; all, and the ban violated there. */
+    untils((struct periods){NONE, 5, 3, 1u << 1, 0});
+    untils((struct periods){NONE, 5, 3, 0, 0x80000000});
     untils((struct periods){NONE, 5, 3, 0xffffffff, 0xffffffff});
-    untils((struct periods){NONE, 3, 1, 0, 0x80000000});
-    untils((struct periods){NONE, 3, 1, 0xffffffff, 0xffffffff});
 }
 
 /* ---- expressions */
@@ -222,18 +223,30 @@ static void tries(const char *name, int operator, int repeats, struct periods t)
     on_duty(name, " right", repeats, t);
 }
 
-/* A repeated ban until party 2 tries action 17, after any number of periods: 58 stars over an `any`. */
+/* Party 2 tries action 17 after any number of periods: 58 stars over an `any`. */
 static void stars(struct periods t)
 {
     cut(&contract, 0);
-    add_leaf(MONITOR_KIND_BAN, 0);
-    add_record(MONITOR_KIND_REPEAT, 0, 0);
     add_record(MONITOR_KIND_ANY, 0, 0);
     add_run(0, MONITOR_KIND_STAR, 0, 58);
     add_leaf(MONITOR_KIND_TRIES, 17);
     add_record(MONITOR_KIND_SEQ, 0, 0);
-    add_record(MONITOR_KIND_UNTIL, 0, 0);
-    line("star", "", t);
+    on_duty("star", "", AGAIN, t);
+}
+
+/* A repeated power, the last leaf, until 31 `tries` in turn: both nests of `seq`. */
+static void endings(struct periods t)
+{
+    for (int right = 0; right <= 1; right++) {
+        cut(&contract, 0);
+        add_leaf(MONITOR_KIND_POWER, 31);
+        add_record(MONITOR_KIND_REPEAT, 0, 0);
+        add_leaf(MONITOR_KIND_TRIES, 0);
+        add_run(MONITOR_KIND_TRIES, right ? 0 : MONITOR_KIND_SEQ, 1, 31);
+        add_run(0, right ? MONITOR_KIND_SEQ : 0, 1, 31);
+        add_record(MONITOR_KIND_UNTIL, 0, 0);
+        line("seq under until", right ? " right" : " left", t);
+    }
 }
 
 static void expressions(void)
@@ -244,9 +257,12 @@ static void expressions(void)
     /* Rejected in periods 1 and 2, accepted in period 3 by the first leaf, and by the last; then the duty violated. */
     tries("or", MONITOR_KIND_OR, AGAIN, (struct periods){NONE, 5, 3, 1, 0});
     tries("or", MONITOR_KIND_OR, AGAIN, (struct periods){NONE, 5, 3, 0, 0x40000000});
-    /* Never accepted; accepted in period 6. */
+    /* Never accepted; accepted in period 6, and the duty violated in period 7. */
     stars((struct periods){NONE, 8, 0, 0, 0});
     stars((struct periods){NONE, 8, 6, 0, 1u << 17});
+    /* In period 10 party 1 doesn't try action 9, which the stretch from period 1 wants there; that from period 2 is whole in */
+    /* period 32. */
+    endings((struct periods){ALL, 34, 10, 0xfffffdff, 0xffffffff});
 }
 
 int main(void)

@@ -1,7 +1,7 @@
 /* Contracts of every kind, compiled and stepped: the verdict, the blame and the decision period after a trace, in narrow */
 /* records; then how the answers in wide ones compare. */
-/* Document 01, "Expressions" and "Meaning of clauses"; document 02, "Duties with a deadline", "Duties that both parties own" */
-/* and "Thirty-two actions". What it prints is held to the file verdicts.expected. */
+/* Document 01, "Expressions" and "Meaning of clauses"; document 02, "Duties with a deadline", "Duties that both parties own", */
+/* "An ending that may begin in any period" and "Thirty-two actions". What it prints is held to the file verdicts.expected. */
 #include "testing.h"
 
 /* A record is its letter, and after it its party, 1 or 2, or for a duty of both 3, its action, a to p, and its window, 1 to 9, */
@@ -113,11 +113,41 @@ static const struct { const char *contract, *trace; } samples[] = {
     {"T1b T1a T2b . | D2a W R", "-/- a/- -/b -/-"},
     {"A A . * T1a . D2b W", "-/- a/- -/- a/- a/- -/-"},
     {"T1b D2a W T1b U B1b ;", "b/- -/-"},
-    /* Until. */
-    {"D1a R T1b U", "a/a b/-"},
+    /* From its first period alone: rejected in period 3, though a stretch from period 2 could go on. */
+    {"T1a T1a T1b . . D1a W", "a/- a/- a/-"},
+    /* Until: accepted in whichever period b is tried, and the same with star any before it; a violation there counts. */
+    {"D1a R T1b U", "a/a a/a a/a ab/a"},
+    {"D1a R T1b U", "a/a ab/a"},
+    {"D1a R A * T1b . U", "a/a ab/a"},
+    {"D1a R T1b U", "a/a b/a"},
+    {"D1a R A * T1b . U", "a/a b/a"},
     {"P1a T1b U D1a /", "ab/- -/-"},
+    /* A stretch from period 2 on; and one from period 4 on, after two periods that a gap parts. */
+    {"B1c R T1a T1b . U", "-/- a/- b/-"},
+    {"B1c R T1a T1b . U", "a/- -/- b/- a/- b/-"},
+    /* Stretches that overlap: the later one alone completes; the later one ends while the first could still go on. */
+    {"B1c R T1a T1a T1b . . U", "a/- a/- a/- b/-"},
+    {"B1c R A * T1a T1a T1b . . . U", "a/- a/- a/- b/-"},
+    {"B1c R T1a A A T1b . . . T1b T1b . | U", "a/- b/- b/-"},
+    /* Once the clause is violated or satisfied, or the expression accepted, a later acceptance says nothing. */
     {"D1a R A * T1b . U B1a B1a ; /", "-/- b/- -/-"},
+    {"D1a R T1b U B1a B1a D1a ; ; /", "-/- b/- b/- -/-"},
     {"D1a A T1b . U B1a B1b ; ;", "a/a b/- -/-"},
+    {"D1a T1b U B1a B1b ; ;", "a/a b/- -/-"},
+    {"B1c R T1b U B1a B1a B1b ; ; ;", "b/- b/- b/- -/-"},
+    /* Begun in period 3 by then, repair and when: b in period 2 ends it neither there nor together with b in period 3. */
+    {"D1a D1a ; B1c R T1b U ;", "a/a ab/a -/- b/-"},
+    {"D1a D1a ; B1c R T1b T1b . U ;", "a/a ab/a b/- b/-"},
+    {"D1a D1b ; B1c R T1b U /", "a/a b/- -/- b/-"},
+    {"D1a D1b ; B1c R T1b T1b . U /", "a/a b/- b/- b/-"},
+    {"A A . B1c R T1b U W", "-/- b/- -/- b/-"},
+    {"A A . B1c R T1b T1b . U W", "-/- b/- b/- b/-"},
+    /* Begun anew by a repeat: what is tried in the last round, or in this one before it begins, doesn't count. */
+    {"D1a D1b ; T1b T1a . U R", "a/a b/b a/a a/a"},
+    {"D1a B1c R T1b U ; R", "a/a b/- ab/a -/- b/- -/-"},
+    /* The same where a violated both, or a finished until, ends the round. */
+    {"B1c R T1b T1b T1b . . U D1a ; D1d & B1e / R", "b/- b/- bd/d -/- e/e"},
+    {"B1c R T1b T1b . U D1a ; T1d U R", "bd/- b/- -/-"},
 };
 
 /* How a sample is taken: the form of its records, by how much every action of contract and trace is raised, and the attempts */

@@ -2,12 +2,12 @@
 use mathlib.Core.Path.{refl}
 use Rattle.periods.specs.Periods.{tries, succeeds, bit}
 use Rattle.contract.specs.Expressions.{holds, splits, joins, member, begins, holdsEmpty}
-use Rattle.contract.specs.Readings.{readingTo, reading}
+use Rattle.contract.specs.Readings.{readingTo, reading, ends, acceptanceTo, acceptance}
 use Rattle.contract.specs.Meaning.{repeatMeaning, firstSuccess, meaning}
-use Rattle.contract.specs.Examples.{WorkedExamples, StudentExamples, ExpressionExamples, ClauseExamples, VerdictExamples, DeadlineExamples, JointExamples}
+use Rattle.contract.specs.Examples.{WorkedExamples, StudentExamples, ExpressionExamples, ClauseExamples, VerdictExamples, DeadlineExamples, JointExamples, EndingExamples}
 
-pub examples : WorkedExamples × StudentExamples × ExpressionExamples × ClauseExamples × VerdictExamples × DeadlineExamples × JointExamples
-unfolding meaning repeatMeaning firstSuccess reading readingTo member begins holdsEmpty splits joins holds tries succeeds bit
+pub examples : WorkedExamples × StudentExamples × ExpressionExamples × ClauseExamples × VerdictExamples × DeadlineExamples × JointExamples × EndingExamples
+unfolding meaning repeatMeaning firstSuccess reading readingTo acceptance acceptanceTo ends member begins holdsEmpty splits joins holds tries succeeds bit
 examples = (
   record {
     duty-on-none = refl;
@@ -74,7 +74,6 @@ examples = (
     when-rejected-later = refl;
     until-own = refl;
     until-over = refl;
-    until-rejected = refl;
   },
   record {
     met-at-2 = refl;
@@ -114,5 +113,21 @@ examples = (
     joint-when = refl;
     joint-until = refl;
     told-joint = refl;
+  },
+  record {
+    notice-in-2 = refl;
+    notice-from-2 = refl;
+    once-accepted = refl;
+    later-completes = refl;
+    ends-before-first = refl;
+    never-rejected = refl;
+    violated-at-acceptance = refl;
+    violated-at-end = refl;
+    decided-before-end = refl;
+    not-of-last-round = refl;
+    not-before-begun = refl;
+    when-from-first = refl;
+    when-not-from-2 = refl;
+    told-ended = refl;
   },
 )

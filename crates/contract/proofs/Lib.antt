@@ -1,6 +1,7 @@
 -- The laws of the definitions in specs/, module by module.
 pub mod Expressions
 pub mod Readings
+pub mod Stretches
 pub mod Joint
 pub mod Windows
 pub mod Meaning

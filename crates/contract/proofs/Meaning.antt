@@ -6,6 +6,7 @@ use native.Mathlib.Omega.{arith}
 use mathlib.Core.Bool.{Bool, true, false, cond}
 use mathlib.Core.List.{List, [], _∷_}
 use mathlib.Core.Logic.{_⊎_, inl, inr}
+use mathlib.Core.Option.{Option, none, some}
 use mathlib.Core.Path.{_≡_, refl, sym, _∙_, subst}
 use borrow.Author.Tests.{lt-ltb, le-ltb, lt-leb, le-leb}
 use lib.Dec.{ltb, leb}
@@ -14,12 +15,13 @@ use Rattle.records.proofs.Cases.{lt-or-le}
 use Rattle.records.proofs.Written.{drop-take}
 use Rattle.periods.specs.Periods.{Party, other, Period, tries}
 use Rattle.contract.specs.Expressions.{Expression, Holds}
-use Rattle.contract.specs.Readings.{Reading, pending, accepted, rejected, reading}
+use Rattle.contract.specs.Readings.{Reading, pending, accepted, rejected, reading, acceptance}
 use Rattle.contract.specs.Meaning.{Parties, only, bothParties, Literal, duty, ban, power, Clause, literal, deadline, both, then, repair, repeat, when, until, unite, Decision, undecided, satisfied, violated, literalDecision, testedFirst, literalMeaning, earlier, bothMeaning, later, after, thenMeaning, repairMeaning, repeatMeaning, whenMeaning, noLater, untilMeaning, meaning, EmptyFree}
 use Rattle.contract.specs.Verdicts.{decisionPeriod}
 use Rattle.contract.proofs.Expressions.{some-list}
 use Rattle.contract.proofs.Windows.{deadline-none, deadline-one, deadline-more}
-use Rattle.contract.proofs.Readings.{accepted-iff, rejected-iff, readingBy, reading-take}
+use Rattle.contract.proofs.Readings.{accepted-iff, rejected-iff, readingBy, reading-take, Between, happenedBy}
+use Rattle.contract.proofs.Stretches.{within-acceptance, acceptance-take}
 
 -- what has been decided by period n
 abbrev pub decidedBy : ℕ → Decision → Decision
@@ -112,12 +114,11 @@ within-when n pending f p q = tt
 within-when n (accepted k) f p q = q k (p .1)
 within-when n (rejected k) f p q = p
 
-within-until : (n : ℕ) (d : Decision) (r : Reading) → Within n d → ReadWithin n r → Within n (untilMeaning d r)
-within-until n d pending p q = p
-within-until n undecided (accepted k) p q = q
-within-until n (satisfied j) (accepted k) p q = within-cond n (leb j k) (satisfied j) (satisfied k) p q
-within-until n (violated j b) (accepted k) p q = within-cond n (leb j k) (violated j b) (satisfied k) p q
-within-until n d (rejected k) p q = p
+within-until : (n : ℕ) (d : Decision) (a : Option ℕ) → Within n d → Between n a → Within n (untilMeaning d a)
+within-until n d none p q = p
+within-until n undecided (some k) p q = q
+within-until n (satisfied j) (some k) p q = within-cond n (leb j k) (satisfied j) (satisfied k) p q
+within-until n (violated j b) (some k) p q = within-cond n (leb j k) (violated j b) (satisfied k) p q
 
 within-repeat : (m : List Period → Decision) → ((w : List Period) → Within (length w) (m w))
     → (f : ℕ) (w : List Period) → Within (length w) (repeatMeaning m f w)
@@ -154,7 +155,7 @@ decision-within (repeat c) g w = within-repeat (meaning c) (decision-within c g)
 decision-within (when e c) g w =
     within-when (length w) (reading e w) (after (meaning c) w) (within-reading e w (g .0)) (within-after (meaning c) (decision-within c (g .1)) w)
 decision-within (until c e) g w =
-    within-until (length w) (meaning c w) (reading e w) (decision-within c (g .0) w) (within-reading e w (g .1))
+    within-until (length w) (meaning c w) (acceptance e w) (decision-within c (g .0) w) (within-acceptance e w)
 
 -- Beginnings: what a clause means on the first n periods is what it has decided by period n.
 
@@ -301,7 +302,7 @@ module _ (m₁ m₂ : List Period → Decision) (n : ℕ) (w : List Period) wher
 -- Until: the clause's decision counts up to acceptance.
 module _ (n k : ℕ) (d : Decision) (counts : noLater k d ≡ cond (leb (decisionPeriod d) k) d (satisfied k)) where
   by-decided : (n < k) ⊎ (k ≤ n) → (k < decisionPeriod d) ⊎ (decisionPeriod d ≤ k) → (n < decisionPeriod d) ⊎ (decisionPeriod d ≤ n)
-      → untilMeaning (decidedBy n d) (readingBy n (accepted k)) ≡ decidedBy n (noLater k d)
+      → untilMeaning (decidedBy n d) (happenedBy n (some k)) ≡ decidedBy n (noLater k d)
   by-decided (inl l) (inl p) q =
       rw (lt-ltb n k l, counts, lt-leb (decisionPeriod d) k p, lt-ltb n k l) (not-yet n d (omega arith))
   by-decided (inl l) (inr p) q = rw (lt-ltb n k l, counts, le-leb (decisionPeriod d) k p)
@@ -309,15 +310,14 @@ module _ (n k : ℕ) (d : Decision) (counts : noLater k d ≡ cond (leb (decisio
   by-decided (inr l) (inl p) (inr q) = rw (le-ltb n k l, by-now n d q, counts, lt-leb (decisionPeriod d) k p, le-ltb n k l)
   by-decided (inr l) (inr p) q = rw (le-ltb n k l, by-now n d (omega arith), counts, le-leb (decisionPeriod d) k p, by-now n d (omega arith))
 
-by-accepted : (n k : ℕ) (d : Decision) → untilMeaning (decidedBy n d) (readingBy n (accepted k)) ≡ decidedBy n (noLater k d)
-by-accepted n k undecided = elim (ltb n k) as (λ t. untilMeaning undecided (cond t pending (accepted k)) ≡ cond t undecided (satisfied k)) [ true ↦ refl | false ↦ refl ]
+by-accepted : (n k : ℕ) (d : Decision) → untilMeaning (decidedBy n d) (happenedBy n (some k)) ≡ decidedBy n (noLater k d)
+by-accepted n k undecided = elim (ltb n k) as (λ t. untilMeaning undecided (cond t none (some k)) ≡ cond t undecided (satisfied k)) [ true ↦ refl | false ↦ refl ]
 by-accepted n k (satisfied j) = by-decided n k (satisfied j) refl (lt-or-le n k) (lt-or-le k j) (lt-or-le n j)
 by-accepted n k (violated j b) = by-decided n k (violated j b) refl (lt-or-le n k) (lt-or-le k j) (lt-or-le n j)
 
-by-until : (n : ℕ) (d : Decision) (r : Reading) → untilMeaning (decidedBy n d) (readingBy n r) ≡ decidedBy n (untilMeaning d r)
-by-until n d pending = refl
-by-until n d (accepted k) = by-accepted n k d
-by-until n d (rejected k) = elim (ltb n k) as (λ t. untilMeaning (decidedBy n d) (cond t pending (rejected k)) ≡ decidedBy n d) [ true ↦ refl | false ↦ refl ]
+by-until : (n : ℕ) (d : Decision) (a : Option ℕ) → untilMeaning (decidedBy n d) (happenedBy n a) ≡ decidedBy n (untilMeaning d a)
+by-until n d none = refl
+by-until n d (some k) = by-accepted n k d
 
 -- Repeat: every allowance that covers the periods gives the same.
 module _ (m : List Period → Decision) (bounded : (w : List Period) → Within (length w) (m w)) (stable : Stable m) where
@@ -386,4 +386,4 @@ stable (repeat c) g n w =
     by-repeat (meaning c) (decision-within c g) (stable c g) (length w) (length (take n w)) n w (le-refl (length w)) (le-refl (length (take n w)))
 stable (when e c) g n w =
     rw (reading-take e w n) (by-when (meaning c) (meaning c) n w (reading e w) (λ k h. stable c (g .1) (n - k) (drop k w)))
-stable (until c e) g n w = rw (stable c (g .0) n w, reading-take e w n) (by-until n (meaning c w) (reading e w))
+stable (until c e) g n w = rw (stable c (g .0) n w, acceptance-take e (g .1) n w) (by-until n (meaning c w) (acceptance e w))

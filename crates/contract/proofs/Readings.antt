@@ -1,4 +1,4 @@
--- The executable reading of an expression is document 01's: accepted and rejected at the least k, never both, pending otherwise.
+-- The executable reading of an expression under `when` is document 01's: accepted and rejected at the least k, never both, pending otherwise.
 -- What a beginning of the list shows is what the whole list has shown by then.
 use Prim.Native.Nat.{ℕ, zero, suc, _≤_, _<_, suc-le-suc}
 use native.Mathlib.Nat.{le-refl, le-of-lt, le-trans, le-of-suc-le-suc, not-suc-le-zero}
@@ -6,6 +6,7 @@ use native.Mathlib.Omega.{arith}
 use mathlib.Core.Bool.{Bool, true, false, cond, false≢true}
 use mathlib.Core.List.{List, [], _++_}
 use mathlib.Core.Logic.{_↔_, _⊎_, inl, inr, ⊎-elim}
+use mathlib.Core.Option.{Option, none, some}
 use mathlib.Core.Path.{_≡_, refl, sym, ap, _∙_, subst}
 use borrow.Author.Tests.{lt-ltb, le-ltb}
 use lib.Dec.{ltb}
@@ -168,3 +169,25 @@ module _ (e : Expression) (w : List Period) where
       go : (n < length w) ⊎ (length w ≤ n) → readingTo e (take n w) (length (take n w)) ≡ readingBy n (readingTo e w (length w))
       go (inl l) = rw (length-take-le n w (le-of-lt l), reading-within n n (le-refl n)) (reading-by n (length w) (le-of-lt l))
       go (inr l) = rw (take-all n w l) (shown-by l (shown e w (length w)))
+
+-- ---- the period of something that happens at one period or not at all
+
+-- between period 1 and period n, or not at all
+abbrev pub Between : ℕ → Option ℕ → Type 0
+Between n none = Unit {0}
+Between n (some k) = (1 ≤ k) × (k ≤ n)
+
+-- what has happened by period n
+abbrev pub happenedBy : ℕ → Option ℕ → Option ℕ
+happenedBy n none = none
+happenedBy n (some k) = cond (ltb n k) none (some k)
+
+abbrev pub acceptedAt : Reading → Option ℕ
+acceptedAt pending = none
+acceptedAt (accepted k) = some k
+acceptedAt (rejected k) = none
+
+pub accepted-by-then : (n : ℕ) (r : Reading) → acceptedAt (readingBy n r) ≡ happenedBy n (acceptedAt r)
+accepted-by-then n pending = refl
+accepted-by-then n (accepted k) = elim (ltb n k) as (λ t. acceptedAt (cond t pending (accepted k)) ≡ cond t none (some k)) [ true ↦ refl | false ↦ refl ]
+accepted-by-then n (rejected k) = elim (ltb n k) as (λ t. acceptedAt (cond t pending (rejected k)) ≡ none) [ true ↦ refl | false ↦ refl ]

@@ -1,15 +1,16 @@
--- The worked examples. Document 01, "Contracts and examples", "What students hand in" and "Watch"; of deadlines and of joint duties document 02,
--- "Duties with a deadline" and "Duties that both parties own".
+-- The worked examples. Document 01, "Contracts and examples", "What students hand in" and "Watch"; of deadlines, of joint duties and of `until`
+-- document 02, "Duties with a deadline", "Duties that both parties own" and "An ending that may begin in any period".
 use Prim.Native.Nat.{ℕ}
 use Prim.Native.String.{String}
 use mathlib.Core.Bool.{true, false}
 use mathlib.Core.List.{List, [], _∷_, _++_, map}
+use mathlib.Core.Option.{none, some}
 use mathlib.Core.Path.{_≡_}
 use lib.ListN.{take, replicate}
 use Rattle.records.specs.Verdicts.{verdictNumber, verdictName}
 use Rattle.periods.specs.Periods.{Party, party1, party2, Period}
 use Rattle.contract.specs.Expressions.{any, tries, idle, succeeds, fails, Expression, atom, seq, or, star, holdsEmpty}
-use Rattle.contract.specs.Readings.{Reading, pending, accepted, rejected, reading}
+use Rattle.contract.specs.Readings.{Reading, pending, accepted, rejected, reading, acceptance}
 use Rattle.contract.specs.Meaning.{Literal, Clause, literal, deadline, both, then, repair, repeat, when, until, only, bothParties, Decision, undecided, satisfied, violated, meaning}
 use Rattle.contract.specs.Verdicts.{outcome, verdict, blame, decisionPeriod}
 
@@ -201,8 +202,6 @@ pub record ClauseExamples : Type 0 where
   pub until-over :
       map (meaning (until (then (duty party1 a) (duty party1 a)) tries-b)) ((ab/a ∷ a/a ∷ []) ∷ (ab/a ∷ -/- ∷ []) ∷ [])
       ≡ satisfied 1 ∷ satisfied 1 ∷ []
-  -- "A rejected expression leaves the clause alone to decide."
-  pub until-rejected : meaning (until (repeat (duty party1 a)) tries-b) (a/a ∷ b/- ∷ []) ≡ violated 2 (only party1)
 
 -- what is told after the first n periods of a list: the verdict's name and number, blame and decision period
 abbrev pub told : Clause → List Period → (n : ℕ) → String × ℕ × ℕ × ℕ
@@ -346,3 +345,54 @@ pub record JointExamples : Type 0 where
   pub told-joint :
       map (told (joint a) (-/- ∷ a/a ∷ [])) (0 ∷ 1 ∷ 2 ∷ [])
       ≡ ("open", 0, 0, 0) ∷ ("broken", 2, 3, 1) ∷ ("broken-after", 4, 3, 1) ∷ []
+
+-- a clause that nothing here decides: no example tries action 2
+abbrev pub undeciding : Clause
+undeciding = repeat (ban party1 2)
+
+-- document 02, "An ending that may begin in any period"; what a wrong reading would give stands in brackets
+pub record EndingExamples : Type 0 where
+  -- "the stretch from some period of this `until` to period k is in its set": it may begin in any period (none, from period 1 alone), and has no gap (3)
+  pub notice-in-2 : map (acceptance tries-b) ([] ∷ (-/- ∷ []) ∷ (-/- ∷ b/- ∷ []) ∷ (-/- ∷ -/- ∷ b/- ∷ []) ∷ []) ≡ none ∷ none ∷ some 2 ∷ some 3 ∷ []
+  pub notice-from-2 :
+      map (acceptance (seq tries-a tries-b)) ((-/- ∷ a/- ∷ []) ∷ (-/- ∷ a/- ∷ b/- ∷ []) ∷ (a/- ∷ -/- ∷ b/- ∷ []) ∷ (b/- ∷ a/- ∷ []) ∷ [])
+      ≡ none ∷ some 3 ∷ none ∷ none ∷ []
+  -- "the least k": the stretch of period 1 alone, not that of periods 1 and 2, nor period 3 (2, 3)
+  pub once-accepted : map (acceptance (or tries-a (seq tries-a tries-a))) ((a/- ∷ a/- ∷ []) ∷ (a/- ∷ -/- ∷ a/- ∷ []) ∷ []) ≡ some 1 ∷ some 1 ∷ []
+  -- two periods of a and then b: of the stretches from periods 1 and 2, both still possible in period 2, the later one completes (undecided, where one
+  -- begins only when the last has failed)
+  pub later-completes : meaning (until undeciding (seq tries-a (seq tries-a tries-b))) (a/- ∷ a/- ∷ a/- ∷ b/- ∷ []) ≡ satisfied 4
+  -- the stretch from period 2 ends in period 3, while that from period 1 is still possible, which ends in period 4 (satisfied at 4)
+  pub ends-before-first :
+      meaning (until undeciding (or (seq tries-a (seq (atom any) (seq (atom any) tries-b))) (seq tries-b tries-b))) (a/- ∷ b/- ∷ b/- ∷ b/- ∷ [])
+      ≡ satisfied 3
+  -- "It is never rejected." (undecided)
+  pub never-rejected :
+      map (meaning (until (repeat (duty party1 a)) tries-b)) ((a/a ∷ []) ∷ (a/a ∷ ab/a ∷ []) ∷ (a/a ∷ a/a ∷ ab/a ∷ []) ∷ [])
+      ≡ undecided ∷ satisfied 2 ∷ satisfied 3 ∷ []
+  -- the clause's own decision if it comes no later: a violation in the accepting period (satisfied at 2, at 3), a satisfaction before it (satisfied at 3)
+  pub violated-at-acceptance : meaning (until (repeat (duty party1 a)) tries-b) (a/a ∷ b/a ∷ []) ≡ violated 2 (only party1)
+  pub violated-at-end :
+      map (meaning (until (repeat (duty party1 a)) (seq tries-b tries-b))) ((a/a ∷ ab/a ∷ b/a ∷ []) ∷ (a/a ∷ ab/a ∷ ab/a ∷ []) ∷ [])
+      ≡ violated 3 (only party1) ∷ satisfied 3 ∷ []
+  pub decided-before-end : meaning (until (then (duty party1 a) (duty party1 a)) (seq tries-b tries-b)) (a/a ∷ ab/a ∷ b/- ∷ []) ≡ satisfied 2
+  -- "of this `until`": begun anew in period 3, it doesn't count the stretch of periods 2 and 3, so b is owed in period 4 (violated at 4; undecided)
+  pub not-of-last-round :
+      map (meaning (repeat (until (then (duty party1 a) (duty party1 b)) (seq tries-b tries-a))))
+      ((a/a ∷ b/b ∷ a/a ∷ b/b ∷ []) ∷ (a/a ∷ b/b ∷ a/a ∷ a/a ∷ []) ∷ [])
+      ≡ undecided ∷ violated 4 (only party1) ∷ []
+  -- begun in period 3 by `then`, `repair` and `when`, it doesn't count the stretch of periods 2 and 3 (satisfied at 3)
+  pub not-before-begun :
+      map
+      (λ c. map (meaning c) ((a/a ∷ ab/a ∷ b/- ∷ []) ∷ (a/a ∷ ab/a ∷ b/- ∷ b/- ∷ []) ∷ []))
+      (then (then (duty party1 a) (duty party1 a)) (until undeciding (seq tries-b tries-b))
+      ∷ repair (then (duty party1 a) (duty party1 b)) (until undeciding (seq tries-b tries-b))
+      ∷ when (seq (atom any) (atom any)) (until undeciding (seq tries-b tries-b)) ∷ [])
+      ≡ replicate 3 (undecided ∷ satisfied 4 ∷ [])
+  -- "`when` still matches from its first period." (undecided, and then violated at 3, at 4)
+  pub when-from-first : meaning (when tries-b (duty party1 a)) (-/- ∷ b/- ∷ -/- ∷ []) ≡ satisfied 1
+  pub when-not-from-2 : meaning (when (seq tries-a tries-b) (duty party1 a)) (-/- ∷ a/- ∷ b/- ∷ -/- ∷ []) ≡ satisfied 1
+  -- what is told of it
+  pub told-ended :
+      map (told (until (repeat (duty party1 a)) tries-b) (a/a ∷ ab/a ∷ -/- ∷ [])) (0 ∷ 1 ∷ 2 ∷ 3 ∷ [])
+      ≡ ("open", 0, 0, 0) ∷ ("open", 0, 0, 0) ∷ ("met", 1, 0, 2) ∷ ("met-after", 3, 0, 2) ∷ []

@@ -1,13 +1,15 @@
 -- Clauses, their decisions and blame, and what a clause means on a list of periods.
--- Document 01, "Meaning of clauses"; of kind 10 document 02, "Duties with a deadline"; of a duty's owner document 02, "Duties that both parties own".
+-- Document 01, "Meaning of clauses"; of kind 10 document 02, "Duties with a deadline"; of a duty's owner document 02, "Duties that both parties own"; of
+-- kind 9 document 02, "An ending that may begin in any period".
 use Prim.Native.Nat.{ℕ, zero, suc, _+_, _-_, max}
 use mathlib.Core.Bool.{Bool, true, false, cond}
 use mathlib.Core.List.{List, [], _∷_}
+use mathlib.Core.Option.{Option, none, some}
 use lib.Dec.{leb, ltb}
 use lib.ListN.{length, take, drop}
 use Rattle.periods.specs.Periods.{Party, party1, party2, partyNumber, other, Period, tries, succeeds}
 use Rattle.contract.specs.Expressions.{Expression, Holds}
-use Rattle.contract.specs.Readings.{Reading, pending, accepted, rejected, reading}
+use Rattle.contract.specs.Readings.{Reading, pending, accepted, rejected, reading, acceptance}
 
 -- one party or both: who owns a duty, and whom a violation blames
 pub data Parties : Type 0 where
@@ -140,11 +142,9 @@ noLater k (satisfied j) = cond (leb j k) (satisfied j) (satisfied k)
 noLater k (violated j b) = cond (leb j k) (violated j b) (satisfied k)
 
 -- Until: the clause's own decision if it comes no later than acceptance; otherwise satisfied at acceptance.
--- A rejected expression leaves the clause alone to decide.
-abbrev pub untilMeaning : Decision → Reading → Decision
-untilMeaning d pending = d
-untilMeaning d (accepted k) = noLater k d
-untilMeaning d (rejected k) = d
+abbrev pub untilMeaning : Decision → (acceptance : Option ℕ) → Decision
+untilMeaning d none = d
+untilMeaning d (some k) = noLater k d
 
 -- satisfied at the first period of a list in which both try
 unfoldable pub firstSuccess : (action : ℕ) → List Period → Decision
@@ -171,7 +171,7 @@ meaning (then l r) w = thenMeaning (meaning l w) (after (meaning r) w)
 meaning (repair l r) w = repairMeaning (meaning l w) (after (meaning r) w)
 meaning (repeat c) w = repeatMeaning (meaning c) (length w) w
 meaning (when e c) w = whenMeaning (reading e w) (after (meaning c) w)
-meaning (until c e) w = untilMeaning (meaning c w) (reading e w)
+meaning (until c e) w = untilMeaning (meaning c w) (acceptance e w)
 
 -- "An expression under `when` or `until` must not hold the empty list." (Document 01, "Expressions")
 unfoldable pub EmptyFree : Clause → Type 0

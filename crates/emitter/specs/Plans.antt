@@ -26,16 +26,16 @@ planLine then = plan then 69 (B ⊹ 1) (B ⊹ 3) K RSAT N (N ⊹ 1)
 planLine repair = plan repair 75 (B ⊹ 1) (B ⊹ 3) K (N ⊹ 1) RONE RTWO
 planLine repeat = plan repeat 81 (B ⊹ 4) (B ⊹ 3) ZERO ZERO RONE RTWO
 planLine when = plan when 86 (B ⊹ 1) (B ⊹ 3) (B ⊹ 3) (N ⊹ 6) RONE RTWO
-planLine until = plan until 97 S (B ⊹ 2) (B ⊹ 2) (N ⊹ 3) LONE LTWO
+planLine until = plan until 97 (B ⊹ 5) (B ⊹ 2) (B ⊹ 2) (N ⊹ 3) LONE LTWO
 planLine deadline = plan deadline 21 ZERO ZERO ZERO (N ⊹ 2) (N ⊹ 4) (N ⊹ 5)
 planLine any = plan any 33 ZERO ZERO ZERO S ZERO ZERO
 planLine tries = plan tries 33 ZERO ZERO ZERO (B ⊹ 1) ZERO ZERO
 planLine idle = plan idle 35 ZERO ZERO ZERO (B ⊹ 2) ZERO ZERO
 planLine succeeds = plan succeeds 38 ZERO ZERO ZERO (B ⊹ 3) ZERO ZERO
 planLine fails = plan fails 42 ZERO ZERO ZERO (B ⊹ 4) ZERO ZERO
-planLine seq = plan seq 105 (B ⊹ 2) K K N (N ⊹ 2) ZERO
-planLine or = plan or 111 S K K N (N ⊹ 1) ZERO
-planLine star = plan star 113 (B ⊹ 2) K ZERO RSAT N ZERO
+planLine seq = plan seq 108 (B ⊹ 2) K K N (N ⊹ 2) ZERO
+planLine or = plan or 114 S K K N (N ⊹ 1) ZERO
+planLine star = plan star 116 (B ⊹ 2) K ZERO RSAT N ZERO
 
 -- the same of a duty that both parties own
 abbrev pub jointLine : PlanLine

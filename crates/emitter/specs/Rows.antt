@@ -115,7 +115,7 @@ kindRows when =
     previous LSAT ∷ conjunction K B ∷ negation B ∷ conjunction K (B ⊹ 2)
     ∷ previous LONE ∷ conjunction (B ⊹ 3) N ∷ disjunction S (N ⊹ 1) ∷ disjunction LSAT LONE ∷ negation (N ⊹ 3) ∷ conjunction (N ⊹ 2) (N ⊹ 4) ∷ disjunction RSAT (N ⊹ 5) ∷ []
 kindRows until =
-    previous (N ⊹ 4) ∷ negation B ∷ conjunction K (B ⊹ 1)
+    previous (N ⊹ 4) ∷ negation B ∷ conjunction K (B ⊹ 1) ∷ previous (B ⊹ 5) ∷ conjunction (B ⊹ 2) (B ⊹ 3) ∷ disjunction (B ⊹ 4) S
     ∷ disjunction LONE LTWO ∷ negation N ∷ conjunction RSAT (N ⊹ 1) ∷ disjunction LSAT (N ⊹ 2) ∷ disjunction (N ⊹ 3) N ∷ []
 kindRows deadline =
     attempt P ∷ attempt Q ∷ conjunction B (B ⊹ 1) ∷ negation (B ⊹ 2) ∷ conjunction K (B ⊹ 3) ∷ conjunction S (B ⊹ 3)

@@ -138,7 +138,7 @@ const LEAF_ROWS: [u32; 55] = [
 ];
 
 // The rows of the kinds with operands, those before their operands' rows and then those after them. A plan counts on from the first table.
-const NODE_ROWS: [u32; 62] = [
+const NODE_ROWS: [u32; 65] = [
     // both
     KIND * PREVIOUS as u32 + X * (N + 10) as u32,
     KIND * NOT as u32 + X * B as u32,
@@ -190,6 +190,9 @@ const NODE_ROWS: [u32; 62] = [
     KIND * PREVIOUS as u32 + X * (N + 4) as u32,
     KIND * NOT as u32 + X * B as u32,
     KIND * AND as u32 + X * K as u32 + Y * (B + 1) as u32,
+    KIND * PREVIOUS as u32 + X * (B + 5) as u32,
+    KIND * AND as u32 + X * (B + 2) as u32 + Y * (B + 3) as u32,
+    KIND * OR as u32 + X * (B + 4) as u32 + Y * S as u32,
     KIND * OR as u32 + X * LONE as u32 + Y * LTWO as u32,
     KIND * NOT as u32 + X * N as u32,
     KIND * AND as u32 + X * RSAT as u32 + Y * (N + 1) as u32,
@@ -286,16 +289,16 @@ const PLANS: [PlanLine; 18] = [
     PlanLine(75, 4, 2, B + 1, B + 3, K, N + 1, RONE, RTWO), // 6 repair
     PlanLine(81, 5, 0, B + 4, B + 3, ZERO, ZERO, RONE, RTWO), // 7 repeat
     PlanLine(86, 4, 7, B + 1, B + 3, B + 3, N + 6, RONE, RTWO), // 8 when
-    PlanLine(97, 3, 5, S, B + 2, B + 2, N + 3, LONE, LTWO), // 9 until
+    PlanLine(97, 6, 5, B + 5, B + 2, B + 2, N + 3, LONE, LTWO), // 9 until
     PlanLine(21, 6, 6, ZERO, ZERO, ZERO, N + 2, N + 4, N + 5), // 10 deadline
     PlanLine(33, 0, 0, ZERO, ZERO, ZERO, S, ZERO, ZERO), // 16 any
     PlanLine(33, 2, 0, ZERO, ZERO, ZERO, B + 1, ZERO, ZERO), // 17 tries
     PlanLine(35, 3, 0, ZERO, ZERO, ZERO, B + 2, ZERO, ZERO), // 18 idle
     PlanLine(38, 4, 0, ZERO, ZERO, ZERO, B + 3, ZERO, ZERO), // 19 succeeds
     PlanLine(42, 5, 0, ZERO, ZERO, ZERO, B + 4, ZERO, ZERO), // 20 fails
-    PlanLine(105, 3, 3, B + 2, K, K, N, N + 2, ZERO), // 21 seq
-    PlanLine(111, 0, 2, S, K, K, N, N + 1, ZERO), // 22 or
-    PlanLine(113, 3, 1, B + 2, K, ZERO, RSAT, N, ZERO), // 23 star
+    PlanLine(108, 3, 3, B + 2, K, K, N, N + 2, ZERO), // 21 seq
+    PlanLine(114, 0, 2, S, K, K, N, N + 1, ZERO), // 22 or
+    PlanLine(116, 3, 1, B + 2, K, ZERO, RSAT, N, ZERO), // 23 star
 ];
 
 // How a kind's rows are laid out: the first of its own rows in the tables, how many stand before its operands' rows and how many after them; the

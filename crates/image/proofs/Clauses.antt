@@ -9,7 +9,7 @@ use Rattle.image.proofs.Deadlines.{behaves-deadline}
 use Rattle.image.proofs.Handing.{behaves-then, behaves-repair}
 use Rattle.image.proofs.When.{behaves-when}
 use Rattle.image.proofs.Both.{behaves-both}
-use Rattle.image.proofs.Until.{behaves-until}
+use Rattle.image.proofs.Until.{wired-after-any, behaves-until}
 use Rattle.image.proofs.Repeating.{exclusive-repeat, behaves-repeat}
 
 pub behaves : {c : Clause} {S K sat one two : Signal} → EmptyFree c → Exclusive S K → WiredClause c S K sat one two → Behaves c S K sat one two
@@ -24,6 +24,6 @@ behaves g x (wired-repair l f h r s) = behaves-repair g x (behaves (g .0) x l) f
 behaves g x (wired-repeat h s c z) = behaves-repeat g x h s (behaves g (exclusive-repeat x h s) c) z
 behaves g x (wired-when e h c r s) =
     behaves-when g x (reads-alone (exclusive-until-done x (until-fired h)) e) h (behaves (g .1) (exclusive-hands-over h) c) r s
-behaves g x (wired-until u e c s d) =
+behaves g x (wired-until u r e c s d) =
     let y = exclusive-until-done x u in
-    behaves-until g u (reads-alone y e) (behaves (g .0) y c) s d
+    behaves-until g u (reads-alone y (wired-after-any (g .1) r e)) (behaves (g .0) y c) s d

@@ -6,7 +6,7 @@ use mathlib.Core.Logic.{_⊎_, inl, inr}
 use mathlib.Core.Option.{Option, none, some}
 use mathlib.Core.Path.{_≡_, refl, sym, _∙_}
 use borrow.Author.Tests.{lt-ltb, le-ltb}
-use lib.Dec.{eqb, ltb}
+use lib.Dec.{eqb}
 use lib.ListN.{length}
 use Rattle.records.proofs.Cases.{lt-or-le}
 use Rattle.periods.specs.Periods.{party1, party2, Period}
@@ -14,10 +14,10 @@ use Rattle.contract.specs.Expressions.{Expression, Holds}
 use Rattle.contract.specs.Readings.{Reading, pending, accepted, rejected, reading}
 use Rattle.contract.specs.Meaning.{Clause, Decision, undecided, satisfied, violated, meaning, EmptyFree}
 use Rattle.contract.specs.Verdicts.{decisionPeriod}
-use Rattle.contract.proofs.Readings.{readingBy, reading-take}
+use Rattle.contract.proofs.Readings.{reading-take, Between, happenedBy, acceptedAt, accepted-by-then}
 use Rattle.contract.proofs.Meaning.{decidedBy, Within, decision-within, ReadWithin, within-reading, not-yet, by-now, stable}
 use Rattle.image.proofs.Signals.{Report, nothing, met, broken, isMet, isBroken, reportOf}
-use Rattle.image.proofs.Once.{Between, Once, isAt, happens, happenedBy, once-by}
+use Rattle.image.proofs.Once.{Once, isAt, happens, once-by}
 use Rattle.image.proofs.Reports.{now, saidBy, someone-blamed, periodIf, isViolation, satisfiedAt, violatedAt, decidedAt}
 
 -- ---- decisions
@@ -95,16 +95,6 @@ pub decided-happens : (c : Clause) (t : Option (List Period))
 decided-happens c t = rw (blames-one (saidBy c t)) (if-happens (λ s. isMet s || isViolation s) refl c t)
 
 -- ---- acceptances
-
-abbrev pub acceptedAt : Reading → Option ℕ
-acceptedAt pending = none
-acceptedAt (accepted k) = some k
-acceptedAt (rejected k) = none
-
-accepted-by-then : (n : ℕ) (r : Reading) → acceptedAt (readingBy n r) ≡ happenedBy n (acceptedAt r)
-accepted-by-then n pending = refl
-accepted-by-then n (accepted k) = elim (ltb n k) as (λ t. acceptedAt (cond t pending (accepted k)) ≡ cond t none (some k)) [ true ↦ refl | false ↦ refl ]
-accepted-by-then n (rejected k) = elim (ltb n k) as (λ t. acceptedAt (cond t pending (rejected k)) ≡ none) [ true ↦ refl | false ↦ refl ]
 
 accepted-between : (n : ℕ) (r : Reading) → ReadWithin n r → Between n (acceptedAt r)
 accepted-between n pending b = tt

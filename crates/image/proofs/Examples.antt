@@ -24,7 +24,7 @@ use Rattle.reader.specs.Reader.{operandsOf, readRecord, readRecords, read}
 use Rattle.image.specs.Widths.{afterExpression, afterClause}
 use Rattle.image.specs.Blocks.{endRow, liveRow, expressionRows, outputsOf, windowRows, clauseRows}
 use Rattle.image.specs.Images.{rowsFor, image, imageFor}
-use Rattle.image.specs.Examples.{linesFrom, lines, repliesFrom, replies, decidedReplies, KindVectors, StudentVectors, DeadlineVectors, JointVectors, WatchVector, DecisionVectors, RowVectors, RoomVectors}
+use Rattle.image.specs.Examples.{linesFrom, lines, repliesFrom, repliesOn, replies, decidedReplies, KindVectors, StudentVectors, DeadlineVectors, JointVectors, EndingVectors, WatchVector, EarlierVectors, DecisionVectors, RowVectors, RoomVectors}
 
 pub student-vectors : StudentVectors
 unfolding
@@ -45,7 +45,7 @@ unfolding
     lines linesFrom image rowsFor clauseRows expressionRows outputsOf endRow liveRow holdsEmpty afterClause afterExpression stateOf afterPeriod
     valuesAfter newValues computed counted tries bit field value
 kind-vectors =
-    record { powers-and-duties = refl; accepted-second = refl; rejected-fails = refl; accepted-odd = refl; rejected-until = refl }
+    record { powers-and-duties = refl; accepted-second = refl; rejected-fails = refl; accepted-odd = refl }
 
 pub deadline-vectors : DeadlineVectors
 unfolding
@@ -69,13 +69,37 @@ unfolding
 joint-vectors =
     record { joint-alone = refl; joint-repeated = refl; joint-united = refl; joint-repaired = refl; joint-begun-later = refl }
 
+pub ending-vectors : EndingVectors
+unfolding
+    lines linesFrom image rowsFor clauseRows expressionRows outputsOf endRow liveRow holdsEmpty afterClause afterExpression stateOf afterPeriod
+    valuesAfter newValues computed counted tries bit field value
+ending-vectors =
+    record {
+      notice-in-2 = refl;
+      violated-at-acceptance = refl;
+      later-completes = refl;
+      ends-before-first = refl;
+      not-of-last-round = refl;
+      nothing-before-begun = refl;
+      not-from-before-begun = refl;
+      no-living-expression = refl;
+    }
+
 pub watch-vector : WatchVector
 unfolding
-    replies repliesFrom decidedReplies decide decideTest unreadTest recordsRead stateAfterRecords periodsOf afterPeriods read Reader.goodContractLength Reader.contractRecords readRecords readRecord firstNumbered kindOf goodFields operandsOf node imageFor image
+    replies repliesOn repliesFrom decidedReplies decide decideTest unreadTest recordsRead stateAfterRecords periodsOf afterPeriods read Reader.goodContractLength Reader.contractRecords readRecords readRecord firstNumbered kindOf goodFields operandsOf node imageFor image
     rowsFor clauseRows outputsOf afterClause imageBytes rowsBytes endBytes encode begin step call beginTest stepTest readyTest fieldsBytes
     imageTest goodImageLength rowCount firstFailing goodRowAt goodEnd decode rowOf imageOf rowsOf stateTest stateOf stateBytes sound allAtMost allZero
     periodTest formTest startTest marksTest eitherMark formOf wholePeriods markedAt countTest afterPeriod valuesAfter newValues computed counted periodAt periodFrom tries bit marked bytes field value
 watch-vector = record { replied = refl; replied-wide = refl; decided = refl; decided-wide = refl; upper-action = refl }
+
+pub earlier-vectors : EarlierVectors
+unfolding
+    replies repliesOn repliesFrom decide decideTest unreadTest recordsRead stateAfterRecords periodsOf afterPeriods read Reader.goodContractLength Reader.contractRecords readRecords readRecord firstNumbered kindOf goodFields operandsOf node imageFor image
+    rowsFor clauseRows expressionRows outputsOf endRow holdsEmpty afterClause afterExpression imageBytes rowsBytes endBytes encode begin step call beginTest stepTest readyTest fieldsBytes
+    imageTest goodImageLength rowCount firstFailing goodRowAt goodEnd decode rowOf imageOf rowsOf stateTest stateOf stateBytes sound allAtMost allZero
+    periodTest formTest startTest marksTest eitherMark formOf wholePeriods markedAt countTest afterPeriod valuesAfter newValues computed counted periodAt periodFrom tries bit marked bytes field value
+earlier-vectors = record { earlier-answers = refl; earlier-decided = refl; answers-now = refl; decided-now = refl }
 
 pub decision-vectors : DecisionVectors
 decision-vectors = record { records = refl }
@@ -83,8 +107,17 @@ decision-vectors = record { records = refl }
 pub row-vectors : RowVectors
 unfolding
     read Reader.goodContractLength Reader.contractRecords readRecords readRecord firstNumbered kindOf goodFields operandsOf node imageFor image
-    rowsFor clauseRows windowRows outputsOf afterClause imageBytes rowsBytes endBytes encode rowCount marked bytes field value
-row-vectors = record { rows-of-window-1 = refl; rows-of-window-3 = refl; rows-of-joint = refl; rows-of-duty-2 = refl; row-counts = refl; most-rows = refl }
+    rowsFor clauseRows windowRows expressionRows outputsOf endRow holdsEmpty afterClause afterExpression imageBytes rowsBytes endBytes encode rowCount marked bytes field value
+row-vectors =
+    record {
+      rows-of-window-1 = refl;
+      rows-of-window-3 = refl;
+      rows-of-joint = refl;
+      rows-of-duty-2 = refl;
+      rows-of-until = refl;
+      row-counts = refl;
+      most-rows = refl;
+    }
 
 pub room-vectors : RoomVectors
 unfolding Reader.contractRecords Reader.contractWindows Reader.windowsOf

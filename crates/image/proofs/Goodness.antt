@@ -171,7 +171,7 @@ module _ (n : ℕ) where
       let inL = inside-expression e (afterClause c (inside Table.when b)) S (omega arith) in
       before Table.when (omega arith) (good-clause c (i .1) (omega arith) (good-expression e (i .0) (omega arith) (after Table.when (omega arith) g)))
   good-clause (until c e) {b} {S} i h g =
-      let inR = inside-expression e (inside Table.until b) S (omega arith) in
+      let inR = inside-expression e (inside Table.until b) (b ⊹ 5) (omega arith) in
       let inL = inside-clause c (afterExpression e (inside Table.until b)) (omega arith) in
       before Table.until (omega arith)
       (good-expression e {rest = clauseRows c (afterExpression e (inside Table.until b)) S (b ⊹ 2) _} (i .1) (omega arith)

@@ -12,11 +12,7 @@ use lib.ListN.{length, take, length-append}
 use lib.Seq.{take-append-seam}
 use Rattle.records.proofs.Cases.{lt-or-le}
 use Rattle.periods.specs.Periods.{Period}
-
--- between period 1 and period n, or not at all
-abbrev pub Between : ℕ → Option ℕ → Type 0
-Between n none = Unit {0}
-Between n (some k) = (1 ≤ k) × (k ≤ n)
+use Rattle.contract.proofs.Readings.{Between, happenedBy}
 
 -- f is a period of the list at which something happens: none so far, or one that stays when the list grows
 pub record Once (f : List Period → Option ℕ) : Type 0 where
@@ -72,11 +68,6 @@ module _ {f : List Period → Option ℕ} (o : Once f) where
   first-period p = o .only-now [] p none-yet
 
 -- ---- by the beginnings of a list
-
--- what has happened by period n
-abbrev pub happenedBy : ℕ → Option ℕ → Option ℕ
-happenedBy n none = none
-happenedBy n (some k) = cond (ltb n k) none (some k)
 
 still : (n : ℕ) (r : Option ℕ) (k : ℕ) → happenedBy n r ≡ some k → r ≡ some k
 still n none k e = absurd (Option·none-ne-some k e)

@@ -207,9 +207,10 @@ pub data WiredClause : Clause → (S K sat one two : Signal) → Type 0 where
       → (reading ≐ λ p h. S p h || (go p h && at live h))
       → (sat ≐ λ p h. satC p h || (reading p h && not (end p h || live p h)))
       → WiredClause (when e c) S K sat one two
-  wired-until : {c : Clause} {e : Expression} {S K go done end live satC one two sat : Signal}
+  wired-until : {c : Clause} {e : Expression} {S K go done reads end live satC one two sat : Signal}
       → UntilDone done K go
-      → WiredExpression e S go end live
+      → Remembers S go reads
+      → WiredExpression e reads go end live
       → WiredClause c S go satC one two
       → (sat ≐ λ p h. satC p h || (end p h && not (one p h || two p h)))
       → (done ≐ λ p h. sat p h || (one p h || two p h))

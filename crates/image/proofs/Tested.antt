@@ -14,10 +14,9 @@ use Rattle.periods.specs.Periods.{Period}
 use Rattle.contract.specs.Expressions.{Expression, Holds, member, begins}
 use Rattle.contract.specs.Readings.{AcceptedAt, RejectedAt, Reading, pending, accepted, rejected, judged, first, readingTo, reading}
 use Rattle.contract.proofs.Expressions.{member-iff, begins-iff}
-use Rattle.contract.proofs.Readings.{accepted-iff, rejected-iff}
+use Rattle.contract.proofs.Readings.{accepted-iff, rejected-iff, acceptedAt}
 use Rattle.image.proofs.Once.{isAt}
 use Rattle.image.proofs.Threads.{unlessPast}
-use Rattle.image.proofs.Decisions.{acceptedAt}
 use Rattle.image.proofs.Expressions.{heldBy, beginsBy}
 
 abbrev pub isPending : Reading → Bool

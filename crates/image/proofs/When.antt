@@ -17,12 +17,12 @@ use Rattle.contract.specs.Expressions.{Expression, Holds}
 use Rattle.contract.specs.Readings.{Reading, pending, accepted, rejected, readingTo, reading}
 use Rattle.contract.specs.Meaning.{Clause, when, Decision, undecided, satisfied, after, whenMeaning, meaning, EmptyFree}
 use Rattle.contract.proofs.Expressions.{member-iff, begins-iff, some-list}
-use Rattle.contract.proofs.Readings.{readingBy, reading-take}
+use Rattle.contract.proofs.Readings.{readingBy, reading-take, acceptedAt}
 use Rattle.image.proofs.Signals.{Signal, at, _≐_, isMet, isBroken, Says, HandsOver}
 use Rattle.image.proofs.Once.{happens, length-snoc}
 use Rattle.image.proofs.Threads.{Exclusive, until-fired, readNext, thread, cut, cut-off}
 use Rattle.image.proofs.Reports.{unbroken, now, nowBy}
-use Rattle.image.proofs.Decisions.{acceptedAt, once-accepted}
+use Rattle.image.proofs.Decisions.{once-accepted}
 use Rattle.image.proofs.Behaviour.{Behaves}
 use Rattle.image.proofs.Expressions.{heldBy, beginsBy, ReadsAlone}
 use Rattle.image.proofs.Tested.{isPending, Tested, goes-on, accepted-last, accepted-before, rejected-by-now, accepted-now, pending-now, tested}
@@ -47,8 +47,8 @@ rejected-now {n} {s} h (rejected-by-now {k} l) = go (lt-or-le n k)
 -- ---- the same of what has been read, if anything has
 
 module _ (e : Expression) where
-  abbrev acceptance : List Period → Option ℕ
-  acceptance w = acceptedAt (reading e w)
+  abbrev acceptedIn : List Period → Option ℕ
+  acceptedIn w = acceptedAt (reading e w)
 
   abbrev pendingBy : Option (List Period) → Bool
   pendingBy none = false
@@ -57,17 +57,17 @@ module _ (e : Expression) where
   abbrev rejectedBy : Option (List Period) → Bool
   rejectedBy t = isMet (nowBy (λ w. rejection (reading e w)) t)
 
-  accepted-by : (t : Option (List Period)) → heldBy e (cut acceptance t) ≡ happens acceptance t
+  accepted-by : (t : Option (List Period)) → heldBy e (cut acceptedIn t) ≡ happens acceptedIn t
   accepted-by none = refl
   accepted-by (some w) = accepted-now (tested e w)
 
-  pending-by : (t : Option (List Period)) → (not (heldBy e (cut acceptance t)) && beginsBy e (cut acceptance t)) ≡ pendingBy t
+  pending-by : (t : Option (List Period)) → (not (heldBy e (cut acceptedIn t)) && beginsBy e (cut acceptedIn t)) ≡ pendingBy t
   pending-by none = refl
   pending-by (some w) = pending-now (tested e w)
 
   -- one period more
   rejected-next : (w : List Period) (p : Period) → let t = some (w ++ (p ∷ [])) in
-      (isPending (reading e w) && not (beginsBy e (cut acceptance t))) ≡ rejectedBy t
+      (isPending (reading e w) && not (beginsBy e (cut acceptedIn t))) ≡ rejectedBy t
   rejected-next w p =
       let before : reading e w ≡ readingBy (length w) (reading e (w ++ (p ∷ []))) =
       rw (take-append-seam w (p ∷ [])) at (reading-take e (w ++ (p ∷ [])) (length w)) in
@@ -79,7 +79,7 @@ module _ (e : Expression) where
 
   -- by whether reading begins with the period, and whether it goes on
   rejected-by : ¬ Holds e [] → (p : Period) (s k : Bool) (t : Option (List Period)) → let u = readNext s k p t in
-      ((s || (k && pendingBy t)) && not (beginsBy e (cut acceptance u))) ≡ rejectedBy u
+      ((s || (k && pendingBy t)) && not (beginsBy e (cut acceptedIn u))) ≡ rejectedBy u
   rejected-by g p true k t = rw (pending-first g) at (rejected-next [] p)
   rejected-by g p false true none = refl
   rejected-by g p false true (some w) = rejected-next w p
@@ -89,11 +89,11 @@ module _ (e : Expression) where
 
 module _ (e : Expression) (guarded : ¬ Holds e []) {S K start go end live : Signal} (w : HandsOver end K start go)
     (reader : ReadsAlone e S go end live) where
-  ends-accepted : (h : List Period) → thread S go h ≡ cut (acceptance e) (thread S K h) → at end h ≡ happens (acceptance e) (thread S K h)
+  ends-accepted : (h : List Period) → thread S go h ≡ cut (acceptedIn e) (thread S K h) → at end h ≡ happens (acceptedIn e) (thread S K h)
   ends-accepted h c = rw (reader .ends h, c) (accepted-by e (thread S K h))
 
   -- the expression reads until it is accepted
-  reads-until : (h : List Period) → thread S go h ≡ cut (acceptance e) (thread S K h)
+  reads-until : (h : List Period) → thread S go h ≡ cut (acceptedIn e) (thread S K h)
   reads-until h = cut-off (once-accepted e guarded) S (until-fired w) ends-accepted h
 
   module _ {reads : Signal} (reads-is : reads ≐ λ p h. S p h || (go p h && at live h)) where

@@ -267,10 +267,11 @@ module _ (v : ℕ → Signal) (never-is : v neverRow ≐ λ p h. false) where
       (record { signals = o′ })
   wire-clause (until c e) o k =
       until-done o λ stops o₁.
-      wire-expression e o₁ λ reads o₂.
-      wire-clause c o₂ λ part o₃.
-      let (broken, (whole, (frees, (sat, (done, o′))))) = o₃ .signals in
-      k (wired-until stops reads part (λ p h. sat p h ∙ rw (frees p h, whole p h, broken p h)) (λ p h. done p h ∙ rw (broken p h)))
+      remembers o₁ λ reads o₂.
+      wire-expression e o₂ λ ending o₃.
+      wire-clause c o₃ λ part o₄.
+      let (broken, (whole, (frees, (sat, (done, o′))))) = o₄ .signals in
+      k (wired-until stops reads ending part (λ p h. sat p h ∙ rw (frees p h, whole p h, broken p h)) (λ p h. done p h ∙ rw (broken p h)))
       (record { signals = o′ })
 
   pub wired-clause : (c : Clause) (b S K : ℕ) (rest : List Row) → Obeys v b (clauseRows c b S K rest)

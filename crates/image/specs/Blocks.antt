@@ -1,9 +1,9 @@
 -- The rows of a clause and of an expression.
 -- The rows of a tree are a block from row b on. It is told by two rows when it reads: S is true in a period in which it begins to read,
--- K in a period in which it goes on from the period before. S and K of a clause, and of an expression under `when` or `until`, are never both
--- true. A block gives out rows: of a clause, whether it is satisfied in this very period, or violated with party 1, with party 2 to blame; of
--- an expression, whether a list of its set ends in this period, and whether one that has begun may still go on. (The image's own S is the row
--- `sat` of the whole clause.)
+-- K in a period in which it goes on from the period before. S and K of a clause, and of an expression under `when`, are never both true; the
+-- expression of an `until` begins to read in every period in which the `until` reads. A block gives out rows: of a clause, whether it is
+-- satisfied in this very period, or violated with party 1, with party 2 to blame; of an expression, whether a list of its set ends in this
+-- period, and whether one that has begun may still go on. (The image's own S is the row `sat` of the whole clause.)
 use Prim.Native.Nat.{ℕ, zero, suc, _-_}
 use mathlib.Core.Bool.{cond}
 use mathlib.Core.List.{List, _∷_}
@@ -201,7 +201,8 @@ deadlineRows p a d b S K rest =
 -- repeat: the clause starts with the whole, and in the period after each of its satisfactions.
 -- when: the expression reads until it is accepted, and then the clause starts. `reading`: it was neither accepted nor rejected before this period.
 -- `alive`: what has been read is in the set, or begins a list of it. `rejected`: now.
--- until: clause and expression read until the whole has decided. `accepted`: now, and the clause is not violated now.
+-- until: clause and expression read until the whole has decided. `reads`: the whole began to read in this period or before, and had not decided before
+-- it. The expression begins in every such period, and goes on. `accepted`: now, and the clause is not violated now.
 unfoldable pub clauseRows : Clause → (b S K : ℕ) → List Row → List Row
 clauseRows (literal l a) b S K rest = literalRows l a b S rest
 clauseRows (deadline p a d) b S K rest = deadlineRows p a d b S K rest
@@ -259,14 +260,15 @@ clauseRows (until c e) b S K rest =
     let right = inside Table.until b in
     let left = afterExpression e right in
     let n = afterClause c left in
-    let end = endRow e right S in
     let outC = outputsOf c left in
     let out = outputsOf (until c e) b in
     let broken = n in
     let accepted = n ⊹ 2 in
     let done = n ⊹ 4 in
     untilDone done K b λ go.
-    expressionRows e right S go
+    remember S go (b ⊹ 3) λ reads.
+    let end = endRow e right reads in
+    expressionRows e right reads go
     (clauseRows c left S go
     (disjunction (outC .one) (outC .two) ∷ negation broken ∷ conjunction end (n ⊹ 1) ∷ disjunction (outC .sat) accepted
     ∷ disjunction (out .sat) broken ∷ rest))

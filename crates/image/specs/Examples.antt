@@ -1,12 +1,13 @@
 -- Vectors of the image: every kind, every error of document 01's "What students hand in", and the example of "Watch" through the bytes; the rows
--- of deadlines and of joint duties (document 02, "Duties with a deadline" and "Duties that both parties own"), and the room for rows; the example of
--- "Watch" read to its decision (document 02, "Stop reading once it is decided").
+-- of deadlines and of joint duties (document 02, "Duties with a deadline" and "Duties that both parties own"), and the room for rows; `until` (document
+-- 02, "An ending that may begin in any period"), and an image of one that was compiled before; the example of "Watch" read to its decision
+-- (document 02, "Stop reading once it is decided").
 use Prim.Native.Nat.{ℕ, _+_}
 use mathlib.Core.List.{List, [], _∷_, _++_, map}
 use mathlib.Core.Path.{_≡_}
 use lib.ListN.{length, take, drop, replicate}
 use Rattle.records.specs.Examples.{area}
-use Rattle.records.specs.Verdicts.{Verdict, «open», met, broken, broken-after}
+use Rattle.records.specs.Verdicts.{Verdict, «open», met, met-after, broken, broken-after}
 use Rattle.periods.specs.Periods.{party1, party2, Period}
 use Rattle.periods.specs.Examples.{otherRecord}
 use Rattle.layout.specs.Images.{Image, rowCount}
@@ -18,7 +19,7 @@ use Rattle.runner.specs.Calls.{begin, step, decide}
 use Rattle.runner.specs.Examples.{reply, decideReply}
 use Rattle.contract.specs.Expressions.{any, tries, idle, succeeds, fails, atom, seq, or, star}
 use Rattle.contract.specs.Meaning.{only, Clause, Decision, undecided, satisfied, violated, deadline, both, then, repair, repeat, when, until}
-use Rattle.contract.specs.Examples.{a, b, duty, joint, ban, power, a/a, a/-, -/a, -/-, b/a, b/b, b/-}
+use Rattle.contract.specs.Examples.{a, b, duty, joint, ban, power, a/a, a/-, -/a, -/-, ab/a, b/a, b/b, b/-, tries-a, tries-b, undeciding}
 use Rattle.reader.specs.Examples.{six, sixWith, joined}
 use Rattle.image.specs.Limits.{allowedFor, bufferFor}
 use Rattle.image.specs.Images.{image, imageFor}
@@ -52,12 +53,8 @@ pub record KindVectors : Type 0 where
   pub rejected-fails : lines (when (atom (fails a)) (duty party2 a)) (a/a ∷ []) ≡ (met, 0, 1) ∷ []
   -- accepted in the first odd period in which party 1 tries a
   pub accepted-odd :
-      lines (until (repeat (ban party1 b)) (seq (star (seq (atom any) (atom any))) (atom (tries party1 a)))) (-/- ∷ a/- ∷ a/- ∷ [])
-      ≡ («open», 0, 0) ∷ («open», 0, 0) ∷ (met, 0, 3) ∷ []
-  -- rejected in period 1, which leaves the clause alone to decide
-  pub rejected-until :
-      lines (until (repeat (duty party1 a)) (atom (tries party1 b))) (a/a ∷ b/- ∷ [])
-      ≡ («open», 0, 0) ∷ (broken, 1, 2) ∷ []
+      lines (when (seq (star (seq (atom any) (atom any))) (atom (tries party1 a))) (ban party1 b)) (-/- ∷ a/- ∷ a/- ∷ b/b ∷ [])
+      ≡ («open», 0, 0) ∷ («open», 0, 0) ∷ («open», 0, 0) ∷ (broken, 1, 4) ∷ []
 
 -- ---- what students hand in; the student's answer stands in brackets
 
@@ -131,6 +128,39 @@ pub record JointVectors : Type 0 where
   -- it says nothing before it begins to read in period 2 (broken in 1)
   pub joint-begun-later : lines (then (ban party1 a) (joint a)) (-/- ∷ -/- ∷ []) ≡ («open», 0, 0) ∷ (broken, 3, 2) ∷ []
 
+-- ---- endings; what a wrong block would give stands in brackets
+
+pub record EndingVectors : Type 0 where
+  -- accepted in period 2 (open there, from period 1 alone)
+  pub notice-in-2 : lines (until (repeat (duty party1 a)) tries-b) (a/a ∷ ab/a ∷ []) ≡ («open», 0, 0) ∷ (met, 0, 2) ∷ []
+  -- the violation in the accepting period counts, so it is repaired from period 3 on (met in 2)
+  pub violated-at-acceptance :
+      lines (repair (until (repeat (duty party1 a)) tries-b) (duty party2 a)) (a/a ∷ b/a ∷ a/- ∷ [])
+      ≡ («open», 0, 0) ∷ («open», 0, 0) ∷ (broken, 2, 3) ∷ []
+  -- of two stretches that overlap the later one completes (open in 4)
+  pub later-completes :
+      lines (until undeciding (seq tries-a (seq tries-a tries-b))) (a/- ∷ a/- ∷ a/- ∷ b/- ∷ [])
+      ≡ («open», 0, 0) ∷ («open», 0, 0) ∷ («open», 0, 0) ∷ (met, 0, 4) ∷ []
+  -- the stretch from period 2 ends before that from period 1 (met in 4)
+  pub ends-before-first :
+      lines (until undeciding (or (seq tries-a (seq (atom any) (seq (atom any) tries-b))) (seq tries-b tries-b))) (a/- ∷ b/- ∷ b/- ∷ b/- ∷ [])
+      ≡ («open», 0, 0) ∷ («open», 0, 0) ∷ (met, 0, 3) ∷ (met-after, 0, 3) ∷ []
+  -- the stretch of periods 2 and 3 began in the last round, so b is owed in period 4 (broken there)
+  pub not-of-last-round :
+      lines (repeat (until (then (duty party1 a) (duty party1 b)) (seq tries-b tries-a))) (a/a ∷ b/b ∷ a/a ∷ b/b ∷ [])
+      ≡ replicate 4 («open», 0, 0)
+  -- begun in period 3, it counts nothing that was tried in period 2: alone (met in 2), or as the beginning of a stretch (met in 3)
+  pub nothing-before-begun :
+      lines (then (then (duty party1 a) (duty party1 a)) (until undeciding tries-b)) (a/a ∷ ab/a ∷ -/- ∷ b/- ∷ [])
+      ≡ («open», 0, 0) ∷ («open», 0, 0) ∷ («open», 0, 0) ∷ (met, 0, 4) ∷ []
+  pub not-from-before-begun :
+      lines (then (then (duty party1 a) (duty party1 a)) (until undeciding (seq tries-b tries-b))) (a/a ∷ ab/a ∷ b/- ∷ b/- ∷ [])
+      ≡ («open», 0, 0) ∷ («open», 0, 0) ∷ («open», 0, 0) ∷ (met, 0, 4) ∷ []
+  -- accepted in period 1, it ends there with its expression: the stretch of periods 1 and 2 does not begin the right of `then` again (broken in 3)
+  pub no-living-expression :
+      lines (then (until undeciding (or tries-b (seq tries-b tries-a))) (then (ban party1 b) (duty party1 b))) (b/- ∷ a/- ∷ b/b ∷ [])
+      ≡ («open», 0, 0) ∷ («open», 0, 0) ∷ (met, 0, 3) ∷ []
+
 -- ---- the contract and the periods of "Watch", byte for byte: its image, begin, and a step call for each period
 
 abbrev pub watchedBytes : List ℕ
@@ -162,10 +192,12 @@ repliesFrom image state (r ∷ rs) =
     let after = step image state r (area 24) in
     after .reply ∷ repliesFrom image (after .buffers) rs
 
+-- on an image, from begin on
+unfoldable pub repliesOn : (image : List ℕ) → (records : List (List ℕ)) → List (List ℕ)
+repliesOn image rs = repliesFrom image (begin image (area (10 + rowCount image)) (area 16) .buffers) rs
+
 unfoldable pub replies : (contract : List ℕ) → (records : List (List ℕ)) → List (List ℕ)
-replies contract rs =
-    let image = imageFor contract in
-    repliesFrom image (begin image (area (10 + rowCount image)) (area 16) .buffers) rs
+replies contract rs = repliesOn (imageFor contract) rs
 
 -- decide's replies on the first records, 2 of them, 3 and all, and on all with a wrong mark in the last one
 unfoldable pub decidedReplies : (contract : List ℕ) → (records : List (List ℕ)) → List (List ℕ)
@@ -193,7 +225,39 @@ pub record WatchVector : Type 0 where
 pub record DecisionVectors : Type 0 where
   pub records : map (λ (d : Decision). recordsFor d 5) (undecided ∷ satisfied 3 ∷ violated 4 (only party1) ∷ []) ≡ 5 ∷ 3 ∷ 4 ∷ []
 
--- ---- the rows of deadlines and of joint duties, and the room for rows
+-- ---- an image that was compiled before endings could begin in any period: it goes on as it is
+
+-- until (repeat (duty 1 a), tries 1 b), and a/a, ab/a, -/-
+abbrev pub noticeBytes : List ℕ
+noticeBytes = joined (six 1 1 0 ∷ six 7 0 0 ∷ six 17 1 1 ∷ six 9 0 0 ∷ [])
+
+abbrev pub noticeRecords : List (List ℕ)
+noticeRecords =
+    (0x54 ∷ 0x50 ∷ 0x01 ∷ 0x00 ∷ 0x01 ∷ 0x00 ∷ [])
+    ∷ (0x54 ∷ 0x50 ∷ 0x03 ∷ 0x00 ∷ 0x01 ∷ 0x00 ∷ [])
+    ∷ (0x54 ∷ 0x50 ∷ 0x00 ∷ 0x00 ∷ 0x00 ∷ 0x00 ∷ []) ∷ []
+
+-- the image that was compiled of it then: the expression's rows start with the `until` alone
+abbrev pub earlierImage : List ℕ
+earlierImage =
+    joined
+    (row 0 0 0 ∷ row 1 0 0 ∷ row 3 1 0
+    ∷ row 6 25 0 ∷ row 3 3 0 ∷ row 4 2 4
+    ∷ row 2 1 1 ∷ row 4 1 6
+    ∷ row 6 16 0 ∷ row 4 5 8 ∷ row 3 8 0 ∷ row 4 5 10 ∷ row 5 1 9
+    ∷ row 2 1 0 ∷ row 2 2 0 ∷ row 4 12 13 ∷ row 4 15 14 ∷ row 3 13 0 ∷ row 4 12 17 ∷ row 3 14 0 ∷ row 4 15 19
+    ∷ row 5 18 20 ∷ row 3 21 0 ∷ row 4 7 22 ∷ row 5 0 23 ∷ row 5 24 21
+    ∷ end 24 18 20 ∷ [])
+
+pub record EarlierVectors : Type 0 where
+  -- as it answered: not accepted in period 1, it never is, and party 1 breaks the duty in period 3
+  pub earlier-answers : repliesOn earlierImage noticeRecords ≡ reply 0 0 0 0 0 ∷ reply 0 0 0 0 0 ∷ reply 0 2 0 1 3 ∷ []
+  pub earlier-decided : decide earlierImage (joined noticeRecords) (area 32) .reply ≡ decideReply 0 2 0 1 3 3
+  -- the image that is compiled now: met in period 2
+  pub answers-now : replies noticeBytes noticeRecords ≡ reply 0 0 0 0 0 ∷ reply 0 1 0 0 2 ∷ reply 0 3 0 0 2 ∷ []
+  pub decided-now : decide (imageFor noticeBytes) (joined noticeRecords) (area 32) .reply ≡ decideReply 0 1 0 0 2 2
+
+-- ---- the rows of deadlines, of joint duties and of `until`, and the room for rows
 
 pub record RowVectors : Type 0 where
   -- kind and fields of each row: the fixed rows, the deadline's six before its window's rows and six after them
@@ -228,6 +292,17 @@ pub record RowVectors : Type 0 where
       (row 0 0 0 ∷ row 1 0 0 ∷ row 3 1 0
       ∷ row 2 2 2 ∷ row 2 1 2 ∷ row 4 1 3 ∷ row 4 5 4 ∷ row 3 3 0 ∷ row 4 1 7 ∷ row 3 4 0 ∷ row 4 5 9
       ∷ end 6 10 8 ∷ [])
+  -- rows 6 to 8 tell that the `until` reads, and the expression's rows 9 and 10 start with row 8 for row 1
+  pub rows-of-until :
+      imageFor noticeBytes
+      ≡ joined
+      (row 0 0 0 ∷ row 1 0 0 ∷ row 3 1 0
+      ∷ row 6 28 0 ∷ row 3 3 0 ∷ row 4 2 4 ∷ row 6 8 0 ∷ row 4 5 6 ∷ row 5 7 1
+      ∷ row 2 1 1 ∷ row 4 8 9
+      ∷ row 6 19 0 ∷ row 4 5 11 ∷ row 3 11 0 ∷ row 4 5 13 ∷ row 5 1 12
+      ∷ row 2 1 0 ∷ row 2 2 0 ∷ row 4 15 16 ∷ row 4 18 17 ∷ row 3 16 0 ∷ row 4 15 20 ∷ row 3 17 0 ∷ row 4 18 22
+      ∷ row 5 21 23 ∷ row 3 24 0 ∷ row 4 10 25 ∷ row 5 0 26 ∷ row 5 27 24
+      ∷ end 27 21 23 ∷ [])
   pub row-counts : map (λ (d : ℕ). rowCount (imageFor (sixWith 10 1 0 d))) (1 ∷ 2 ∷ 3 ∷ 15 ∷ []) ≡ 15 ∷ 18 ∷ 21 ∷ 57 ∷ []
   -- the most that 64 records have: 32 deadlines of 15 periods each, 31 times `both`, and `repeat`
   pub most-rows :

@@ -12,7 +12,7 @@ use Rattle.periods.specs.Periods as Periods
 use Rattle.periods.proofs.Recorded.{Recorded, masked, masked-tries, masked-recorded}
 use Rattle.contract.specs.Expressions.{Atom, any, idle, succeeds, fails, holds, Expression, Holds, one, join, left, right, none, more, member, begins}
 use Rattle.contract.specs.Expressions as Expressions
-use Rattle.contract.specs.Readings.{Dead, Reading, pending, accepted, rejected, judged, readingTo, reading}
+use Rattle.contract.specs.Readings.{Dead, Reading, pending, accepted, rejected, judged, readingTo, reading, ends, acceptanceTo, acceptance}
 use Rattle.contract.specs.Meaning.{only, Literal, duty, ban, power, Clause, literal, deadline, both, then, repair, repeat, when, until, Decision, undecided, satisfied, violated, testedFirst, literalMeaning, later, after, firstSuccess, thenMeaning, repairMeaning, repeatMeaning, whenMeaning, meaning}
 use Rattle.contract.proofs.Expressions.{member-iff, begins-iff}
 use Rattle.reader.specs.Spelling.{atomRecord, literalRecord, deadlineRecord, Allowed, ExpressionInRange, InRange}
@@ -103,10 +103,13 @@ module _ (e : Expression) (r : ExpressionInRange e) where
   begins-like {w} {v} a h =
       let b = begins-iff e w .0 h in begins-iff e v .1 (b .0, held-alike r (b .1) (alike-join a (all-same (b .0))))
 
+  member-alike : {w v : List Period} → AllAlike w v → member e w ≡ member e v
+  member-alike {w} {v} a = both-ways (member e w) (member e v) (member-like a) (member-like (alike-back a))
+
   judged-alike : {w v : List Period} → AllAlike w v → (k : ℕ) → judged (member e w) (begins e w) k ≡ judged (member e v) (begins e v) k
   judged-alike {w} {v} a k =
       rw (
-        both-ways (member e w) (member e v) (member-like a) (member-like (alike-back a)),
+        member-alike a,
         both-ways (begins e w) (begins e v) (begins-like a) (begins-like (alike-back a)),
       )
 
@@ -118,6 +121,20 @@ module _ (e : Expression) (r : ExpressionInRange e) where
   pub reading-alike : {w v : List Period} → AllAlike w v → reading e w ≡ reading e v
   unfolding reading
   reading-alike {w} a = rw (← alike-length a) (reads-alike a (length w))
+
+  ends-alike : {w v : List Period} → AllAlike w v → ends e w ≡ ends e v
+  unfolding ends
+  ends-alike end = refl
+  ends-alike (next s a) = rw (member-alike (next s a), ends-alike a)
+
+  acceptance-to-alike : {w v : List Period} → AllAlike w v → (n : ℕ) → acceptanceTo e w n ≡ acceptanceTo e v n
+  unfolding acceptanceTo
+  acceptance-to-alike a zero = refl
+  acceptance-to-alike a (suc n) = rw (acceptance-to-alike a n, ends-alike (alike-take (suc n) a))
+
+  pub acceptance-alike : {w v : List Period} → AllAlike w v → acceptance e w ≡ acceptance e v
+  unfolding acceptance
+  acceptance-alike {w} a = rw (← alike-length a) (acceptance-to-alike a (length w))
 
 -- ---- clauses
 
@@ -183,7 +200,7 @@ meaning-alike (repair l r) g w v a =
 meaning-alike (repeat c) g w v a = rw (← alike-length a) (repeat-alike (meaning c) (meaning-alike c g) (length w) w v a)
 meaning-alike (when e c) g w v a =
     rw (reading-alike e (g .0) a) (when-alike _ _ (after-alike (meaning c) (meaning-alike c (g .1)) w v a) (reading e v))
-meaning-alike (until c e) g w v a = rw (meaning-alike c (g .0) w v a, reading-alike e (g .1) a)
+meaning-alike (until c e) g w v a = rw (meaning-alike c (g .0) w v a, acceptance-alike e (g .1) a)
 
 -- ---- without the bits above the last action
 
@@ -202,6 +219,9 @@ masked-all (x ∷ w) = next (masked-recorded x) (masked-all w)
 -- accepted and rejected at the same periods, if at any
 pub reading-masked : (e : Expression) → ExpressionInRange e → (w : List Period) → reading e (map masked w) ≡ reading e w
 reading-masked e r w = reading-alike e r (masked-alike w)
+
+pub acceptance-masked : (e : Expression) → ExpressionInRange e → (w : List Period) → acceptance e (map masked w) ≡ acceptance e w
+acceptance-masked e r w = acceptance-alike e r (masked-alike w)
 
 pub meaning-masked : (c : Clause) → InRange c → (w : List Period) → meaning c (map masked w) ≡ meaning c w
 meaning-masked c r w = meaning-alike c r (map masked w) w (masked-alike w)

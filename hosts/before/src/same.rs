@@ -1,6 +1,8 @@
-//! One case on both archives: every call leaves the same bytes.
+//! One case on both archives: every call leaves the same bytes, but for images of contracts with an
+//! `until` where the archives compile others.
 
 use crate::archive::Archive;
+use crate::until::{compile_alike, has_until};
 use compare::cases::{Call, Case, Start};
 use compare::guard::Lent;
 use compare::random::Random;
@@ -16,6 +18,8 @@ pub struct Tally {
     pub compiles: u64,
     /// The compiles that were accepted.
     pub taken: u64,
+    /// The contracts of which they compile different images.
+    pub other_images: u64,
     pub begins: u64,
     pub steps: u64,
     pub runs: u64,
@@ -28,10 +32,12 @@ impl Display for Tally {
     fn fmt(&self, to: &mut Formatter) -> fmt::Result {
         write!(
             to,
-            "{} cases with {} compiles ({} taken), {} begins, {} steps, {} runs, {} decides, {} joins",
+            "{} cases with {} compiles ({} taken, {} of them to other images), {} begins, {} steps, \
+             {} runs, {} decides, {} joins",
             self.cases,
             self.compiles,
             self.taken,
+            self.other_images,
             self.begins,
             self.steps,
             self.runs,
@@ -46,9 +52,19 @@ impl Display for Tally {
 pub struct Pair {
     pub before: Archive,
     pub now: Archive,
+    /// Whether both compile the same images of contracts with an `until`.
+    pub untils_alike: bool,
 }
 
 impl Pair {
+    pub fn new(before: Archive, now: Archive) -> Pair {
+        Pair {
+            before,
+            now,
+            untils_alike: compile_alike(&before, &now),
+        }
+    }
+
     /// Runs the case; an error is the first difference.
     pub fn check(&self, case: &Case, tally: &mut Tally) -> Result<(), Difference> {
         tally.cases += 1;
@@ -65,21 +81,26 @@ impl Pair {
                 reply,
             } => {
                 let contract = Lent::new("contract", bytes, &mut random);
-                let image = self.compile(&contract, *buffer, *reply, &mut random, tally)?;
-                let Some(image) = image else {
+                let images = self.compile(&contract, *buffer, *reply, &mut random, tally)?;
+                if images.is_empty() {
                     return Ok(());
-                };
+                }
                 // Another compile, into a buffer of another length and content.
                 let buffer = least_buffer(bytes) + random.below(100);
                 self.compile(&contract, buffer, 2048, &mut random, tally)?;
-                let state = random.bytes(10 + image.len() / 8 - 1);
-                self.check_calls(case, &image, &state, random, tally)
+                for image in images {
+                    let state = random.bytes(10 + image.len() / 8 - 1);
+                    self.check_calls(case, &image, &state, &mut random, tally)?;
+                }
+                Ok(())
             }
-            Start::Image { bytes, state } => self.check_calls(case, bytes, state, random, tally),
+            Start::Image { bytes, state } => {
+                self.check_calls(case, bytes, state, &mut random, tally)
+            }
         }
     }
 
-    /// The image, where compile accepts.
+    /// The images, where compile accepts: one, or two where the archives compile different ones.
     fn compile(
         &self,
         contract: &Lent,
@@ -87,7 +108,7 @@ impl Pair {
         reply: usize,
         random: &mut Random,
         tally: &mut Tally,
-    ) -> Result<Option<Vec<u8>>, Difference> {
+    ) -> Result<Vec<Vec<u8>>, Difference> {
         let mut image = Lent::random("image buffer", buffer, random);
         let mut reply = Lent::random("reply area", reply, random);
         let results = [
@@ -100,13 +121,31 @@ impl Pair {
                 .compile(contract.product(), image.product_mut(), reply.product_mut()),
         ];
         tally.compiles += 1;
-        same("compile", results, &[contract, &image, &reply])?;
-        if results[1] == 0 || four_bytes(reply.product(), 0) != 0 {
-            return Ok(None);
+        let accepted = |area: &[u8]| results == [1, 1] && four_bytes(area, 0) == 0;
+        let images = if accepted(reply.reference()) && accepted(reply.product()) {
+            let mut images = vec![
+                image_in(image.reference(), reply.reference()),
+                image_in(image.product(), reply.product()),
+            ];
+            images.dedup();
+            images
+        } else {
+            Vec::new()
+        };
+        if images.len() == 2 && !self.untils_alike && has_until(contract.product()) {
+            tally.other_images += 1;
+            // The rest of the buffer and of the reply must be the same.
+            let longer = images[0].len().max(images[1].len());
+            let (rows, ours) = (
+                image.product()[..longer].to_vec(),
+                reply.product()[4..8].to_vec(),
+            );
+            image.reference_mut()[..longer].copy_from_slice(&rows);
+            reply.reference_mut()[4..8].copy_from_slice(&ours);
         }
-        tally.taken += 1;
-        let rows = four_bytes(reply.product(), 4) as usize;
-        Ok(image.product().get(..8 * (rows + 1)).map(<[u8]>::to_vec))
+        same("compile", results, &[contract, &image, &reply])?;
+        tally.taken += u64::from(!images.is_empty());
+        Ok(images)
     }
 
     fn check_calls(
@@ -114,11 +153,11 @@ impl Pair {
         case: &Case,
         image: &[u8],
         state: &[u8],
-        mut random: Random,
+        random: &mut Random,
         tally: &mut Tally,
     ) -> Result<(), Difference> {
-        let image = Lent::new("image", image, &mut random);
-        let state = Lent::new("state", state, &mut random);
+        let image = Lent::new("image", image, random);
+        let state = Lent::new("state", state, random);
         let mut calls = Calls {
             pair: self,
             image,
@@ -132,12 +171,18 @@ impl Pair {
     }
 }
 
+/// The image in a buffer, by the row count of compile's reply.
+fn image_in(buffer: &[u8], reply: &[u8]) -> Vec<u8> {
+    let rows = four_bytes(reply, 4) as usize;
+    buffer[..8 * (rows + 1)].to_vec()
+}
+
 /// Calls on one image and one state.
 struct Calls<'a> {
     pair: &'a Pair,
     image: Lent,
     state: Lent,
-    random: Random,
+    random: &'a mut Random,
 }
 
 /// Step or run.
@@ -167,7 +212,7 @@ impl Calls<'_> {
     }
 
     fn begin(&mut self, name: &str, reply: usize) -> Result<(), Difference> {
-        let mut reply = Lent::random("reply area", reply, &mut self.random);
+        let mut reply = Lent::random("reply area", reply, self.random);
         let results = [
             self.pair.before.begin(
                 self.image.reference(),
@@ -190,8 +235,8 @@ impl Calls<'_> {
         periods: &[u8],
         reply: usize,
     ) -> Result<(), Difference> {
-        let periods = Lent::new("period records", periods, &mut self.random);
-        let mut reply = Lent::random("reply area", reply, &mut self.random);
+        let periods = Lent::new("period records", periods, self.random);
+        let mut reply = Lent::random("reply area", reply, self.random);
         let results = [
             taking(
                 &self.pair.before,
@@ -219,8 +264,8 @@ impl Calls<'_> {
         reply: usize,
         tally: &mut Tally,
     ) -> Result<(), Difference> {
-        let trace = Lent::new("trace", trace, &mut self.random);
-        let mut reply = Lent::random("reply area", reply, &mut self.random);
+        let trace = Lent::new("trace", trace, self.random);
+        let mut reply = Lent::random("reply area", reply, self.random);
         let before = self.pair.before.decide(
             self.image.reference(),
             trace.reference(),
@@ -245,10 +290,10 @@ impl Calls<'_> {
         [trace, reply]: [usize; 2],
         tally: &mut Tally,
     ) -> Result<(), Difference> {
-        let one = Lent::new("log 1", &logs[0], &mut self.random);
-        let two = Lent::new("log 2", &logs[1], &mut self.random);
-        let mut trace = Lent::random("trace buffer", trace, &mut self.random);
-        let mut reply = Lent::random("reply area", reply, &mut self.random);
+        let one = Lent::new("log 1", &logs[0], self.random);
+        let two = Lent::new("log 2", &logs[1], self.random);
+        let mut trace = Lent::random("trace buffer", trace, self.random);
+        let mut reply = Lent::random("reply area", reply, self.random);
         let before = self.pair.before.join(
             one.reference(),
             two.reference(),
@@ -278,13 +323,10 @@ fn same(call: &str, [before, now]: [u32; 2], lent: &[&Lent]) -> Result<(), Diffe
 #[cfg(test)]
 mod tests {
     use super::*;
-    use crate::spoiled::{spoiled, OUTPUT, REPLY, RESULT};
+    use crate::spoiled::{spoiled, unsatisfied, OUTPUT, REPLY, RESULT};
 
     fn pair(now: Archive) -> Pair {
-        Pair {
-            before: Archive::of_hosts(),
-            now,
-        }
+        Pair::new(Archive::of_hosts(), now)
     }
 
     /// The first difference in some cases.
@@ -331,6 +373,30 @@ mod tests {
             pair.check(&Case::of_seed(seed), &mut tally).unwrap();
         }
         assert!(tally.decides > 0 && tally.joins == 0);
+    }
+
+    #[test]
+    fn contracts_with_an_until_may_have_other_images() {
+        let tallies = [Archive::of_hosts(), unsatisfied::<false>()].map(|now| {
+            let (pair, mut tally) = (pair(now), Tally::default());
+            for seed in 0..1000 {
+                pair.check(&Case::of_seed(seed), &mut tally).unwrap();
+            }
+            (pair.untils_alike, tally)
+        });
+        let [(true, alike), (false, other)] = tallies else {
+            panic!("the archives compile other images of contracts with an until");
+        };
+        assert_eq!((alike.other_images, alike.taken), (0, other.taken));
+        assert!(0 < other.other_images && other.other_images < other.taken);
+        // The calls are made on both images.
+        assert!(alike.begins < other.begins && alike.decides < other.decides);
+    }
+
+    #[test]
+    fn other_contracts_may_not() {
+        let text = difference(unsatisfied::<true>());
+        assert!(text.contains("image buffer"), "{text}");
     }
 
     #[test]

@@ -1,7 +1,8 @@
 //! Today's archive with one fault, for tests.
 
 use crate::archive::Archive;
-use std::ptr;
+use crate::until::has_until;
+use std::{ptr, slice};
 
 /// The result is another one.
 pub const RESULT: u8 = 0;
@@ -35,6 +36,15 @@ pub fn refusing() -> Archive {
     }
 }
 
+/// Today's archive, but its images never tell that a contract is satisfied: those of all contracts,
+/// or of contracts with an `until`.
+pub fn unsatisfied<const ALL: bool>() -> Archive {
+    Archive {
+        compile: compile_unsatisfied::<ALL>,
+        ..Archive::of_hosts()
+    }
+}
+
 // Safety of what follows: the pointers and lengths are those of slices that live through the call.
 
 unsafe extern "C" fn refuse(
@@ -61,6 +71,31 @@ unsafe extern "C" fn refuse_period(
 ) -> u32 {
     *reply = 11;
     1
+}
+
+unsafe extern "C" fn compile_unsatisfied<const ALL: bool>(
+    contract: *const u8,
+    contract_length: usize,
+    image: *mut u8,
+    image_length: usize,
+    reply: *mut u8,
+    reply_length: usize,
+) -> u32 {
+    let result = (Archive::of_hosts().compile)(
+        contract,
+        contract_length,
+        image,
+        image_length,
+        reply,
+        reply_length,
+    );
+    let is_accepted = result == 1 && ptr::read_unaligned(reply.cast::<u32>()) == 0;
+    if is_accepted && (ALL || has_until(slice::from_raw_parts(contract, contract_length))) {
+        let rows = ptr::read_unaligned(reply.add(4).cast::<u32>()) as usize;
+        // S of the end record: row 0, which is never true.
+        ptr::write_bytes(image.add(8 * rows + 2), 0, 2);
+    }
+    result
 }
 
 unsafe fn flip_last(area: *mut u8, length: usize) {

@@ -1,6 +1,7 @@
 //! One case on the product and on the reference.
 
 use crate::cases::{Call, Case, Start};
+use crate::endings;
 use crate::guard::Lent;
 use crate::images::{names_upper, rows_of, ROW};
 use crate::joins::{self, Joined, Judged};
@@ -353,6 +354,10 @@ impl Calls {
         if tally.result("decide", expected, reply) {
             tally.form(Form::of_mark(trace), self.names_upper);
             tally.decide(four_bytes(reply, 4));
+            if let Some(clause) = &self.clause {
+                let read = four_bytes(reply, 24) as usize;
+                tally.ending(endings::ending(clause, traces::periods(trace).take(read)));
+            }
             self.decided(call, trace, reply)?;
             self.same_as_run(call, trace, reply)?;
         }

@@ -116,11 +116,14 @@ fn record_count(random: &mut Random) -> usize {
 
 /// A contract that is taken.
 pub fn good(random: &mut Random) -> Vec<u8> {
-    if random.percent(2) {
-        return many_deadlines(random);
+    match random.below(100) {
+        0 | 1 => many_deadlines(random),
+        2..=21 => endings(random),
+        _ => {
+            let records = record_count(random);
+            of_records(random, records, 0)
+        }
     }
-    let records = record_count(random);
-    of_records(random, records, 0)
 }
 
 /// A contract of at most so many records that is taken.
@@ -152,6 +155,68 @@ fn joined(random: &mut Random, style: &Style, literals: usize, out: &mut Vec<u8>
     joined(random, style, left, out);
     joined(random, style, right, out);
     push(out, random.pick(style.joins), 0, 0);
+}
+
+/// An `until` or two on few actions, of clauses that often last for many periods: so an expression
+/// may be accepted by many a stretch. At times another clause comes first.
+fn endings(random: &mut Random) -> Vec<u8> {
+    let mut style = Style::random(random, 0);
+    style.fields.actions = random.between(1, 3);
+    style.fields.first = first_of(random, style.fields.actions);
+    style.fields.windows = random.pick(&[MIDDLING, ALL, LONGEST]);
+    style.literals = random.pick(&[&[1, 2, 3, 10], &[2, 3], &[3, 10], &[10]]);
+    let operator = random.pick(&[4, 5, 5, 6, 8, 9, 9, 9, 9, 9]);
+    let mut out = Vec::new();
+    match operator {
+        4 => ending(random, &style, 0, &mut out),
+        5 | 6 => clause(random, &style, 1, &mut out),
+        8 => guard(random, &style, 1, &mut out),
+        _ => {}
+    }
+    let inner = random.below(2);
+    ending(random, &style, inner, &mut out);
+    if operator != 9 {
+        push(&mut out, operator, 0, 0);
+    }
+    if random.percent(25) {
+        push(&mut out, 7, 0, 0);
+    }
+    out
+}
+
+/// An `until`, with so many others inside.
+fn ending(random: &mut Random, style: &Style, inner: usize, out: &mut Vec<u8>) {
+    if inner > 0 {
+        ending(random, style, inner - 1, out);
+    } else {
+        let records = random.pick(&[1, 1, 2, 3, 4, 5, 6]);
+        clause(random, style, records, out);
+    }
+    if random.percent(75) {
+        push(out, 7, 0, 0);
+    }
+    if random.percent(25) {
+        let records = random.between(1, 7);
+        guard(random, style, records, out);
+    } else {
+        parts(random, style, out);
+    }
+    push(out, 9, 0, 0);
+}
+
+/// An expression of two to four parts, one after the other: a period, or between the first and the
+/// last any number of them.
+fn parts(random: &mut Random, style: &Style, out: &mut Vec<u8>) {
+    let parts = random.between(2, 4);
+    for part in 1..=parts {
+        expression(random, style, 1, false, out);
+        if part > 1 && part < parts && random.percent(30) {
+            push(out, 23, 0, 0);
+        }
+        if part > 1 {
+            push(out, 21, 0, 0);
+        }
+    }
 }
 
 /// A contract whose records fit together, with the empty list now and then where it mustn't be.

@@ -6,6 +6,7 @@
 pub mod cases;
 pub mod check;
 pub mod contracts;
+mod endings;
 pub mod guard;
 pub mod images;
 mod joins;

@@ -2,6 +2,7 @@
 
 use crate::cases::{Call, Case, Start, FAMILIES};
 use crate::contracts::most_pending;
+use crate::endings::Ending;
 use crate::logs::{self, numbers};
 use crate::traces;
 use crate::watch::split;
@@ -150,6 +151,9 @@ pub struct Tally {
     /// Traces of decide by where their first bad mark stands: before the deciding record, at it,
     /// after it, where none decides.
     bad_marks: [usize; 4],
+    /// Accepted decides of an `until` by what accepts its expression up to the decision: nothing, the
+    /// stretch from its first period, only later ones.
+    endings: [usize; 3],
     /// Contracts undecided, satisfied and violated at the end of their periods.
     outcomes: [usize; 3],
     blames: [usize; 3],
@@ -304,6 +308,12 @@ impl Tally {
         }
     }
 
+    pub fn ending(&mut self, ending: Option<Ending>) {
+        if let Some(ending) = ending {
+            self.endings[ending as usize] += 1;
+        }
+    }
+
     pub fn decided(&mut self, meaning: &Monitor) {
         let outcome = usize::from(meaning.decision().outcome());
         self.outcomes[outcome] += 1;
@@ -377,6 +387,12 @@ impl Tally {
             "none decides",
         ];
         print_counts("decides, by first bad mark", &stands, &self.bad_marks);
+        let stretches = ["none", "from its first period", "later ones alone"];
+        print_counts(
+            "decides of an until, by the stretches accepted",
+            &stretches,
+            &self.endings,
+        );
         self.print_joins();
         print_counts("contracts at the end", &outcomes, &self.outcomes);
         print_counts("blames", &["1:", "2:", "3:"], &self.blames);

@@ -57,7 +57,7 @@ pub fn can_begin(expression: &Expression, list: &[Period]) -> bool {
     }
 }
 
-/// What an expression says of a list.
+/// What the expression of a `when` says of a list.
 #[derive(Clone, Copy, Debug, PartialEq, Eq)]
 pub enum Reading {
     Pending,
@@ -78,6 +78,13 @@ pub fn reading(expression: &Expression, list: &[Period]) -> Reading {
         }
     }
     Reading::Pending
+}
+
+/// Document 02, "An ending that may begin in any period": the expression of an `until` that reads
+/// from the list's first period "is accepted at the least k such that the stretch from some period
+/// of this `until` to period k is in its set. It is never rejected."
+pub fn acceptance(expression: &Expression, list: &[Period]) -> Option<usize> {
+    (1..=list.len()).find(|k| (1..=*k).any(|j| holds(expression, &list[j - 1..*k])))
 }
 
 /// The decision of a clause on a list of periods.
@@ -105,11 +112,13 @@ pub fn decision(clause: &Clause, list: &[Period]) -> Decision {
             Reading::Accepted(k) => from_after(then, list, k),
             Reading::Rejected(k) => Decision::Satisfied { period: k },
         },
-        Clause::Until(own, expression) => match (decision(own, list), reading(expression, list)) {
-            (Decision::Undecided, Reading::Accepted(k)) => Decision::Satisfied { period: k },
-            (own, Reading::Accepted(k)) if own.period() > k => Decision::Satisfied { period: k },
-            (own, _) => own,
-        },
+        Clause::Until(own, expression) => {
+            match (decision(own, list), acceptance(expression, list)) {
+                (Decision::Undecided, Some(k)) => Decision::Satisfied { period: k },
+                (own, Some(k)) if own.period() > k => Decision::Satisfied { period: k },
+                (own, _) => own,
+            }
+        }
         Clause::Deadline(party, action, window) => deadline(*party, *action, *window, list),
     }
 }

@@ -1,6 +1,7 @@
 //! The plugin contract monitor a second time, from document 01 and document 02's "Duties with a
 //! deadline", "Duties that both parties own", "Stop reading once it is decided", "Thirty-two
-//! actions" and "Join the two parties' logs", and not from its code, to compare the monitor with.
+//! actions", "Join the two parties' logs" and "An ending that may begin in any period", and not
+//! from its code, to compare the monitor with.
 //!
 //! Quotations in the comments are these documents' words. The meaning of a contract is here twice:
 //! [`definition`] decides whole lists of periods as the text says it, slowly; [`monitor`] goes from

@@ -1,8 +1,8 @@
 //! The meaning of a contract period by period, on the tree of its clauses.
 
-use crate::clause::{Clause, Decision, Expression, Owner, Verdict};
+use crate::clause::{Clause, Decision, Owner, Verdict};
 use crate::definition::literal;
-use crate::reading::{Read, Waiting};
+use crate::reading::{Read, Stretches, Waiting};
 use crate::records::{Party, Period};
 use std::rc::Rc;
 
@@ -15,7 +15,7 @@ enum Rest {
     Then(Box<Rest>, Rc<Clause>),
     Repair(Box<Rest>, Rc<Clause>),
     When(Waiting, Rc<Clause>),
-    Until(Box<Rest>, Waiting),
+    Until(Box<Rest>, Stretches),
 }
 
 /// What a period makes of an undecided clause.
@@ -29,10 +29,6 @@ fn unread(clause: &Rc<Clause>) -> Rest {
     Rest::Unread(clause.clone())
 }
 
-fn begin_reading(expression: &Rc<Expression>, period: Period) -> Read {
-    Waiting::new(expression).read(period)
-}
-
 impl Rest {
     fn step(self, period: Period) -> Progress {
         match self {
@@ -41,7 +37,7 @@ impl Rest {
             Rest::Then(left, right) => then(left.step(period), &right),
             Rest::Repair(left, right) => repair(left.step(period), &right),
             Rest::When(waiting, clause) => when(waiting.read(period), &clause),
-            Rest::Until(own, waiting) => until(own.step(period), waiting.read(period)),
+            Rest::Until(own, stretches) => until(own.step(period), stretches.read(period)),
         }
     }
 }
@@ -55,9 +51,10 @@ fn first_step(clause: &Rc<Clause>, period: Period) -> Progress {
         Clause::Repair(left, right) => repair(unread(left).step(period), right),
         // "Each satisfaction at k begins the clause anew at k+1": a `then` before itself.
         Clause::Repeat(each) => then(unread(each).step(period), clause),
-        Clause::When(expression, then) => when(begin_reading(expression, period), then),
+        Clause::When(expression, then) => when(Waiting::new(expression).read(period), then),
         Clause::Until(own, expression) => {
-            until(unread(own).step(period), begin_reading(expression, period))
+            let stretches = Stretches::new(expression);
+            until(unread(own).step(period), stretches.read(period))
         }
         Clause::Deadline(party, action, window) => deadline(*party, *action, *window, period),
     }
@@ -121,12 +118,12 @@ fn when(read: Read, clause: &Rc<Clause>) -> Progress {
 }
 
 /// "The clause's own decision if it comes no later than acceptance; otherwise satisfied at
-/// acceptance. A rejected expression leaves the clause alone to decide."
-fn until(own: Progress, read: Read) -> Progress {
-    match (own, read) {
-        (Progress::Open(_), Read::Accepted) => Progress::Satisfied,
-        (Progress::Open(own), Read::Pending(waiting)) => {
-            Progress::Open(Rest::Until(Box::new(own), waiting))
+/// acceptance."
+fn until(own: Progress, stretches: Option<Stretches>) -> Progress {
+    match (own, stretches) {
+        (Progress::Open(_), None) => Progress::Satisfied,
+        (Progress::Open(own), Some(stretches)) => {
+            Progress::Open(Rest::Until(Box::new(own), stretches))
         }
         (own, _) => own,
     }

@@ -23,7 +23,7 @@ struct Link {
 #[derive(Clone, Debug)]
 pub struct Waiting(Vec<Remainder>);
 
-/// What a period makes of an expression.
+/// What a period makes of the expression of a `when`.
 #[derive(Clone, Debug)]
 pub enum Read {
     Pending(Waiting),
@@ -40,10 +40,7 @@ impl Waiting {
     /// Reads one period. The remainders that it leaves are never without lists, so the expression
     /// is rejected just when there are none.
     pub fn read(&self, period: Period) -> Read {
-        let mut left = Vec::new();
-        for remainder in &self.0 {
-            read_remainder(remainder, period, &mut left);
-        }
+        let left = read_remainders(&self.0, period);
         if left.is_empty() {
             Read::Rejected
         } else if left.iter().any(holds_empty) {
@@ -51,6 +48,40 @@ impl Waiting {
         } else {
             Read::Pending(Waiting(left))
         }
+    }
+}
+
+/// The expression of an `until`, of which a stretch begins in each period: the remainders of all
+/// the stretches so far, and that of a stretch which begins in the next period.
+///
+/// What two stretches leave alike is kept once, so there are never more remainders of the stretches
+/// so far than the expression has atoms.
+#[derive(Clone, Debug)]
+pub struct Stretches {
+    so_far: Vec<Remainder>,
+    next: Remainder,
+}
+
+impl Stretches {
+    /// The expression before the first period of its `until`.
+    pub fn new(expression: &Rc<Expression>) -> Stretches {
+        Stretches {
+            so_far: Vec::new(),
+            next: link(expression, &None),
+        }
+    }
+
+    /// Reads one period. What is left, or nothing if the expression is accepted: then some stretch
+    /// that ends with this period is in the set.
+    pub fn read(&self, period: Period) -> Option<Stretches> {
+        let so_far = read_remainders(self.so_far.iter().chain([&self.next]), period);
+        if so_far.iter().any(holds_empty) {
+            return None;
+        }
+        Some(Stretches {
+            so_far,
+            next: self.next.clone(),
+        })
     }
 }
 
@@ -66,6 +97,18 @@ fn holds_empty(remainder: &Remainder) -> bool {
         None => true,
         Some(link) => link.first.holds_empty && holds_empty(&link.rest),
     }
+}
+
+/// What the period leaves of the remainders.
+fn read_remainders<'a>(
+    remainders: impl IntoIterator<Item = &'a Remainder>,
+    period: Period,
+) -> Vec<Remainder> {
+    let mut left = Vec::new();
+    for remainder in remainders {
+        read_remainder(remainder, period, &mut left);
+    }
+    left
 }
 
 /// Adds what the period leaves of a remainder.

@@ -184,9 +184,17 @@ fn under_until() {
     decides(&before, "-/-, -/-, -/-, -/-", satisfied(3));
     let after = until(deadline(1, A, 2), three());
     decides(&after, "-/-, a/-", violated(2, 2));
-    // A rejected expression.
-    let alone = until(deadline(1, A, 2), tries(1, B));
-    decides(&alone, "a/-, ab/-", violated(2, 2));
+    // A stretch that begins in period 2: accepted in the last period of the window, and before it.
+    decides(
+        &until(deadline(1, A, 2), tries(1, B)),
+        "a/-, ab/-",
+        violated(2, 2),
+    );
+    decides(
+        &until(deadline(1, A, 3), tries(1, B)),
+        "a/-, ab/-, -/-",
+        satisfied(2),
+    );
 }
 
 #[test]

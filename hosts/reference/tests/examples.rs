@@ -57,9 +57,9 @@ fn operators_beyond_the_worked_examples() {
     decides(&repair(duty(1, A), duty(2, B)), "-/-, b/-", violated(2, 2));
     decides(&repeat(duty(1, A)), "a/a, a/a, a/-, -/-", violated(3, 2));
     decides(&when(tries(1, B), duty(2, A)), "b/-, a/-", violated(2, 2));
-    let rejected = until(repeat(duty(1, A)), tries(1, B));
-    decides(&rejected, "a/a, ab/a", OPEN);
-    decides(&rejected, "a/a, ab/a, a/-", violated(3, 2));
+    let until_b = until(repeat(duty(1, A)), tries(1, B));
+    decides(&until_b, "a/a, ab/a", satisfied(2));
+    decides(&until_b, "a/a, a/-, ab/a", violated(2, 2));
 }
 
 #[test]

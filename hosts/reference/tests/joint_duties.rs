@@ -174,12 +174,12 @@ fn under_until() {
     decides(&until_b, "a/a, b/a", violated(2, 1));
     decides(&until_b, "a/a, ab/-", violated(2, 2));
     decides(&until(joint_duty(A), any()), "-/-", violated(1, 3));
-    // Acceptance before it, and a rejected expression.
+    // Acceptance before it, in period 1 and in period 2.
     let before = until(then(duty(1, A), joint_duty(B)), any());
     decides(&before, "a/a, -/-", satisfied(1));
-    let alone = until(repeat(joint_duty(A)), tries(1, B));
-    decides(&alone, "a/a, ab/a", OPEN);
-    decides(&alone, "a/a, ab/a, -/-", violated(3, 3));
+    let later = until(repeat(joint_duty(A)), tries(1, B));
+    decides(&later, "a/a, ab/a, -/-", satisfied(2));
+    decides(&later, "a/a, a/a, -/-", violated(3, 3));
 }
 
 #[test]

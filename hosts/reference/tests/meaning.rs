@@ -5,7 +5,6 @@ mod common;
 
 use common::*;
 use reference::definition::{can_begin, decision, holds, reading, Reading};
-use reference::reading::{Read, Waiting};
 use reference::records::Period;
 use reference::{Clause, Decision, Expression, Monitor};
 use std::rc::Rc;
@@ -138,19 +137,6 @@ fn the_monitor_decides_as_the_definition() {
         very_late += usize::from(monitor.decision_period() > 10);
     }
     assert!(satisfied > 3000 && violated > 3000 && late > 500 && very_late > 100);
-}
-
-/// What the waiting expression says of the list.
-fn waited(expression: &Rc<Expression>, list: &[Period]) -> Reading {
-    let mut waiting = Waiting::new(expression);
-    for (number, period) in list.iter().enumerate() {
-        match waiting.read(*period) {
-            Read::Pending(left) => waiting = left,
-            Read::Accepted => return Reading::Accepted(number + 1),
-            Read::Rejected => return Reading::Rejected(number + 1),
-        }
-    }
-    Reading::Pending
 }
 
 #[test]

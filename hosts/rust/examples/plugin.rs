@@ -32,8 +32,7 @@ fn contract() -> Contract {
     let values = Clause::duty(PLUGIN, VALUES).repair(Clause::duty(PLUGIN, CORRECTION));
     let memory = Clause::power(PLUGIN, MEMORY);
     let own_sheet = Clause::ban(PLUGIN, OTHER_SHEET);
-    // Any number of periods, then one in which the close succeeds.
-    let closed = Expression::any().star().seq(Expression::succeeds(CLOSE));
+    let closed = Expression::succeeds(CLOSE);
     let clause = Clause::both(values.repeat(), memory.both(own_sheet).repeat()).until(closed);
     Contract::from(clause)
 }

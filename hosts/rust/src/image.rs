@@ -30,7 +30,8 @@ impl Image {
         Ok(Image(image[..ROW_BYTES * (rows as usize + 1)].into()))
     }
 
-    /// An image that was stored as [`as_bytes`](Image::as_bytes) gave it. Begin checks it.
+    /// An image that was stored as [`as_bytes`](Image::as_bytes) gave it. Begin checks it. One that
+    /// an earlier archive compiled goes on as it is, also where today's compile gives another.
     ///
     /// # Errors
     /// Refusal 9, if it isn't a good image.

@@ -5,7 +5,7 @@
 //! is given both parties' attempts and says whether the contract is open, met or broken, since
 //! which period, and who is to blame. `docs/FORMAT.md` says what contracts, periods, images and
 //! states are; it says what "document 01" says, which these pages cite, and of deadlines, joint
-//! duties, decide, thirty-two actions and logs document 02.
+//! duties, the expression of an `until`, decide, thirty-two actions and logs document 02.
 //!
 //! A host builds a [`Clause`] and makes a [`Contract`] from it, compiles that to an [`Image`] once,
 //! begins a [`Monitor`] for each spreadsheet under the contract, and steps each of them with

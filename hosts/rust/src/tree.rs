@@ -46,7 +46,7 @@ fn join(mut left: Records, mut right: Records, operator: Record) -> Records {
 /// const A: Action = Action::new(0).unwrap();
 /// const B: Action = Action::new(1).unwrap();
 ///
-/// let notice = Expression::any().star().seq(Expression::tries(Party::One, B));
+/// let notice = Expression::tries(Party::One, B);
 /// let clause = Clause::duty(Party::One, A).repeat().until(notice.clone());
 /// assert_eq!(
 ///     clause,
@@ -56,10 +56,7 @@ fn join(mut left: Records, mut right: Records, operator: Record) -> Records {
 /// let records = [
 ///     Record::Duty(Party::One.into(), A),
 ///     Record::Repeat,
-///     Record::Any,
-///     Record::Star,
 ///     Record::Tries(Party::One, B),
-///     Record::Seq,
 ///     Record::Until,
 /// ];
 /// assert!(clause.records().eq(records));
@@ -151,7 +148,7 @@ impl Clause {
     }
 
     /// When the expression is accepted, the clause from the period after; satisfied when the
-    /// expression is rejected.
+    /// expression is rejected. The expression matches from the first period.
     ///
     /// ```
     /// use monitor::{Action, Clause, Expression, Party};
@@ -169,7 +166,21 @@ impl Clause {
     }
 
     /// This clause's own decision if it comes no later than the expression's acceptance, otherwise
-    /// satisfied at the acceptance. A rejected expression leaves the clause alone.
+    /// satisfied at the acceptance. The expression may match from any period of this `until`, and is
+    /// never rejected.
+    ///
+    /// ```
+    /// use monitor::{Action, Clause, Expression, Party};
+    ///
+    /// const VALUES: Action = Action::new(0).unwrap();
+    /// const NOTICE: Action = Action::new(1).unwrap();
+    ///
+    /// // In each period party 1 owes its values, until party 2 gives notice twice, in two periods
+    /// // one after the other.
+    /// let once = || Expression::tries(Party::Two, NOTICE);
+    /// let clause = Clause::duty(Party::One, VALUES).repeat().until(once().seq(once()));
+    /// # assert_eq!(clause.records().len(), 6);
+    /// ```
     pub fn until(self, expression: Expression) -> Clause {
         Clause(join(self.0, expression.0, Record::Until))
     }
@@ -184,8 +195,10 @@ impl Clause {
 /// An expression, built as a tree, to stand under [`Clause::when`] or [`Clause::until`]. It is a set
 /// of lists of periods.
 ///
-/// It is accepted at the first period by which the periods read so far are one of its lists, and
-/// rejected when no further periods can make them one.
+/// Under `when` it is accepted at the first period by which the periods read so far are one of its
+/// lists, and rejected when no further periods can make them one. Under `until` it is accepted at
+/// the first period with which some stretch ends that is one of its lists, whichever of the periods
+/// read so far the stretch begins with, and never rejected.
 #[derive(Clone, Debug, PartialEq, Eq, Hash)]
 #[must_use]
 pub struct Expression(Records);

@@ -85,7 +85,7 @@ fn records_after_the_decision_are_not_looked_at() {
 #[test]
 fn a_run_over_the_records_read_agrees() {
     let duty = || Clause::duty(Owner::Both, A);
-    let closed = Expression::any().star().seq(Expression::succeeds(B));
+    let closed = Expression::succeeds(B);
     let clauses = [
         duty().repeat(),
         duty().repeat().until(closed),

@@ -186,7 +186,7 @@ fn look(monitor: &Monitor) -> Reply {
 #[test]
 fn a_look_is_a_run_of_no_records() {
     let duty = Clause::duty(Party::One, A);
-    let closed = Expression::any().star().seq(Expression::succeeds(B));
+    let closed = Expression::succeeds(B);
     let power = Clause::power(Party::One, B);
     let clauses = [
         duty.clone(),

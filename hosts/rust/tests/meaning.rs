@@ -1,5 +1,5 @@
-//! Document 01's worked examples, joint duties and deadlines, as trees and as records, through
-//! compile, begin, step, run and decide.
+//! Document 01's worked examples, joint duties, deadlines and endings, as trees, most of them also as
+//! records, through compile, begin, step, run and decide.
 
 use std::num::NonZeroU32;
 
@@ -17,6 +17,7 @@ use narrow::narrow;
 
 const A: Action = Action::new(0).unwrap();
 const B: Action = Action::new(1).unwrap();
+const C: Action = Action::new(2).unwrap();
 const THREE: Window = Window::new(3).unwrap();
 
 /// Periods in document 01's writing: party 1 before the slash, "-" for no attempt.
@@ -61,13 +62,16 @@ fn broken(decision: u32, blame: Blame) -> Reply {
 #[track_caller]
 fn image(tree: Clause, records: &[Record]) -> Image {
     assert!(tree.records().eq(records.iter().copied()), "{tree:?}");
-    let contract = Contract::from(tree);
-    assert_eq!(contract, Contract::from_records(records));
-    Image::compile(contract).unwrap()
+    assert_eq!(Contract::from(&tree), Contract::from_records(records));
+    compiled(tree)
 }
 
-/// Holds the last of the steps over a trace of lower actions, the run of it in either form and what
-/// decides it to the reply.
+fn compiled(tree: Clause) -> Image {
+    Image::compile(Contract::from(tree)).unwrap()
+}
+
+/// Holds the last of the steps over a trace of lower actions, the run of it and what decides it, both
+/// in either form, to the reply.
 #[track_caller]
 fn hold(image: &Image, trace: &str, want: Reply) {
     let periods = periods(trace);
@@ -103,14 +107,14 @@ fn hold(image: &Image, trace: &str, want: Reply) {
         .decision
         .map_or(periods.len(), |period| period.get() as usize);
     assert_eq!(decided.records as usize, read, "decide over {trace:?}");
+    let narrow_decided = image.decide_bytes(&narrow(&periods));
+    assert_eq!(narrow_decided, Ok(decided), "decide over {trace:?}, narrow");
 }
 
 /// Holds two clauses to the same replies on random traces of two actions: the last replies.
 #[track_caller]
 fn alike(clauses: &[Clause; 2], random: &mut Random) -> Vec<Reply> {
-    let images = clauses
-        .each_ref()
-        .map(|clause| Image::compile(Contract::from(clause)).unwrap());
+    let images = clauses.clone().map(compiled);
     let mut last = Vec::new();
     for _ in 0..100 {
         let mut monitors = images.each_ref().map(Monitor::begin);
@@ -188,18 +192,10 @@ fn joint_duties_and_repairs() {
 /// A violation in the period of the acceptance counts.
 #[test]
 fn a_joint_duty_until() {
-    let notice = Expression::any().star().seq(Expression::tries(Two, B));
+    let notice = Expression::tries(Two, B);
     let image = image(
         Clause::duty(Owner::Both, A).repeat().until(notice),
-        &[
-            Duty(Owner::Both, A),
-            Repeat,
-            Any,
-            Star,
-            Tries(Two, B),
-            Seq,
-            Until,
-        ],
+        &[Duty(Owner::Both, A), Repeat, Tries(Two, B), Until],
     );
     hold(&image, "a/a, a/ab", met(2));
     hold(&image, "a/a, a/b", broken(2, Blame::Two));
@@ -214,7 +210,7 @@ fn a_joint_duty_is_both_parties_duties() {
         Clause::duty(Owner::Both, B),
         Clause::duty(One, B).both(Clause::duty(Two, B)),
     ];
-    let close = || Expression::any().star().seq(Expression::succeeds(A));
+    let close = || Expression::succeeds(A);
     let clauses: [&dyn Fn(Clause) -> Clause; 5] = [
         &|duty| duty.both(Clause::power(One, A)),
         &|duty| duty.then(Clause::ban(Two, A)),
@@ -296,9 +292,10 @@ fn when() {
     hold(&image, "-/-", met(1));
 }
 
+/// As document 01 writes it, and without the star.
 #[test]
 fn until() {
-    let image = image(
+    let starred = image(
         Clause::until(
             Clause::repeat(Clause::duty(One, A)),
             Expression::seq(
@@ -316,8 +313,232 @@ fn until() {
             Until,
         ],
     );
-    hold(&image, "a/a, ab/a", met(2));
-    hold(&image, "a/a, b/a", broken(2, Blame::One));
+    for image in [starred, until_b()] {
+        hold(&image, "a/a", open());
+        hold(&image, "a/a, ab/a", met(2));
+        hold(&image, "a/a, b/a", broken(2, Blame::One));
+    }
+}
+
+fn until_b() -> Image {
+    image(
+        each().until(Expression::tries(One, B)),
+        &[Duty(One.into(), A), Repeat, Tries(One, B), Until],
+    )
+}
+
+/// Open as long as both parties try a.
+fn each() -> Clause {
+    Clause::duty(One, A).repeat()
+}
+
+/// Party 1 tries b in two periods, one after the other.
+fn twice() -> Expression {
+    Expression::tries(One, B).seq(Expression::tries(One, B))
+}
+
+#[test]
+fn an_ending_that_begins_in_period_2() {
+    let ending = Expression::tries(One, B).seq(Expression::tries(One, C));
+    let image = image(
+        each().until(ending),
+        &[
+            Duty(One.into(), A),
+            Repeat,
+            Tries(One, B),
+            Tries(One, C),
+            Seq,
+            Until,
+        ],
+    );
+    hold(&image, "a/a, ab/a", open());
+    hold(&image, "a/a, ab/a, ac/a", met(3));
+    // A stretch leaves out no period between its first and its last.
+    hold(&image, "a/a, ab/a, a/a, ac/a", open());
+    hold(&image, "a/a, ac/a, ab/a", open());
+}
+
+#[test]
+fn endings_that_overlap() {
+    let ending = twice().seq(Expression::tries(One, C));
+    let image = compiled(each().until(ending));
+    // The stretch from period 1 fails in period 3, the one from period 2 goes on.
+    hold(&image, "ab/a, ab/a, ab/a", open());
+    hold(&image, "ab/a, ab/a, ab/a, ac/a", met(4));
+    hold(&image, "ab/a, ab/a, a/a, ac/a", open());
+}
+
+#[test]
+fn an_ending_that_begins_later_and_ends_before_the_first() {
+    let any = Expression::any;
+    let long = Expression::tries(One, B).seq(any().seq(any()).seq(Expression::tries(One, B)));
+    let short = Expression::tries(One, C).seq(Expression::tries(One, C));
+    let image = compiled(each().until(long.or(short)));
+    hold(&image, "ab/a, ac/a", open());
+    hold(&image, "ab/a, ac/a, ac/a", met(3));
+    // The later one fails, and the first goes on.
+    hold(&image, "ab/a, ac/a, a/a", open());
+    hold(&image, "ab/a, ac/a, a/a, ab/a", met(4));
+}
+
+/// A violation in the period of the acceptance counts, also where the stretch began later.
+#[test]
+fn an_ending_and_a_violation_in_one_period() {
+    let image = compiled(Clause::duty(Owner::Both, A).repeat().until(twice()));
+    hold(&image, "a/a, ab/a, ab/a", met(3));
+    hold(&image, "a/a, ab/a, ab/-", broken(3, Blame::Two));
+    hold(&image, "a/a, ab/a, b/a", broken(3, Blame::One));
+    hold(&image, "a/a, ab/a, b/-", broken(3, Blame::Both));
+    let met_after = reply(Verdict::MetAfter, None, 3);
+    hold(&image, "a/a, ab/a, ab/a, -/-", met_after);
+}
+
+/// Where a repeat begins the `until` anew, a stretch of the last round doesn't count.
+#[test]
+fn a_repeated_until() {
+    let two = Window::new(2).unwrap();
+    // The last round ends in period 1: by the expression, then by the clause.
+    let ending = Expression::tries(One, C).or(twice());
+    let image = compiled(Clause::deadline(One, A, two).until(ending).repeat());
+    hold(&image, "bc/-, b/-", open());
+    hold(&image, "bc/-, b/-, -/-", broken(3, Blame::One));
+    let image = compiled(Clause::deadline(One, A, two).until(twice()).repeat());
+    hold(&image, "ab/a, b/-", open());
+    hold(&image, "ab/a, b/-, -/-", broken(3, Blame::One));
+
+    // Periods 3 and 4 end the second round, so that the third has periods 5 to 8.
+    let four = Window::new(4).unwrap();
+    let image = compiled(Clause::deadline(One, A, four).until(twice()).repeat());
+    hold(&image, "ab/a, -/-, b/-, b/-, -/-, -/-, -/-", open());
+    let last = "ab/a, -/-, b/-, b/-, -/-, -/-, -/-, -/-";
+    hold(&image, last, broken(8, Blame::One));
+}
+
+/// What was tried before the `until` began doesn't count.
+#[test]
+fn an_until_that_begins_later() {
+    let ended = || each().until(twice());
+    let begun = [
+        ("ab/a", Clause::duty(One, A).then(ended())),
+        ("b/a", Clause::duty(One, A).repair(ended())),
+        ("ab/a", Clause::when(Expression::tries(One, B), ended())),
+    ];
+    for (first, clause) in begun {
+        let image = compiled(clause);
+        hold(&image, &format!("{first}, ab/a"), open());
+        hold(&image, &format!("{first}, ab/a, ab/a"), met(3));
+        hold(&image, &format!("{first}, a/a, ab/a"), open());
+        hold(&image, &format!("{first}, a/a, ab/a, ab/a"), met(4));
+    }
+}
+
+#[test]
+fn the_expression_of_an_until_is_never_rejected() {
+    let image = compiled(each().until(twice()));
+    let quiet = ["a/a"; 40].join(", ");
+    hold(&image, &quiet, open());
+    hold(&image, &format!("{quiet}, ab/a, ab/a"), met(42));
+    let failed = ["ab/a, a/a"; 20].join(", ");
+    hold(&image, &failed, open());
+    hold(&image, &format!("{failed}, ab/a, ab/a"), met(42));
+}
+
+#[test]
+fn the_expression_of_a_when_matches_from_its_first_period() {
+    let image = compiled(Clause::when(twice(), Clause::duty(One, A)));
+    hold(&image, "-/-", met(1));
+    let want = reply(Verdict::MetAfter, None, 1);
+    hold(&image, "-/-, b/-, b/-, -/-", want);
+    hold(&image, "b/-, -/-", met(2));
+    hold(&image, "b/-, b/-, -/-", broken(3, Blame::One));
+}
+
+/// Any number of periods before an ending change nothing.
+#[test]
+fn a_star_before_an_ending() {
+    let random = &mut Random::new(1);
+    let [one, two] = [One, Two].map(|party| move || Expression::tries(party, B));
+    let endings = [
+        one(),
+        one().seq(two()),
+        one().seq(two().star()).seq(Expression::fails(A)),
+        one().seq(one()).or(two().seq(Expression::any()).seq(two())),
+    ];
+    let clauses: [&dyn Fn(Expression) -> Clause; 4] = [
+        &|ending| Clause::power(One, A).repeat().until(ending),
+        &|ending| Clause::deadline(Two, A, THREE).until(ending).repeat(),
+        &|ending| Clause::ban(One, A).then(each().until(ending)).repeat(),
+        &|ending| {
+            let inner = Clause::deadline(One, A, THREE).until(ending.clone());
+            inner.repeat().until(ending.seq(Expression::idle(One, A)))
+        },
+    ];
+    for clause in clauses {
+        for ending in &endings {
+            let starred = Expression::any().star().seq(ending.clone());
+            let replies = alike(&[clause(ending.clone()), clause(starred)], random);
+            let open = replies.iter().filter(|reply| **reply == open()).count();
+            assert!(open < replies.len());
+        }
+    }
+}
+
+/// The image of until (repeat (duty 1 a), tries 1 b) that was compiled when the expression of an
+/// `until` matched from its first period alone.
+const EARLIER: [[u8; 8]; 27] = [
+    [0x54, 0x52, 0, 0, 0, 0, 0, 0],
+    [0x54, 0x52, 1, 0, 0, 0, 0, 0],
+    [0x54, 0x52, 3, 0, 1, 0, 0, 0],
+    [0x54, 0x52, 6, 0, 25, 0, 0, 0],
+    [0x54, 0x52, 3, 0, 3, 0, 0, 0],
+    [0x54, 0x52, 4, 0, 2, 0, 4, 0],
+    [0x54, 0x52, 2, 0, 1, 0, 1, 0],
+    [0x54, 0x52, 4, 0, 1, 0, 6, 0],
+    [0x54, 0x52, 6, 0, 16, 0, 0, 0],
+    [0x54, 0x52, 4, 0, 5, 0, 8, 0],
+    [0x54, 0x52, 3, 0, 8, 0, 0, 0],
+    [0x54, 0x52, 4, 0, 5, 0, 10, 0],
+    [0x54, 0x52, 5, 0, 1, 0, 9, 0],
+    [0x54, 0x52, 2, 0, 1, 0, 0, 0],
+    [0x54, 0x52, 2, 0, 2, 0, 0, 0],
+    [0x54, 0x52, 4, 0, 12, 0, 13, 0],
+    [0x54, 0x52, 4, 0, 15, 0, 14, 0],
+    [0x54, 0x52, 3, 0, 13, 0, 0, 0],
+    [0x54, 0x52, 4, 0, 12, 0, 17, 0],
+    [0x54, 0x52, 3, 0, 14, 0, 0, 0],
+    [0x54, 0x52, 4, 0, 15, 0, 19, 0],
+    [0x54, 0x52, 5, 0, 18, 0, 20, 0],
+    [0x54, 0x52, 3, 0, 21, 0, 0, 0],
+    [0x54, 0x52, 4, 0, 7, 0, 22, 0],
+    [0x54, 0x52, 5, 0, 0, 0, 23, 0],
+    [0x54, 0x52, 5, 0, 24, 0, 21, 0],
+    [0x54, 0x45, 24, 0, 18, 0, 20, 0],
+];
+
+/// An image that was stored goes on as it is, beside the one that the same contract has today.
+#[test]
+fn an_image_compiled_earlier() {
+    let earlier = Image::from_bytes(EARLIER.as_flattened()).unwrap();
+    assert_eq!(earlier.rows(), 26);
+    hold(&earlier, "a/a", open());
+    hold(&earlier, "a/a, ab/a", open());
+    hold(&earlier, "a/a, ab/a, -/-", broken(3, Blame::One));
+    hold(&earlier, "ab/a", met(1));
+
+    let today = until_b();
+    hold(&today, "a/a", open());
+    hold(&today, "a/a, ab/a", met(2));
+    let met_after = reply(Verdict::MetAfter, None, 2);
+    hold(&today, "a/a, ab/a, -/-", met_after);
+    hold(&today, "ab/a", met(1));
+
+    // A state that was stored with it goes on too.
+    let periods = periods("a/a, ab/a, -/-");
+    let mut stored = Monitor::begin(&earlier);
+    stored.run(&periods[..1]).unwrap();
+    let mut resumed = Monitor::resume(&earlier, stored.state()).unwrap();
+    assert_eq!(resumed.step(periods[1]), Ok(open()));
+    assert_eq!(resumed.step(periods[2]), Ok(broken(3, Blame::One)));
 }
 
 /// The blame is that of the window's last period, whatever came before.
@@ -366,17 +587,10 @@ fn a_missed_deadline_is_repaired() {
 /// Where the window's last period is that of the acceptance, the violation counts.
 #[test]
 fn a_deadline_until() {
-    let notice = Expression::any().star().seq(Expression::tries(Two, B));
+    let notice = Expression::tries(Two, B);
     let image = image(
         Clause::deadline(One, A, THREE).until(notice),
-        &[
-            Deadline(One, A, THREE),
-            Any,
-            Star,
-            Tries(Two, B),
-            Seq,
-            Until,
-        ],
+        &[Deadline(One, A, THREE), Tries(Two, B), Until],
     );
     hold(&image, "-/-, -/b", met(2));
     hold(&image, "-/-, -/-, a/b", broken(3, Blame::Two));

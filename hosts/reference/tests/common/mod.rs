@@ -1,7 +1,8 @@
 //! Contracts and traces for the tests.
 #![allow(dead_code)]
 
-use reference::definition::decision;
+use reference::definition::{decision, Reading};
+use reference::reading::{Read, Waiting};
 use reference::{Clause, Decision, Expression, Form, Monitor, Owner, Party, Period, Shape};
 use std::rc::Rc;
 
@@ -111,11 +112,29 @@ pub fn decides(clause: &Clause, trace: &str, expected: Decision) {
         expected,
         "the definition on {trace}"
     );
+    assert_eq!(monitored(clause, &list), expected, "the monitor on {trace}");
+}
+
+/// The monitor's decision on the list.
+pub fn monitored(clause: &Clause, list: &[Period]) -> Decision {
     let mut monitor = Monitor::new(clause);
-    for period in &list {
+    for period in list {
         monitor.step(period.one, period.two);
     }
-    assert_eq!(monitor.decision(), expected, "the monitor on {trace}");
+    monitor.decision()
+}
+
+/// What the waiting expression says of the list.
+pub fn waited(expression: &Rc<Expression>, list: &[Period]) -> Reading {
+    let mut waiting = Waiting::new(expression);
+    for (number, period) in list.iter().enumerate() {
+        match waiting.read(*period) {
+            Read::Pending(left) => waiting = left,
+            Read::Accepted => return Reading::Accepted(number + 1),
+            Read::Rejected => return Reading::Rejected(number + 1),
+        }
+    }
+    Reading::Pending
 }
 
 pub const A: u8 = 0;
