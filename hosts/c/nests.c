@@ -234,19 +234,27 @@ static void stars(struct periods t)
     on_duty("star", "", AGAIN, t);
 }
 
-/* A repeated power, the last leaf, until 31 `tries` in turn: both nests of `seq`. */
-static void endings(struct periods t)
+/* A repeated power, the last leaf, and the first of 31 `tries`. */
+static void begin_until(void)
 {
-    for (int right = 0; right <= 1; right++) {
-        cut(&contract, 0);
-        add_leaf(MONITOR_KIND_POWER, 31);
-        add_record(MONITOR_KIND_REPEAT, 0, 0);
-        add_leaf(MONITOR_KIND_TRIES, 0);
-        add_run(MONITOR_KIND_TRIES, right ? 0 : MONITOR_KIND_SEQ, 1, 31);
-        add_run(0, right ? MONITOR_KIND_SEQ : 0, 1, 31);
-        add_record(MONITOR_KIND_UNTIL, 0, 0);
-        line("seq under until", right ? " right" : " left", t);
-    }
+    cut(&contract, 0);
+    add_leaf(MONITOR_KIND_POWER, 31);
+    add_record(MONITOR_KIND_REPEAT, 0, 0);
+    add_leaf(MONITOR_KIND_TRIES, 0);
+}
+
+/* That power until 31 `tries` in turn: both nests of `seq`. */
+static void sequences_under_until(struct periods t)
+{
+    begin_until();
+    add_run(MONITOR_KIND_TRIES, MONITOR_KIND_SEQ, 1, 31);
+    add_record(MONITOR_KIND_UNTIL, 0, 0);
+    line("seq under until", " left", t);
+    begin_until();
+    add_run(MONITOR_KIND_TRIES, 0, 1, 31);
+    add_run(0, MONITOR_KIND_SEQ, 1, 31);
+    add_record(MONITOR_KIND_UNTIL, 0, 0);
+    line("seq under until", " right", t);
 }
 
 static void expressions(void)
@@ -262,7 +270,7 @@ static void expressions(void)
     stars((struct periods){NONE, 8, 6, 0, 1u << 17});
     /* In period 10 party 1 doesn't try action 9, which the stretch from period 1 wants there; that from period 2 is whole in */
     /* period 32. */
-    endings((struct periods){ALL, 34, 10, 0xfffffdff, 0xffffffff});
+    sequences_under_until((struct periods){ALL, 34, 10, 0xfffffdff, 0xffffffff});
 }
 
 int main(void)

@@ -4,13 +4,12 @@
 //! The earlier archive is linked beside today's where `MONITOR_BEFORE` names its folder at the build.
 //! The first form makes every call of `compare`'s cases with both archives on equal copies of what
 //! is lent, but for decide and join where the earlier one lacks them; all must be the same at the
-//! call's end. An archive from before the expression of an `until` could begin in any period
-//! compiles other images of contracts with one: these may differ, and both archives' calls on either
-//! must be the same. Where one of them reads no wide records, the cases have narrow ones instead, and
-//! actions up to 15: of what is left both mean the same. Case number i is that of the seed S + i, so
-//! `before --seed S --cases 1` repeats one case. The second form times both archives on the
-//! benchmark's inputs, whose records are narrow, and on contracts as they are typed, but for those
-//! that the earlier one alone refuses; the third measures the stack that the calls use.
+//! call's end. Where one of them reads no wide records, the cases have narrow ones instead, and
+//! actions up to 15, which both read. Where they compile an `until` to other
+//! images, a contract with one may have two, and the calls are made on both. Case number i is that of
+//! the seed S + i, so `before --seed S --cases 1` repeats one case. The second form times both
+//! archives on the benchmark's inputs, whose records are narrow, and on contracts as they are typed,
+//! but for those that the earlier one alone refuses; the third measures the stack that the calls use.
 
 #![deny(unsafe_code)]
 #![warn(clippy::undocumented_unsafe_blocks)]
@@ -28,7 +27,7 @@ mod speed;
 #[allow(unsafe_code)]
 mod spoiled;
 mod stack;
-mod until;
+mod untils;
 
 use archive::{Archive, Sides};
 use bench::timing::Plan;
@@ -67,13 +66,12 @@ fn task(mut words: impl Iterator<Item = String>) -> Option<Task> {
 /// Compares cases up to the first difference, which is printed.
 fn compare_bytes(sides: &Sides, seed: u64, cases: u64) -> ExitCode {
     let pair = Pair::new(sides.before.places[0], Archive::of_hosts());
-    if !pair.untils_alike {
+    let limit = limit(&pair);
+    if !pair.alike {
         println!(
-            "They compile other images of contracts with an `until`: these may differ, and the calls \
-             are made on both."
+            "They compile an until to other images: of a contract with one the calls are made on both."
         );
     }
-    let limit = limit(&pair);
     let mut tally = Tally::default();
     for number in 0..cases {
         let seed = seed.wrapping_add(number);
@@ -87,7 +85,7 @@ fn compare_bytes(sides: &Sides, seed: u64, cases: u64) -> ExitCode {
     ExitCode::SUCCESS
 }
 
-/// Changes a case to one by which both archives mean the same.
+/// Changes a case to one that both archives read.
 type Limit = fn(Case) -> Case;
 
 fn limit(pair: &Pair) -> Limit {

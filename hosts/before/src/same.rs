@@ -1,8 +1,8 @@
-//! One case on both archives: every call leaves the same bytes, but for images of contracts with an
-//! `until` where the archives compile others.
+//! One case on both archives: every call leaves the same bytes. But they may compile contracts with
+//! an `until` to other images: then the calls are made on each of the two.
 
 use crate::archive::Archive;
-use crate::until::{compile_alike, has_until};
+use crate::untils::{compile_alike, has_until};
 use compare::cases::{Call, Case, Start};
 use compare::guard::Lent;
 use compare::random::Random;
@@ -18,8 +18,8 @@ pub struct Tally {
     pub compiles: u64,
     /// The compiles that were accepted.
     pub taken: u64,
-    /// The contracts of which they compile different images.
-    pub other_images: u64,
+    /// The contracts of which the archives have two images.
+    pub two_images: u64,
     pub begins: u64,
     pub steps: u64,
     pub runs: u64,
@@ -32,12 +32,12 @@ impl Display for Tally {
     fn fmt(&self, to: &mut Formatter) -> fmt::Result {
         write!(
             to,
-            "{} cases with {} compiles ({} taken, {} of them to other images), {} begins, {} steps, \
+            "{} cases with {} compiles ({} taken), {} contracts with two images, {} begins, {} steps, \
              {} runs, {} decides, {} joins",
             self.cases,
             self.compiles,
             self.taken,
-            self.other_images,
+            self.two_images,
             self.begins,
             self.steps,
             self.runs,
@@ -47,13 +47,16 @@ impl Display for Tally {
     }
 }
 
+/// The images that the earlier archive and today's compile a contract to.
+type Images = (Vec<u8>, Vec<u8>);
+
 /// The two archives. Of each lent area the earlier one gets the copy of the reference.
 #[derive(Clone, Copy)]
 pub struct Pair {
     pub before: Archive,
     pub now: Archive,
-    /// Whether both compile the same images of contracts with an `until`.
-    pub untils_alike: bool,
+    /// Whether they compile an `until` to the same image.
+    pub alike: bool,
 }
 
 impl Pair {
@@ -61,7 +64,7 @@ impl Pair {
         Pair {
             before,
             now,
-            untils_alike: compile_alike(&before, &now),
+            alike: compile_alike([&before, &now]),
         }
     }
 
@@ -82,25 +85,29 @@ impl Pair {
             } => {
                 let contract = Lent::new("contract", bytes, &mut random);
                 let images = self.compile(&contract, *buffer, *reply, &mut random, tally)?;
-                if images.is_empty() {
+                let Some((before, now)) = images else {
                     return Ok(());
-                }
+                };
                 // Another compile, into a buffer of another length and content.
                 let buffer = least_buffer(bytes) + random.below(100);
                 self.compile(&contract, buffer, 2048, &mut random, tally)?;
-                for image in images {
-                    let state = random.bytes(10 + image.len() / 8 - 1);
-                    self.check_calls(case, &image, &state, &mut random, tally)?;
+                if before != now {
+                    tally.two_images += 1;
+                    let state = random.bytes(10 + before.len() / 8 - 1);
+                    let on = " on the image that the earlier archive compiled";
+                    let random = Random::new(case.fill);
+                    self.check_calls(case, on, [&before, &state], random, tally)?;
                 }
-                Ok(())
+                let state = random.bytes(10 + now.len() / 8 - 1);
+                self.check_calls(case, "", [&now, &state], random, tally)
             }
             Start::Image { bytes, state } => {
-                self.check_calls(case, bytes, state, &mut random, tally)
+                self.check_calls(case, "", [bytes, state], random, tally)
             }
         }
     }
 
-    /// The images, where compile accepts: one, or two where the archives compile different ones.
+    /// The images, where compile accepts.
     fn compile(
         &self,
         contract: &Lent,
@@ -108,9 +115,10 @@ impl Pair {
         reply: usize,
         random: &mut Random,
         tally: &mut Tally,
-    ) -> Result<Vec<Vec<u8>>, Difference> {
+    ) -> Result<Option<Images>, Difference> {
         let mut image = Lent::random("image buffer", buffer, random);
         let mut reply = Lent::random("reply area", reply, random);
+        let held = image.product().to_vec();
         let results = [
             self.before.compile(
                 contract.reference(),
@@ -121,45 +129,39 @@ impl Pair {
                 .compile(contract.product(), image.product_mut(), reply.product_mut()),
         ];
         tally.compiles += 1;
-        let accepted = |area: &[u8]| results == [1, 1] && four_bytes(area, 0) == 0;
-        let images = if accepted(reply.reference()) && accepted(reply.product()) {
-            let mut images = vec![
-                image_in(image.reference(), reply.reference()),
-                image_in(image.product(), reply.product()),
-            ];
-            images.dedup();
-            images
-        } else {
-            Vec::new()
-        };
-        if images.len() == 2 && !self.untils_alike && has_until(contract.product()) {
-            tally.other_images += 1;
-            // The rest of the buffer and of the reply must be the same.
-            let longer = images[0].len().max(images[1].len());
-            let (rows, ours) = (
-                image.product()[..longer].to_vec(),
-                reply.product()[4..8].to_vec(),
-            );
-            image.reference_mut()[..longer].copy_from_slice(&rows);
-            reply.reference_mut()[4..8].copy_from_slice(&ours);
+        let mut images = None;
+        if results == [1, 1] {
+            let before = written(image.reference(), reply.reference());
+            images = before.zip(written(image.product(), reply.product()));
+        }
+        if let Some((before, now)) = &images {
+            if !self.alike && has_until(contract.product()) {
+                // The images and their numbers of rows aren't compared; all else is.
+                image.reference_mut()[..before.len()].copy_from_slice(&held[..before.len()]);
+                image.product_mut()[..now.len()].copy_from_slice(&held[..now.len()]);
+                reply.reference_mut()[4..8].fill(0);
+                reply.product_mut()[4..8].fill(0);
+            }
         }
         same("compile", results, &[contract, &image, &reply])?;
-        tally.taken += u64::from(!images.is_empty());
+        tally.taken += u64::from(images.is_some());
         Ok(images)
     }
 
+    /// The case's calls on an image and a state; `on` is what is told of them with a difference.
     fn check_calls(
         &self,
         case: &Case,
-        image: &[u8],
-        state: &[u8],
-        random: &mut Random,
+        on: &'static str,
+        [image, state]: [&[u8]; 2],
+        mut random: Random,
         tally: &mut Tally,
     ) -> Result<(), Difference> {
-        let image = Lent::new("image", image, random);
-        let state = Lent::new("state", state, random);
+        let image = Lent::new("image", image, &mut random);
+        let state = Lent::new("state", state, &mut random);
         let mut calls = Calls {
             pair: self,
+            on,
             image,
             state,
             random,
@@ -171,18 +173,20 @@ impl Pair {
     }
 }
 
-/// The image in a buffer, by the row count of compile's reply.
-fn image_in(buffer: &[u8], reply: &[u8]) -> Vec<u8> {
-    let rows = four_bytes(reply, 4) as usize;
-    buffer[..8 * (rows + 1)].to_vec()
+/// The image in the buffer, if the reply is that of an accepted compile.
+fn written(buffer: &[u8], reply: &[u8]) -> Option<Vec<u8>> {
+    let [number, rows] = [0, 4].map(|at| four_bytes(reply, at));
+    let image = buffer.get(..8 * (rows as usize + 1))?;
+    (number == 0).then(|| image.to_vec())
 }
 
 /// Calls on one image and one state.
 struct Calls<'a> {
     pair: &'a Pair,
+    on: &'static str,
     image: Lent,
     state: Lent,
-    random: &'a mut Random,
+    random: Random,
 }
 
 /// Step or run.
@@ -190,7 +194,8 @@ type Taking = fn(&Archive, &[u8], &mut [u8], &[u8], &mut [u8]) -> u32;
 
 impl Calls<'_> {
     fn check(&mut self, number: usize, call: &Call, tally: &mut Tally) -> Result<(), Difference> {
-        let name = |call: &str| format!("call {number}, {call}");
+        let on = self.on;
+        let name = |call: &str| format!("call {number}, {call}{on}");
         match call {
             Call::Begin { reply } => {
                 tally.begins += 1;
@@ -212,7 +217,7 @@ impl Calls<'_> {
     }
 
     fn begin(&mut self, name: &str, reply: usize) -> Result<(), Difference> {
-        let mut reply = Lent::random("reply area", reply, self.random);
+        let mut reply = Lent::random("reply area", reply, &mut self.random);
         let results = [
             self.pair.before.begin(
                 self.image.reference(),
@@ -235,8 +240,8 @@ impl Calls<'_> {
         periods: &[u8],
         reply: usize,
     ) -> Result<(), Difference> {
-        let periods = Lent::new("period records", periods, self.random);
-        let mut reply = Lent::random("reply area", reply, self.random);
+        let periods = Lent::new("period records", periods, &mut self.random);
+        let mut reply = Lent::random("reply area", reply, &mut self.random);
         let results = [
             taking(
                 &self.pair.before,
@@ -264,8 +269,8 @@ impl Calls<'_> {
         reply: usize,
         tally: &mut Tally,
     ) -> Result<(), Difference> {
-        let trace = Lent::new("trace", trace, self.random);
-        let mut reply = Lent::random("reply area", reply, self.random);
+        let trace = Lent::new("trace", trace, &mut self.random);
+        let mut reply = Lent::random("reply area", reply, &mut self.random);
         let before = self.pair.before.decide(
             self.image.reference(),
             trace.reference(),
@@ -290,10 +295,10 @@ impl Calls<'_> {
         [trace, reply]: [usize; 2],
         tally: &mut Tally,
     ) -> Result<(), Difference> {
-        let one = Lent::new("log 1", &logs[0], self.random);
-        let two = Lent::new("log 2", &logs[1], self.random);
-        let mut trace = Lent::random("trace buffer", trace, self.random);
-        let mut reply = Lent::random("reply area", reply, self.random);
+        let one = Lent::new("log 1", &logs[0], &mut self.random);
+        let two = Lent::new("log 2", &logs[1], &mut self.random);
+        let mut trace = Lent::random("trace buffer", trace, &mut self.random);
+        let mut reply = Lent::random("reply area", reply, &mut self.random);
         let before = self.pair.before.join(
             one.reference(),
             two.reference(),
@@ -323,18 +328,29 @@ fn same(call: &str, [before, now]: [u32; 2], lent: &[&Lent]) -> Result<(), Diffe
 #[cfg(test)]
 mod tests {
     use super::*;
-    use crate::spoiled::{spoiled, unsatisfied, OUTPUT, REPLY, RESULT};
+    use crate::spoiled::{spoiled, spoiled_on_longer_images, with_longer_images};
+    use crate::spoiled::{ALL, OUTPUT, REPLY, RESULT, UNTILS};
 
     fn pair(now: Archive) -> Pair {
         Pair::new(Archive::of_hosts(), now)
     }
 
+    /// The first difference in such cases.
+    fn difference_in(pair: &Pair, such: fn(&Case) -> bool) -> String {
+        let cases = (0..1000).map(Case::of_seed).filter(such);
+        let mut checks = cases.map(|case| pair.check(&case, &mut Tally::default()));
+        let found = checks.find_map(Result::err);
+        found.expect("there is a difference").to_string()
+    }
+
     /// The first difference in some cases.
     fn difference(now: Archive) -> String {
-        let pair = pair(now);
-        let check = |seed| pair.check(&Case::of_seed(seed), &mut Tally::default());
-        let found = (0..1000).find_map(|seed| check(seed).err());
-        found.expect("there is a difference").to_string()
+        difference_in(&pair(now), |_| true)
+    }
+
+    /// Whether the case has a contract with an `until`.
+    fn with_until(case: &Case) -> bool {
+        matches!(&case.start, Start::Contract { bytes, .. } if has_until(bytes))
     }
 
     #[test]
@@ -376,30 +392,6 @@ mod tests {
     }
 
     #[test]
-    fn contracts_with_an_until_may_have_other_images() {
-        let tallies = [Archive::of_hosts(), unsatisfied::<false>()].map(|now| {
-            let (pair, mut tally) = (pair(now), Tally::default());
-            for seed in 0..1000 {
-                pair.check(&Case::of_seed(seed), &mut tally).unwrap();
-            }
-            (pair.untils_alike, tally)
-        });
-        let [(true, alike), (false, other)] = tallies else {
-            panic!("the archives compile other images of contracts with an until");
-        };
-        assert_eq!((alike.other_images, alike.taken), (0, other.taken));
-        assert!(0 < other.other_images && other.other_images < other.taken);
-        // The calls are made on both images.
-        assert!(alike.begins < other.begins && alike.decides < other.decides);
-    }
-
-    #[test]
-    fn other_contracts_may_not() {
-        let text = difference(unsatisfied::<true>());
-        assert!(text.contains("image buffer"), "{text}");
-    }
-
-    #[test]
     fn every_other_result_is_a_difference() {
         for (archive, call) in spoiled::<RESULT>() {
             let text = difference(archive);
@@ -425,6 +417,63 @@ mod tests {
         for (archive, call) in spoiled::<REPLY>() {
             let text = difference(archive);
             assert!(text.contains(call) && text.contains("reply area"), "{text}");
+        }
+    }
+
+    #[test]
+    fn other_images_of_contracts_with_until_are_no_difference() {
+        let hosts = Archive::of_hosts();
+        let mut made = Vec::new();
+        for before in [hosts, with_longer_images::<UNTILS>()] {
+            let mut tally = Tally::default();
+            for seed in 0..1000 {
+                let pair = Pair::new(before, hosts);
+                pair.check(&Case::of_seed(seed), &mut tally).unwrap();
+            }
+            made.push(tally);
+        }
+        let [same, other] = [&made[0], &made[1]];
+        assert!(same.two_images == 0 && other.two_images > 100);
+        assert_eq!((same.compiles, same.taken), (other.compiles, other.taken));
+        // On both images.
+        assert!(same.begins + 100 < other.begins && same.steps + 1000 < other.steps);
+        assert!(same.runs + 100 < other.runs && same.decides + 100 < other.decides);
+    }
+
+    #[test]
+    fn other_images_of_other_contracts_are_a_difference() {
+        let pair = Pair::new(with_longer_images::<ALL>(), Archive::of_hosts());
+        let text = difference_in(&pair, |case| !with_until(case));
+        assert!(text.contains("compile"), "{text}");
+    }
+
+    #[test]
+    fn all_but_the_images_is_compared() {
+        fn compile<const FAULT: u8>() -> Archive {
+            let mut archives = spoiled::<FAULT>().into_iter();
+            let found = archives.find(|(_, call)| *call == "compile");
+            found.expect("compile can have it").0
+        }
+        for (now, what) in [
+            (compile::<RESULT>(), "the result"),
+            (compile::<OUTPUT>(), "image buffer"),
+            (compile::<REPLY>(), "reply area"),
+        ] {
+            let pair = Pair::new(with_longer_images::<UNTILS>(), now);
+            let text = difference_in(&pair, with_until);
+            assert!(text.contains("compile") && text.contains(what), "{text}");
+        }
+    }
+
+    #[test]
+    fn both_images_are_compared() {
+        let (longer, now) = (with_longer_images::<UNTILS>(), spoiled_on_longer_images());
+        for (pair, place) in [
+            (Pair::new(longer, now), "earlier archive compiled"),
+            (Pair::new(now, longer), ", begin:"),
+        ] {
+            let text = difference_in(&pair, with_until);
+            assert!(text.contains("begin") && text.contains(place), "{text}");
         }
     }
 }

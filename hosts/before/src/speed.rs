@@ -1,6 +1,7 @@
 //! Times of both archives on the benchmark's inputs, as ratios.
 
 use crate::archive::{Archive, Sides, PLACES};
+use crate::untils::{compile_alike, has_until};
 use bench::compile::{calls, LENGTHS};
 use bench::contracts::{self, Family, Open, FAMILIES};
 use bench::join::{self, Logs};
@@ -19,8 +20,11 @@ pub fn measure(plan: &Plan, sides: &Sides) {
          after each record. What the earlier archive alone refuses isn't timed, nor is a call that it\n\
          lacks.\n",
     );
+    let table = Table::new(plan, sides);
+    if !table.alike {
+        plan.say("They compile an until to other images, so of a contract with one each writes its own.\n");
+    }
     line(plan, ["call", "input", "before", "now", "ratio"]);
-    let table = Table { plan, sides };
     let (run_inputs, step_inputs) = (rows::inputs(plan), steps::inputs(plan));
     let runs = run_inputs
         .iter()
@@ -98,9 +102,19 @@ fn summary(call: &str, rows: Vec<Ratios>) -> String {
 struct Table<'a> {
     plan: &'a Plan,
     sides: &'a Sides,
+    /// Whether both archives compile an `until` to the same image.
+    alike: bool,
 }
 
-impl Table<'_> {
+impl<'a> Table<'a> {
+    fn new(plan: &'a Plan, sides: &'a Sides) -> Table<'a> {
+        Table {
+            plan,
+            sides,
+            alike: compile_alike([&sides.before.places[0], &Archive::of_hosts()]),
+        }
+    }
+
     /// One row. The work is done with each archive in each place, in turns, and in the same memory.
     fn row(&self, call: &str, input: &str, parts: usize, work: &dyn Fn(&Archive) -> f64) -> Ratios {
         let mut turns: Vec<Side> = Vec::new();
@@ -246,14 +260,21 @@ impl Table<'_> {
             }
         };
         let [before, hosts] = [self.sides.before.places[0], Archive::of_hosts()];
-        let mut end = (vec![0; LONGEST_IMAGE], vec![[0; 16]; contracts.len()]);
-        round(&hosts, &mut end.0, &mut end.1);
-        let areas = RefCell::new(end.clone());
         let whole = contracts.last().expect("there is a contract");
         assert!(compiles(&hosts, whole), "{name}: compile refuses");
         if !compiles(&before, whole) {
             return self.untimed(call, name, "refused");
         }
+        let ends = [&before, &hosts].map(|archive| {
+            let mut end = (vec![0; LONGEST_IMAGE], vec![[0; 16]; contracts.len()]);
+            round(archive, &mut end.0, &mut end.1);
+            end
+        });
+        assert!(
+            ends[0] == ends[1] || (!self.alike && has_until(whole)),
+            "{name}: {call} ends otherwise"
+        );
+        let areas = RefCell::new(ends[0].clone());
         let ratios = self.row(call, name, rounds * contracts.len(), &|archive| {
             let mut areas = areas.borrow_mut();
             let (image, replies) = &mut *areas;
@@ -264,7 +285,7 @@ impl Table<'_> {
                     round(archive, image, replies);
                 }
             });
-            assert!(*areas == end, "{name}: {call} ends otherwise");
+            assert!(ends.contains(&areas), "{name}: {call} ends otherwise");
             time
         });
         Some(ratios)
@@ -303,7 +324,7 @@ fn line(plan: &Plan, [call, input, before, now, ratio]: [&str; 5]) {
 mod tests {
     use super::*;
     use crate::archive::Copies;
-    use crate::spoiled::{refusing, spoiled, OUTPUT, REPLY};
+    use crate::spoiled::{refusing, spoiled, with_longer_images, ALL, OUTPUT, REPLY, UNTILS};
     use std::panic::catch_unwind;
 
     fn sides(before: Archive, now: Archive) -> Sides {
@@ -345,16 +366,22 @@ mod tests {
     }
 
     #[test]
+    fn other_images_are_timed_of_contracts_with_until_alone() {
+        let is_timed = |before| {
+            let sides = sides(before, Archive::of_hosts());
+            catch_unwind(|| measure(&Plan::new(true), &sides)).is_ok()
+        };
+        assert!(is_timed(with_longer_images::<UNTILS>()));
+        assert!(!is_timed(with_longer_images::<ALL>()));
+    }
+
+    #[test]
     fn other_replies_are_not_timed_as_typing() {
         for (archive, call) in spoiled::<REPLY>() {
             let sides = sides(Archive::of_hosts(), archive);
             let typing = || {
                 let plan = &Plan::new(true);
-                let table = Table {
-                    plan,
-                    sides: &sides,
-                };
-                table.typing(&contracts::duty_and_ban())
+                Table::new(plan, &sides).typing(&contracts::duty_and_ban())
             };
             assert_eq!(catch_unwind(typing).is_ok(), call != "compile", "{call}");
         }
@@ -364,7 +391,7 @@ mod tests {
     fn what_the_earlier_archive_refuses_or_lacks_is_not_timed() {
         let (plan, hosts) = (&Plan::new(true), Archive::of_hosts());
         let timed = |sides: &Sides| {
-            let table = Table { plan, sides };
+            let table = Table::new(plan, sides);
             let input = &rows::inputs(plan)[0];
             [
                 table.run(input),

@@ -1,7 +1,8 @@
 //! Today's archive with one fault, for tests.
 
 use crate::archive::Archive;
-use crate::until::has_until;
+use crate::untils::has_until;
+use reference::records::four_bytes;
 use std::{ptr, slice};
 
 /// The result is another one.
@@ -36,11 +37,26 @@ pub fn refusing() -> Archive {
     }
 }
 
-/// Today's archive, but its images never tell that a contract is satisfied: those of all contracts,
-/// or of contracts with an `until`.
-pub fn unsatisfied<const ALL: bool>() -> Archive {
+/// Of every contract the image is longer.
+pub const ALL: bool = true;
+/// Of contracts with an `until` alone.
+pub const UNTILS: bool = false;
+
+/// A row that no other uses.
+const UNUSED: [u8; 8] = [0x54, 0x52, 0, 0, 0, 0, 0, 0];
+
+/// Today's archive, but compile puts an unused row before the end record.
+pub fn with_longer_images<const WHICH: bool>() -> Archive {
     Archive {
-        compile: compile_unsatisfied::<ALL>,
+        compile: compile_longer::<WHICH>,
+        ..Archive::of_hosts()
+    }
+}
+
+/// Today's archive, but begin has another result on images that end so.
+pub fn spoiled_on_longer_images() -> Archive {
+    Archive {
+        begin: begin_unless_longer,
         ..Archive::of_hosts()
     }
 }
@@ -71,31 +87,6 @@ unsafe extern "C" fn refuse_period(
 ) -> u32 {
     *reply = 11;
     1
-}
-
-unsafe extern "C" fn compile_unsatisfied<const ALL: bool>(
-    contract: *const u8,
-    contract_length: usize,
-    image: *mut u8,
-    image_length: usize,
-    reply: *mut u8,
-    reply_length: usize,
-) -> u32 {
-    let result = (Archive::of_hosts().compile)(
-        contract,
-        contract_length,
-        image,
-        image_length,
-        reply,
-        reply_length,
-    );
-    let is_accepted = result == 1 && ptr::read_unaligned(reply.cast::<u32>()) == 0;
-    if is_accepted && (ALL || has_until(slice::from_raw_parts(contract, contract_length))) {
-        let rows = ptr::read_unaligned(reply.add(4).cast::<u32>()) as usize;
-        // S of the end record: row 0, which is never true.
-        ptr::write_bytes(image.add(8 * rows + 2), 0, 2);
-    }
-    result
 }
 
 unsafe fn flip_last(area: *mut u8, length: usize) {
@@ -136,6 +127,58 @@ unsafe extern "C" fn compile<const FAULT: u8>(
         reply_length,
     );
     spoil::<FAULT>(result, image, image_length, reply, reply_length)
+}
+
+unsafe extern "C" fn compile_longer<const WHICH: bool>(
+    contract: *const u8,
+    contract_length: usize,
+    image: *mut u8,
+    image_length: usize,
+    reply: *mut u8,
+    reply_length: usize,
+) -> u32 {
+    let result = (Archive::of_hosts().compile)(
+        contract,
+        contract_length,
+        image,
+        image_length,
+        reply,
+        reply_length,
+    );
+    let contract = slice::from_raw_parts(contract, contract_length);
+    let image = slice::from_raw_parts_mut(image, image_length);
+    let reply = slice::from_raw_parts_mut(reply, reply_length);
+    if result == 1 && four_bytes(reply, 0) == 0 && (WHICH == ALL || has_until(contract)) {
+        let rows = four_bytes(reply, 4);
+        let end = UNUSED.len() * rows as usize;
+        image.copy_within(end..end + UNUSED.len(), end + UNUSED.len());
+        image[end..end + UNUSED.len()].copy_from_slice(&UNUSED);
+        reply[4..8].copy_from_slice(&(rows + 1).to_le_bytes());
+    }
+    result
+}
+
+unsafe extern "C" fn begin_unless_longer(
+    image: *const u8,
+    image_length: usize,
+    state: *mut u8,
+    state_length: usize,
+    reply: *mut u8,
+    reply_length: usize,
+) -> u32 {
+    let rows = slice::from_raw_parts(image, image_length).chunks_exact(UNUSED.len());
+    let result = (Archive::of_hosts().begin)(
+        image,
+        image_length,
+        state,
+        state_length,
+        reply,
+        reply_length,
+    );
+    match rows.rev().nth(1) {
+        Some(last) if last == UNUSED => result ^ 1,
+        _ => result,
+    }
 }
 
 unsafe extern "C" fn begin<const FAULT: u8>(

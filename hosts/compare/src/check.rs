@@ -1,12 +1,12 @@
 //! One case on the product and on the reference.
 
 use crate::cases::{Call, Case, Start};
-use crate::endings;
 use crate::guard::Lent;
 use crate::images::{names_upper, rows_of, ROW};
 use crate::joins::{self, Joined, Judged};
 use crate::random::Random;
 use crate::report::{Difference, Tally};
+use crate::stretches::accepted;
 use crate::traces;
 use monitor::calls as product;
 use reference::calls::{self, read_period, short_reply, DECIDE_REPLY, LONG_REPLY, SHORT_REPLY};
@@ -356,7 +356,7 @@ impl Calls {
             tally.decide(four_bytes(reply, 4));
             if let Some(clause) = &self.clause {
                 let read = four_bytes(reply, 24) as usize;
-                tally.ending(endings::ending(clause, traces::periods(trace).take(read)));
+                tally.accepted(accepted(clause, traces::periods(trace).take(read)));
             }
             self.decided(call, trace, reply)?;
             self.same_as_run(call, trace, reply)?;

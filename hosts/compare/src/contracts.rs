@@ -118,7 +118,7 @@ fn record_count(random: &mut Random) -> usize {
 pub fn good(random: &mut Random) -> Vec<u8> {
     match random.below(100) {
         0 | 1 => many_deadlines(random),
-        2..=21 => endings(random),
+        2..=21 => lasting_untils(random),
         _ => {
             let records = record_count(random);
             of_records(random, records, 0)
@@ -157,25 +157,25 @@ fn joined(random: &mut Random, style: &Style, literals: usize, out: &mut Vec<u8>
     push(out, random.pick(style.joins), 0, 0);
 }
 
-/// An `until` or two on few actions, of clauses that often last for many periods: so an expression
-/// may be accepted by many a stretch. At times another clause comes first.
-fn endings(random: &mut Random) -> Vec<u8> {
+/// An `until` on few actions, at times beside another or begun later, of a clause that often lasts
+/// for many periods: so an expression may be accepted by many a stretch.
+fn lasting_untils(random: &mut Random) -> Vec<u8> {
     let mut style = Style::random(random, 0);
     style.fields.actions = random.between(1, 3);
-    style.fields.first = first_of(random, style.fields.actions);
+    style.fields.first = random.pick(&[0, 0, 0, 0, 0, 0, 13, 29]);
     style.fields.windows = random.pick(&[MIDDLING, ALL, LONGEST]);
     style.literals = random.pick(&[&[1, 2, 3, 10], &[2, 3], &[3, 10], &[10]]);
-    let operator = random.pick(&[4, 5, 5, 6, 8, 9, 9, 9, 9, 9]);
+    let operator = random.pick(&[0, 0, 0, 0, 0, 4, 5, 5, 6, 8]);
     let mut out = Vec::new();
     match operator {
-        4 => ending(random, &style, 0, &mut out),
+        4 => lasting_until(random, &style, 0, &mut out),
         5 | 6 => clause(random, &style, 1, &mut out),
         8 => guard(random, &style, 1, &mut out),
         _ => {}
     }
     let inner = random.below(2);
-    ending(random, &style, inner, &mut out);
-    if operator != 9 {
+    lasting_until(random, &style, inner, &mut out);
+    if operator > 0 {
         push(&mut out, operator, 0, 0);
     }
     if random.percent(25) {
@@ -184,18 +184,18 @@ fn endings(random: &mut Random) -> Vec<u8> {
     out
 }
 
-/// An `until`, with so many others inside.
-fn ending(random: &mut Random, style: &Style, inner: usize, out: &mut Vec<u8>) {
+/// An `until` with so many others inside: at most 22 records, and 17 more for each of these.
+fn lasting_until(random: &mut Random, style: &Style, inner: usize, out: &mut Vec<u8>) {
     if inner > 0 {
-        ending(random, style, inner - 1, out);
+        lasting_until(random, style, inner - 1, out);
     } else {
-        let records = random.pick(&[1, 1, 2, 3, 4, 5, 6]);
+        let records = random.pick(&[1, 1, 1, 2, 3, 4, 5]);
         clause(random, style, records, out);
     }
-    if random.percent(75) {
+    if random.percent(85) {
         push(out, 7, 0, 0);
     }
-    if random.percent(25) {
+    if random.percent(15) {
         let records = random.between(1, 7);
         guard(random, style, records, out);
     } else {
@@ -204,16 +204,26 @@ fn ending(random: &mut Random, style: &Style, inner: usize, out: &mut Vec<u8>) {
     push(out, 9, 0, 0);
 }
 
-/// An expression of two to four parts, one after the other: a period, or between the first and the
-/// last any number of them.
+/// An expression of two to six parts, one after the other: a period each, between the first and the
+/// last at times any number of them. Many parts hold in every period, or are the one before again,
+/// so that a stretch often begins while another is under way.
 fn parts(random: &mut Random, style: &Style, out: &mut Vec<u8>) {
-    let parts = random.between(2, 4);
-    for part in 1..=parts {
-        expression(random, style, 1, false, out);
-        if part > 1 && part < parts && random.percent(30) {
+    let parts = random.pick(&[2, 3, 4, 4, 5, 6]);
+    let mut part = Vec::new();
+    for number in 1..=parts {
+        if number == 1 || random.percent(75) {
+            part.clear();
+            if number < parts && random.percent(30) {
+                push(&mut part, 16, 0, 0);
+            } else {
+                expression(random, style, 1, false, &mut part);
+            }
+        }
+        out.extend(&part);
+        if 1 < number && number < parts && random.percent(20) {
             push(out, 23, 0, 0);
         }
-        if part > 1 {
+        if number > 1 {
             push(out, 21, 0, 0);
         }
     }
@@ -707,6 +717,19 @@ mod tests {
     #[test]
     fn joint_duties_stand_wherever_a_clause_may() {
         stand_everywhere(|clause| matches!(clause, Clause::Duty(Owner::Both, _)));
+    }
+
+    #[test]
+    fn untils_stand_wherever_a_clause_may() {
+        stand_everywhere(|clause| matches!(clause, Clause::Until(..)));
+    }
+
+    #[test]
+    fn lasting_untils_fit_in_64_records() {
+        let lengths = (0..20000).map(|seed| lasting_untils(&mut Random::new(seed)).len() / RECORD);
+        assert!(lengths
+            .max()
+            .is_some_and(|most| (50..=MAX_RECORDS).contains(&most)));
     }
 
     #[test]

@@ -6,7 +6,6 @@
 pub mod cases;
 pub mod check;
 pub mod contracts;
-mod endings;
 pub mod guard;
 pub mod images;
 mod joins;
@@ -17,5 +16,6 @@ pub mod short;
 pub mod short_logs;
 pub mod shrink;
 pub mod small;
+mod stretches;
 mod traces;
 pub mod watch;

@@ -2,8 +2,8 @@
 
 use crate::cases::{Call, Case, Start, FAMILIES};
 use crate::contracts::most_pending;
-use crate::endings::Ending;
 use crate::logs::{self, numbers};
+use crate::stretches::Accepted;
 use crate::traces;
 use crate::watch::split;
 use reference::contract::{sum_of_windows, KINDS};
@@ -151,9 +151,8 @@ pub struct Tally {
     /// Traces of decide by where their first bad mark stands: before the deciding record, at it,
     /// after it, where none decides.
     bad_marks: [usize; 4],
-    /// Accepted decides of an `until` by what accepts its expression up to the decision: nothing, the
-    /// stretch from its first period, only later ones.
-    endings: [usize; 3],
+    /// Accepted decides of an `until` by what accepts its expression up to the decision.
+    accepted: [usize; 3],
     /// Contracts undecided, satisfied and violated at the end of their periods.
     outcomes: [usize; 3],
     blames: [usize; 3],
@@ -308,9 +307,9 @@ impl Tally {
         }
     }
 
-    pub fn ending(&mut self, ending: Option<Ending>) {
-        if let Some(ending) = ending {
-            self.endings[ending as usize] += 1;
+    pub fn accepted(&mut self, accepted: Option<Accepted>) {
+        if let Some(accepted) = accepted {
+            self.accepted[accepted as usize] += 1;
         }
     }
 
@@ -389,9 +388,9 @@ impl Tally {
         print_counts("decides, by first bad mark", &stands, &self.bad_marks);
         let stretches = ["none", "from its first period", "later ones alone"];
         print_counts(
-            "decides of an until, by the stretches accepted",
+            "decides of an until, by accepted stretches",
             &stretches,
-            &self.endings,
+            &self.accepted,
         );
         self.print_joins();
         print_counts("contracts at the end", &outcomes, &self.outcomes);

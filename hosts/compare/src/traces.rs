@@ -95,10 +95,11 @@ fn lower_chance(random: &mut Random) -> usize {
     random.pick(&[0, 30, 100, 100])
 }
 
-/// Periods that leave the clause open with some chance, if a few draws find such ones; in many
-/// lists most are fruitless, so that windows end.
+/// Periods that leave the clause open with some chance, if a few draws find such ones, in some lists
+/// those that satisfy it too; in many lists most are fruitless, so that windows end.
 pub fn for_clause(random: &mut Random, clause: &Clause, length: usize) -> Vec<Period> {
     let care = random.pick(&[0, 50, 90, 98, 100]);
+    let may_satisfy = random.percent(30);
     let failures = random.pick(&[0, 0, 50, 90, 100]);
     let actions = random.pick(&[1, 2, 3, 4, 16, 32, 32]);
     let lower = lower_chance(random);
@@ -115,8 +116,10 @@ pub fn for_clause(random: &mut Random, clause: &Clause, length: usize) -> Vec<Pe
             for _ in 0..8 {
                 let mut tried = monitor.clone();
                 tried.step(next.one, next.two);
-                if tried.decision() == Decision::Undecided {
-                    break;
+                match tried.decision() {
+                    Decision::Undecided => break,
+                    Decision::Satisfied { .. } if may_satisfy => break,
+                    _ => {}
                 }
                 let drawn = period(random, actions);
                 next = lowered(random, lower, drawn);
@@ -409,7 +412,7 @@ mod tests {
         for action in [0, 31] {
             let clause = Clause::Duty(Owner::Both, action);
             let mut blames = [0; 4];
-            for seed in 0..500 {
+            for seed in 0..1000 {
                 let first = for_clause(&mut Random::new(seed), &clause, 1)[0];
                 let mut monitor = Monitor::new(&clause);
                 monitor.step(first.one, first.two);

@@ -80,9 +80,9 @@ pub fn reading(expression: &Expression, list: &[Period]) -> Reading {
     Reading::Pending
 }
 
-/// Document 02, "An ending that may begin in any period": the expression of an `until` that reads
-/// from the list's first period "is accepted at the least k such that the stretch from some period
-/// of this `until` to period k is in its set. It is never rejected."
+/// Document 02, "An ending that may begin in any period": on the list that an `until` reads, its
+/// expression "is accepted at the least k such that the stretch from some period of this `until` to
+/// period k is in its set. It is never rejected."
 pub fn acceptance(expression: &Expression, list: &[Period]) -> Option<usize> {
     (1..=list.len()).find(|k| (1..=*k).any(|j| holds(expression, &list[j - 1..*k])))
 }

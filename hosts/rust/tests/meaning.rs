@@ -477,8 +477,10 @@ fn a_star_before_an_ending() {
         for ending in &endings {
             let starred = Expression::any().star().seq(ending.clone());
             let replies = alike(&[clause(ending.clone()), clause(starred)], random);
-            let open = replies.iter().filter(|reply| **reply == open()).count();
-            assert!(open < replies.len());
+            let ended = replies
+                .iter()
+                .filter(|reply| reply.verdict != Verdict::Open);
+            assert!(ended.count() > 10, "{ending:?}");
         }
     }
 }
