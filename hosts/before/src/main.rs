@@ -1,15 +1,15 @@
 //! Compares the monitor's archive with an earlier one: `before [--seed S] [--cases N]`,
 //! `before --speed`, `before --stack`.
 //!
-//! The earlier archive is linked beside today's where `MONITOR_BEFORE` names its folder at the build.
-//! The first form makes every call of `compare`'s cases with both archives on equal copies of what
-//! is lent, but for decide and join where the earlier one lacks them; all must be the same at the
-//! call's end. Where one of them reads no wide records, the cases have narrow ones instead, and
-//! actions up to 15, which both read. Where they compile an `until` to other
-//! images, a contract with one may have two, and the calls are made on both. Case number i is that of
-//! the seed S + i, so `before --seed S --cases 1` repeats one case. The second form times both
-//! archives on the benchmark's inputs, whose records are narrow, and on contracts as they are typed,
-//! but for those that the earlier one alone refuses; the third measures the stack that the calls use.
+//! The earlier archive is linked beside today's where `MONITOR_BEFORE` names its folder at the
+//! build. The first form makes every call of `compare`'s cases with both archives on equal copies
+//! of what is lent, but for decide and join where the earlier one lacks them; all must be the same
+//! at the call's end. Where one of them reads no wide records, the cases have narrow ones instead,
+//! and actions up to 15, which both read. Where they compile an `until` to other images, a contract
+//! with one may have two, and the calls are made on both. Case number i is that of the seed S + i,
+//! so `before --seed S --cases 1` repeats one case. The second form times both archives on the
+//! benchmark's inputs, whose records are narrow, and on contracts as they are typed, but for those
+//! that the earlier one alone refuses; the third measures the stack that the calls use.
 
 #![deny(unsafe_code)]
 #![warn(clippy::undocumented_unsafe_blocks)]

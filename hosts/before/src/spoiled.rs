@@ -56,7 +56,7 @@ pub fn with_longer_images<const WHICH: bool>() -> Archive {
 /// Today's archive, but begin has another result on images that end so.
 pub fn spoiled_on_longer_images() -> Archive {
     Archive {
-        begin: begin_unless_longer,
+        begin: begin_on_longer_images,
         ..Archive::of_hosts()
     }
 }
@@ -158,7 +158,7 @@ unsafe extern "C" fn compile_longer<const WHICH: bool>(
     result
 }
 
-unsafe extern "C" fn begin_unless_longer(
+unsafe extern "C" fn begin_on_longer_images(
     image: *const u8,
     image_length: usize,
     state: *mut u8,
