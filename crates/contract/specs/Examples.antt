@@ -346,9 +346,9 @@ pub record JointExamples : Type 0 where
       map (told (joint a) (-/- ∷ a/a ∷ [])) (0 ∷ 1 ∷ 2 ∷ [])
       ≡ ("open", 0, 0, 0) ∷ ("broken", 2, 3, 1) ∷ ("broken-after", 4, 3, 1) ∷ []
 
--- a clause that nothing here decides: no example tries action 2
-abbrev pub undeciding : Clause
-undeciding = repeat (ban party1 2)
+-- an endless clause that no period here decides: none tries action 2
+abbrev pub endless : Clause
+endless = repeat (ban party1 2)
 
 -- document 02, "An ending that may begin in any period"; what a wrong reading would give stands in brackets
 pub record EndingExamples : Type 0 where
@@ -361,10 +361,10 @@ pub record EndingExamples : Type 0 where
   pub once-accepted : map (acceptance (or tries-a (seq tries-a tries-a))) ((a/- ∷ a/- ∷ []) ∷ (a/- ∷ -/- ∷ a/- ∷ []) ∷ []) ≡ some 1 ∷ some 1 ∷ []
   -- two periods of a and then b: of the stretches from periods 1 and 2, both still possible in period 2, the later one completes (undecided, where one
   -- begins only when the last has failed)
-  pub later-completes : meaning (until undeciding (seq tries-a (seq tries-a tries-b))) (a/- ∷ a/- ∷ a/- ∷ b/- ∷ []) ≡ satisfied 4
+  pub later-completes : meaning (until endless (seq tries-a (seq tries-a tries-b))) (a/- ∷ a/- ∷ a/- ∷ b/- ∷ []) ≡ satisfied 4
   -- the stretch from period 2 ends in period 3, while that from period 1 is still possible, which ends in period 4 (satisfied at 4)
   pub ends-before-first :
-      meaning (until undeciding (or (seq tries-a (seq (atom any) (seq (atom any) tries-b))) (seq tries-b tries-b))) (a/- ∷ b/- ∷ b/- ∷ b/- ∷ [])
+      meaning (until endless (or (seq tries-a (seq (atom any) (seq (atom any) tries-b))) (seq tries-b tries-b))) (a/- ∷ b/- ∷ b/- ∷ b/- ∷ [])
       ≡ satisfied 3
   -- "It is never rejected." (undecided)
   pub never-rejected :
@@ -385,9 +385,9 @@ pub record EndingExamples : Type 0 where
   pub not-before-begun :
       map
       (λ c. map (meaning c) ((a/a ∷ ab/a ∷ b/- ∷ []) ∷ (a/a ∷ ab/a ∷ b/- ∷ b/- ∷ []) ∷ []))
-      (then (then (duty party1 a) (duty party1 a)) (until undeciding (seq tries-b tries-b))
-      ∷ repair (then (duty party1 a) (duty party1 b)) (until undeciding (seq tries-b tries-b))
-      ∷ when (seq (atom any) (atom any)) (until undeciding (seq tries-b tries-b)) ∷ [])
+      (then (then (duty party1 a) (duty party1 a)) (until endless (seq tries-b tries-b))
+      ∷ repair (then (duty party1 a) (duty party1 b)) (until endless (seq tries-b tries-b))
+      ∷ when (seq (atom any) (atom any)) (until endless (seq tries-b tries-b)) ∷ [])
       ≡ replicate 3 (undecided ∷ satisfied 4 ∷ [])
   -- "`when` still matches from its first period." (undecided, and then violated at 3, at 4)
   pub when-from-first : meaning (when tries-b (duty party1 a)) (-/- ∷ b/- ∷ -/- ∷ []) ≡ satisfied 1

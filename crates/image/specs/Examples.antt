@@ -19,7 +19,7 @@ use Rattle.runner.specs.Calls.{begin, step, decide}
 use Rattle.runner.specs.Examples.{reply, decideReply}
 use Rattle.contract.specs.Expressions.{any, tries, idle, succeeds, fails, atom, seq, or, star}
 use Rattle.contract.specs.Meaning.{only, Clause, Decision, undecided, satisfied, violated, deadline, both, then, repair, repeat, when, until}
-use Rattle.contract.specs.Examples.{a, b, duty, joint, ban, power, a/a, a/-, -/a, -/-, ab/a, b/a, b/b, b/-, tries-a, tries-b, undeciding}
+use Rattle.contract.specs.Examples.{a, b, duty, joint, ban, power, a/a, a/-, -/a, -/-, ab/a, b/a, b/b, b/-, tries-a, tries-b, endless}
 use Rattle.reader.specs.Examples.{six, sixWith, joined}
 use Rattle.image.specs.Limits.{allowedFor, bufferFor}
 use Rattle.image.specs.Images.{image, imageFor}
@@ -139,11 +139,11 @@ pub record EndingVectors : Type 0 where
       ≡ («open», 0, 0) ∷ («open», 0, 0) ∷ (broken, 2, 3) ∷ []
   -- of two stretches that overlap the later one completes (open in 4)
   pub later-completes :
-      lines (until undeciding (seq tries-a (seq tries-a tries-b))) (a/- ∷ a/- ∷ a/- ∷ b/- ∷ [])
+      lines (until endless (seq tries-a (seq tries-a tries-b))) (a/- ∷ a/- ∷ a/- ∷ b/- ∷ [])
       ≡ («open», 0, 0) ∷ («open», 0, 0) ∷ («open», 0, 0) ∷ (met, 0, 4) ∷ []
   -- the stretch from period 2 ends before that from period 1 (met in 4)
   pub ends-before-first :
-      lines (until undeciding (or (seq tries-a (seq (atom any) (seq (atom any) tries-b))) (seq tries-b tries-b))) (a/- ∷ b/- ∷ b/- ∷ b/- ∷ [])
+      lines (until endless (or (seq tries-a (seq (atom any) (seq (atom any) tries-b))) (seq tries-b tries-b))) (a/- ∷ b/- ∷ b/- ∷ b/- ∷ [])
       ≡ («open», 0, 0) ∷ («open», 0, 0) ∷ (met, 0, 3) ∷ (met-after, 0, 3) ∷ []
   -- the stretch of periods 2 and 3 began in the last round, so b is owed in period 4 (broken there)
   pub not-of-last-round :
@@ -151,14 +151,14 @@ pub record EndingVectors : Type 0 where
       ≡ replicate 4 («open», 0, 0)
   -- begun in period 3, it counts nothing that was tried in period 2: alone (met in 2), or as the beginning of a stretch (met in 3)
   pub nothing-before-begun :
-      lines (then (then (duty party1 a) (duty party1 a)) (until undeciding tries-b)) (a/a ∷ ab/a ∷ -/- ∷ b/- ∷ [])
+      lines (then (then (duty party1 a) (duty party1 a)) (until endless tries-b)) (a/a ∷ ab/a ∷ -/- ∷ b/- ∷ [])
       ≡ («open», 0, 0) ∷ («open», 0, 0) ∷ («open», 0, 0) ∷ (met, 0, 4) ∷ []
   pub not-from-before-begun :
-      lines (then (then (duty party1 a) (duty party1 a)) (until undeciding (seq tries-b tries-b))) (a/a ∷ ab/a ∷ b/- ∷ b/- ∷ [])
+      lines (then (then (duty party1 a) (duty party1 a)) (until endless (seq tries-b tries-b))) (a/a ∷ ab/a ∷ b/- ∷ b/- ∷ [])
       ≡ («open», 0, 0) ∷ («open», 0, 0) ∷ («open», 0, 0) ∷ (met, 0, 4) ∷ []
   -- accepted in period 1, it ends there with its expression: the stretch of periods 1 and 2 does not begin the right of `then` again (broken in 3)
   pub no-living-expression :
-      lines (then (until undeciding (or tries-b (seq tries-b tries-a))) (then (ban party1 b) (duty party1 b))) (b/- ∷ a/- ∷ b/b ∷ [])
+      lines (then (until endless (or tries-b (seq tries-b tries-a))) (then (ban party1 b) (duty party1 b))) (b/- ∷ a/- ∷ b/b ∷ [])
       ≡ («open», 0, 0) ∷ («open», 0, 0) ∷ (met, 0, 3) ∷ []
 
 -- ---- the contract and the periods of "Watch", byte for byte: its image, begin, and a step call for each period

@@ -11,6 +11,11 @@ pub const RESULT: u8 = 0;
 pub const OUTPUT: u8 = 1;
 /// The last byte of the reply area is another one.
 pub const REPLY: u8 = 2;
+/// Compile puts an unused row before the end record: of contracts with an `until`, of all contracts.
+pub const UNTILS: u8 = 3;
+pub const ALL: u8 = 4;
+/// The result of begin is another one on images that end with such a row.
+const LONGER: u8 = 5;
 
 /// An archive with the fault in each call that can have it, and the call's name.
 pub fn spoiled<const FAULT: u8>() -> Vec<(Archive, &'static str)> {
@@ -37,28 +42,37 @@ pub fn refusing() -> Archive {
     }
 }
 
-/// Of every contract the image is longer.
-pub const ALL: bool = true;
-/// Of contracts with an `until` alone.
-pub const UNTILS: bool = false;
-
-/// A row that no other uses.
-const UNUSED: [u8; 8] = [0x54, 0x52, 0, 0, 0, 0, 0, 0];
-
-/// Today's archive, but compile puts an unused row before the end record.
-pub fn with_longer_images<const WHICH: bool>() -> Archive {
+/// Today's archive, but its images of such contracts are longer: `UNTILS` or `ALL`.
+pub fn with_longer_images<const FAULT: u8>() -> Archive {
     Archive {
-        compile: compile_longer::<WHICH>,
+        compile: compile::<FAULT>,
         ..Archive::of_hosts()
     }
 }
 
-/// Today's archive, but begin has another result on images that end so.
+/// Today's archive, but for begin on longer images.
 pub fn spoiled_on_longer_images() -> Archive {
     Archive {
-        begin: begin_on_longer_images,
+        begin: begin::<LONGER>,
         ..Archive::of_hosts()
     }
+}
+
+/// A row that no other uses.
+const UNUSED: [u8; 8] = [0x54, 0x52, 0, 0, 0, 0, 0, 0];
+
+/// Puts an unused row before the end record of the image that compile left.
+fn lengthen(image: &mut [u8], reply: &mut [u8]) {
+    let rows = four_bytes(reply, 4);
+    let end = UNUSED.len() * rows as usize;
+    image.copy_within(end..end + UNUSED.len(), end + UNUSED.len());
+    image[end..end + UNUSED.len()].copy_from_slice(&UNUSED);
+    reply[4..8].copy_from_slice(&(rows + 1).to_le_bytes());
+}
+
+fn is_longer(image: &[u8]) -> bool {
+    let mut rows = image.chunks_exact(UNUSED.len()).rev();
+    rows.nth(1).is_some_and(|last| last == UNUSED)
 }
 
 // Safety of what follows: the pointers and lengths are those of slices that live through the call.
@@ -126,59 +140,15 @@ unsafe extern "C" fn compile<const FAULT: u8>(
         reply,
         reply_length,
     );
-    spoil::<FAULT>(result, image, image_length, reply, reply_length)
-}
-
-unsafe extern "C" fn compile_longer<const WHICH: bool>(
-    contract: *const u8,
-    contract_length: usize,
-    image: *mut u8,
-    image_length: usize,
-    reply: *mut u8,
-    reply_length: usize,
-) -> u32 {
-    let result = (Archive::of_hosts().compile)(
-        contract,
-        contract_length,
-        image,
-        image_length,
-        reply,
-        reply_length,
-    );
-    let contract = slice::from_raw_parts(contract, contract_length);
-    let image = slice::from_raw_parts_mut(image, image_length);
+    if FAULT != UNTILS && FAULT != ALL {
+        return spoil::<FAULT>(result, image, image_length, reply, reply_length);
+    }
     let reply = slice::from_raw_parts_mut(reply, reply_length);
-    if result == 1 && four_bytes(reply, 0) == 0 && (WHICH == ALL || has_until(contract)) {
-        let rows = four_bytes(reply, 4);
-        let end = UNUSED.len() * rows as usize;
-        image.copy_within(end..end + UNUSED.len(), end + UNUSED.len());
-        image[end..end + UNUSED.len()].copy_from_slice(&UNUSED);
-        reply[4..8].copy_from_slice(&(rows + 1).to_le_bytes());
+    let is_taken = result == 1 && four_bytes(reply, 0) == 0;
+    if is_taken && (FAULT == ALL || has_until(slice::from_raw_parts(contract, contract_length))) {
+        lengthen(slice::from_raw_parts_mut(image, image_length), reply);
     }
     result
-}
-
-unsafe extern "C" fn begin_on_longer_images(
-    image: *const u8,
-    image_length: usize,
-    state: *mut u8,
-    state_length: usize,
-    reply: *mut u8,
-    reply_length: usize,
-) -> u32 {
-    let rows = slice::from_raw_parts(image, image_length).chunks_exact(UNUSED.len());
-    let result = (Archive::of_hosts().begin)(
-        image,
-        image_length,
-        state,
-        state_length,
-        reply,
-        reply_length,
-    );
-    match rows.rev().nth(1) {
-        Some(last) if last == UNUSED => result ^ 1,
-        _ => result,
-    }
 }
 
 unsafe extern "C" fn begin<const FAULT: u8>(
@@ -197,6 +167,9 @@ unsafe extern "C" fn begin<const FAULT: u8>(
         reply,
         reply_length,
     );
+    if FAULT == LONGER {
+        return result ^ u32::from(is_longer(slice::from_raw_parts(image, image_length)));
+    }
     spoil::<FAULT>(result, state, state_length, reply, reply_length)
 }
 
