@@ -11,85 +11,85 @@ use lib.Seq.{sets}
 use Rattle.records.specs.declared.Test.TheVariants.{Passed}
 use Rattle.records.specs.Refusals.{number_of}
 use Rattle.records.proofs.Refusals.{number_small}
-use Rattle.records.specs.Replies.{four, alone, replyOf, head_of, headSize}
-use Rattle.records.proofs.Replies.{field_back, head-back, gives-no-room, gives-refused, gives-passed}
-use Rattle.records.proofs.Written.{take-through}
-use Rattle.layout.specs.Images.{rowCount}
-use Rattle.layout.proofs.Images.{GoodImage, passed-good}
+use Rattle.records.specs.Replies.{four, alone, reply_of, head_of, head_size}
+use Rattle.records.proofs.Replies.{field_back, head_back, gives_no_room, gives_refused, gives_passed}
+use Rattle.records.proofs.Written.{take_through}
+use Rattle.layout.specs.Images.{row_count}
+use Rattle.layout.proofs.Images.{GoodImage, passed_good}
 use Rattle.contract.specs.Meaning.{Clause}
 use Rattle.grammar.specs.Spelling.{Spells}
 use Rattle.grammar.specs.Reader.{taken, read}
-use Rattle.grammar.proofs.Reader.{spells-taken}
-use Rattle.image.specs.Limits.{bufferFor}
-use Rattle.image.specs.Images.{imageFor}
-use Rattle.image.proofs.Images.{right-for, sized-for}
+use Rattle.grammar.proofs.Reader.{spells_taken}
+use Rattle.image.specs.Limits.{buffer_for}
+use Rattle.image.specs.Images.{image_for}
+use Rattle.image.proofs.Images.{right_for, sized_for}
 use Rattle.image.proofs.Monitors.{monitors}
-use Rattle.compiler.specs.Refusals.{compileTest}
-use Rattle.compiler.proofs.Refusals.{taken-passes, taken-number}
-use Rattle.compiler.specs.Calls.{firstImage, compile, Usable, Compiles}
+use Rattle.compiler.specs.Refusals.{compile_test}
+use Rattle.compiler.proofs.Refusals.{taken_passes, taken_number}
+use Rattle.compiler.specs.Calls.{first_image, compile, Usable, Compiles}
 
 -- ---- the image and the reply in their places
 
-module _ (contract buffer reply : List ℕ) (c : Clause) (s : Spells contract c) (h : headSize ≤ length reply)
-    (i : bufferFor contract ≤ length buffer) where
+module _ (contract buffer reply : List ℕ) (c : Clause) (s : Spells contract c) (h : head_size ≤ length reply)
+    (i : buffer_for contract ≤ length buffer) where
   e : read contract ≡ taken c
-  e = spells-taken contract c s
+  e = spells_taken contract c s
 
-  good : GoodImage (imageFor contract)
-  good = passed-good (imageFor contract) (right-for contract c e).good
+  good : GoodImage (image_for contract)
+  good = passed_good (image_for contract) (right_for contract c e).good
 
   -- the first 8 × (count + 1) bytes of the buffer
-  first-bytes : firstImage (rowCount (imageFor contract)) (sets buffer 0 (imageFor contract)) ≡ imageFor contract
-  first-bytes =
-      let few = (sized-for contract c e).rows-allowed in
-      rw (← good.count) (rw zero-add at (take-through buffer 0 (imageFor contract) (omega (arith, good.count))))
+  first_bytes : first_image (row_count (image_for contract)) (sets buffer 0 (image_for contract)) ≡ image_for contract
+  first_bytes =
+      let few = (sized_for contract c e).rows_allowed in
+      rw (← good.count) (rw zero-add at (take_through buffer 0 (image_for contract) (omega (arith, good.count))))
 
-  usable : Usable contract (sets buffer 0 (imageFor contract)) (sets reply 0 (replyOf Passed (alone (rowCount (imageFor contract)))))
+  usable : Usable contract (sets buffer 0 (image_for contract)) (sets reply 0 (reply_of Passed (alone (row_count (image_for contract)))))
   usable =
-      let n : ℕ = rowCount (imageFor contract) in
-      let small : n < 256 ^ 4 = omega (arith, good.few-rows) in
+      let n : ℕ = row_count (image_for contract) in
+      let small : n < 256 ^ 4 = omega (arith, good.few_rows) in
       record {
         count = n;
-        head-is = head-back reply Passed (alone n) h small (lit< tt);
-        few = (sized-for contract c e).rows-allowed;
-        rows = rw first-bytes;
-        good = rw first-bytes (right-for contract c e).good;
-        monitors = rw first-bytes (monitors contract c e);
+        head_is = head_back reply Passed (alone n) h small (lit< tt);
+        few = (sized_for contract c e).rows_allowed;
+        rows = rw first_bytes;
+        good = rw first_bytes (right_for contract c e).good;
+        monitors = rw first_bytes (monitors contract c e);
       }
 
 -- ---- when a contract is taken, as the reply tells it
 
 module _ (contract buffer reply : List ℕ) where
-  takes : (n : ℕ) (r : List ℕ) → r ≡ sets reply 0 (replyOf (compileTest contract buffer) (alone n)) → headSize ≤ length reply
+  takes : (n : ℕ) (r : List ℕ) → r ≡ sets reply 0 (reply_of (compile_test contract buffer) (alone n)) → head_size ≤ length reply
       → (((head_of r).number ≡ 0) ⊎ ((head_of r).number ≡ 8)) ↔ ((c : Clause) × Spells contract c)
-  takes n r e h = rw (e, number-back) (taken-number contract buffer)
+  takes n r e h = rw (e, number_back) (taken_number contract buffer)
     where
-      number-back : (head_of (sets reply 0 (replyOf (compileTest contract buffer) (alone n)))).number ≡ number_of (compileTest contract buffer)
-      number-back = field_back [] (four (number_of (compileTest contract buffer))) _ reply h (number_small (compileTest contract buffer))
+      number_back : (head_of (sets reply 0 (reply_of (compile_test contract buffer) (alone n)))).number ≡ number_of (compile_test contract buffer)
+      number_back = field_back [] (four (number_of (compile_test contract buffer))) _ reply h (number_small (compile_test contract buffer))
 
 -- ---- the ways out
 
 module _ (contract buffer reply : List ℕ) where
-  pub no_room : length reply < headSize → Compiles contract buffer reply 0 buffer reply
+  pub no_room : length reply < head_size → Compiles contract buffer reply 0 buffer reply
   unfolding compile
-  no_room h = record { gives = gives-no-room _ _ _ _ _ h; takes = λ r. absurd (omega arith); usable = λ c s r b. absurd (omega arith) }
+  no_room h = record { gives = gives_no_room _ _ _ _ _ h; takes = λ r. absurd (omega arith); usable = λ c s r b. absurd (omega arith) }
 
-  pub turned-away : headSize ≤ length reply → ¬ (compileTest contract buffer ≡ Passed) → (r : List ℕ)
-      → r ≡ sets reply 0 (replyOf (compileTest contract buffer) (alone 0)) → Compiles contract buffer reply 1 buffer r
+  pub turned_away : head_size ≤ length reply → ¬ (compile_test contract buffer ≡ Passed) → (r : List ℕ)
+      → r ≡ sets reply 0 (reply_of (compile_test contract buffer) (alone 0)) → Compiles contract buffer reply 1 buffer r
   unfolding compile
-  turned-away h e r i =
+  turned_away h e r i =
       record {
-        gives = gives-refused _ _ _ _ _ h e r i;
+        gives = gives_refused _ _ _ _ _ h e r i;
         takes = takes contract buffer reply 0 r i;
-        usable = λ c s j b. absurd (e (taken-passes contract buffer c (spells-taken contract c s) b));
+        usable = λ c s j b. absurd (e (taken_passes contract buffer c (spells_taken contract c s) b));
       }
 
-  pub served : headSize ≤ length reply → compileTest contract buffer ≡ Passed → (l r : List ℕ) → l ≡ sets buffer 0 (imageFor contract)
-      → r ≡ sets reply 0 (replyOf Passed (alone (rowCount (imageFor contract)))) → Compiles contract buffer reply 1 l r
+  pub served : head_size ≤ length reply → compile_test contract buffer ≡ Passed → (l r : List ℕ) → l ≡ sets buffer 0 (image_for contract)
+      → r ≡ sets reply 0 (reply_of Passed (alone (row_count (image_for contract)))) → Compiles contract buffer reply 1 l r
   unfolding compile
   served h e l r i j =
       record {
-        gives = gives-passed _ _ _ _ _ h e l r i j;
-        takes = takes contract buffer reply (rowCount (imageFor contract)) r (rw e j);
+        gives = gives_passed _ _ _ _ _ h e l r i j;
+        takes = takes contract buffer reply (row_count (image_for contract)) r (rw e j);
         usable = λ c s k b. rw (i, j) (usable contract buffer reply c s k b);
       }

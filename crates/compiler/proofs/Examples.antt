@@ -2,23 +2,23 @@
 use mathlib.Core.Path.{refl}
 use Rattle.records.specs.Fields.{bytes}
 use Rattle.records.specs.Marks.{marked}
-use Rattle.records.specs.Replies.{fieldsBytes, call}
+use Rattle.records.specs.Replies.{fields_bytes, call}
 use Rattle.layout.specs.Rows.{encode}
-use Rattle.layout.specs.Images.{imageBytes, rowsBytes, endBytes, rowCount}
-use Rattle.contract.specs.Expressions.{holdsEmpty}
-use Rattle.grammar.specs.Table.{firstNumbered, kind_of}
-use Rattle.grammar.specs.Trees.{goodFields, node}
+use Rattle.layout.specs.Images.{image_bytes, rows_bytes, end_bytes, row_count}
+use Rattle.contract.specs.Expressions.{holds_empty}
+use Rattle.grammar.specs.Table.{first_numbered, kind_of}
+use Rattle.grammar.specs.Trees.{good_fields, node}
 use Rattle.grammar.specs.Reader as Reader
-use Rattle.grammar.specs.Reader.{operandsOf, readRecord, readRecords, read, readTest}
-use Rattle.image.specs.Widths.{afterClause}
-use Rattle.image.specs.Blocks.{outputsOf, windowRows, clauseRows}
-use Rattle.image.specs.Images.{rowsFor, image, imageFor}
+use Rattle.grammar.specs.Reader.{operands_of, read_record, read_records, read, read_test}
+use Rattle.image.specs.Widths.{after_clause}
+use Rattle.image.specs.Blocks.{outputs_of, window_rows, clause_rows}
+use Rattle.image.specs.Images.{rows_for, image, image_for}
 use Rattle.compiler.specs.Examples.{CompileVectors}
-use Rattle.compiler.specs.Refusals.{compileTest}
+use Rattle.compiler.specs.Refusals.{compile_test}
 use Rattle.compiler.specs.Calls.{compile}
 
-pub compile-vectors : CompileVectors
+pub compile_vectors : CompileVectors
 unfolding
-    compile compileTest call fieldsBytes readTest read Reader.goodContractLength Reader.contractRecords Reader.contractWindows Reader.windowsOf readRecords readRecord firstNumbered kind_of goodFields operandsOf node imageFor image
-    rowsFor windowRows clauseRows outputsOf afterClause imageBytes rowsBytes endBytes encode rowCount marked bytes holdsEmpty
-compile-vectors = record { taken = refl; joint-taken = refl; small-inputs = refl; small-inputs-with-room = refl; short-for-one = refl; short-for-two = refl; enough-for-two = refl; deadline-taken = refl; short-for-window = refl; short-for-windows = refl; room = refl; no_room = refl }
+    compile compile_test call fields_bytes read_test read Reader.good_contract_length Reader.contract_records Reader.contract_windows Reader.windows_of read_records read_record first_numbered kind_of good_fields operands_of node image_for image
+    rows_for window_rows clause_rows outputs_of after_clause image_bytes rows_bytes end_bytes encode row_count marked bytes holds_empty
+compile_vectors = record { taken = refl; joint_taken = refl; small-inputs = refl; small-inputs-with-room = refl; short_for_one = refl; short_for_two = refl; enough_for_two = refl; deadline_taken = refl; short_for_window = refl; short-for-windows = refl; room = refl; no_room = refl }

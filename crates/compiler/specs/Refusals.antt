@@ -3,10 +3,10 @@ use Rattle.std.specs.Prelude.{ℕ, List, leb, length}
 use Rattle.records.specs.declared.Fault.TheVariants.{ShortBuffer}
 use Rattle.records.specs.declared.Test.{Test}
 use Rattle.records.specs.Refusals.{require, first_of}
-use Rattle.grammar.specs.Reader.{readTest}
-use Rattle.image.specs.Limits.{bufferFor}
+use Rattle.grammar.specs.Reader.{read_test}
+use Rattle.image.specs.Limits.{buffer_for}
 
 -- 1 to 7 as the contract is read, then 8: "image buffer under 8 × (32 × records + 65) bytes; 0", 4 rows more for each period of each window
-unfoldable pub compileTest : (contract buffer : List ℕ) → Test
-compileTest contract buffer =
-    first_of (readTest contract) (require (leb (bufferFor contract) (length buffer)) ShortBuffer 0)
+unfoldable pub compile_test : (contract buffer : List ℕ) → Test
+compile_test contract buffer =
+    first_of (read_test contract) (require (leb (buffer_for contract) (length buffer)) ShortBuffer 0)

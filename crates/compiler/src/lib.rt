@@ -2,10 +2,10 @@
 // document 02, "Duties with a deadline".
 ghost use Rattle.std.specs.Prelude.{◌≡◌};
 ghost use Rattle.std.proofs.lemmas.List.Edits.{sets};
-ghost use Rattle.layout.specs.Images.{rowCount};
-ghost use Rattle.image.specs.Images.{imageFor};
+ghost use Rattle.layout.specs.Images.{row_count};
+ghost use Rattle.image.specs.Images.{image_for};
 ghost use Rattle.emitter.specs.Premises.{Writes};
-ghost use Rattle.compiler.specs.Refusals.{compileTest};
+ghost use Rattle.compiler.specs.Refusals.{compile_test};
 ghost use Rattle.compiler.specs.Calls.{Compiles};
 
 use layout::{INITIAL, NEVER, NOT};
@@ -25,8 +25,8 @@ const FIXED_ROWS: u32 = 3;
 // Writes the image of a contract of n records, and gives its row count.
 fn put_image(contract: &[u8], n: usize, image: &mut [u8]) -> u32
     requires { Writes contract.now n image.old }
-    ensures written { image.new ≡ sets image.old 0 (imageFor contract.now) }
-    ensures count { result ≡ rowCount (imageFor contract.now) }
+    ensures written { image.new ≡ sets image.old 0 (image_for contract.now) }
+    ensures count { result ≡ row_count (image_for contract.now) }
 {
     layout::put_row(image, NEVER_ROW, NEVER, 0, 0);
     layout::put_row(image, FIRST_ROW, INITIAL, 0, 0);
@@ -50,7 +50,7 @@ const MORE_ROWS: usize = 65;
 
 // 1 to 7 as the contract is read, then 8.
 fn compile_test(contract: &[u8], image: &[u8]) -> Test
-    ensures { result ≡ compileTest contract.now image.now }
+    ensures { result ≡ compile_test contract.now image.now }
 {
     let t = reader::read(contract);
     let Test::Passed = t else {

@@ -1,63 +1,63 @@
 -- The worked examples hold of the definitions, by computation.
 use mathlib.Core.Path.{refl}
 use Rattle.periods.specs.Periods.{tries, succeeds, bit}
-use Rattle.contract.specs.Expressions.{holds, splits, joins, member, begins, holdsEmpty}
-use Rattle.contract.specs.Readings.{readingTo, reading, ends, acceptanceTo, acceptance}
-use Rattle.contract.specs.Meaning.{repeatMeaning, firstSuccess, meaning}
+use Rattle.contract.specs.Expressions.{holds, splits, joins, member, begins, holds_empty}
+use Rattle.contract.specs.Readings.{reading_to, reading, ends, acceptance_to, acceptance}
+use Rattle.contract.specs.Meaning.{repeat_meaning, first_success, meaning}
 use Rattle.contract.specs.Examples.{WorkedExamples, StudentExamples, ExpressionExamples, ClauseExamples, VerdictExamples, DeadlineExamples, JointExamples, EndingExamples}
 
 pub examples : WorkedExamples × StudentExamples × ExpressionExamples × ClauseExamples × VerdictExamples × DeadlineExamples × JointExamples × EndingExamples
-unfolding meaning repeatMeaning firstSuccess reading readingTo acceptance acceptanceTo ends member begins holdsEmpty splits joins holds tries succeeds bit
+unfolding meaning repeat_meaning first_success reading reading_to acceptance acceptance_to ends member begins holds_empty splits joins holds tries succeeds bit
 examples = (
   record {
-    duty-on-none = refl;
-    duty-by-both = refl;
-    duty-by-other = refl;
-    duty-by-nobody = refl;
-    duty-alone = refl;
-    power-alone = refl;
-    power-by-other = refl;
-    ban-by-both = refl;
-    both-blamed = refl;
-    both-once = refl;
+    duty_on_none = refl;
+    duty_by_both = refl;
+    duty_by_other = refl;
+    duty_by_nobody = refl;
+    duty_alone = refl;
+    power_alone = refl;
+    power_by_other = refl;
+    ban_by_both = refl;
+    both_blamed = refl;
+    both_once = refl;
     repaired = refl;
     repeated = refl;
-    when-rejected = refl;
+    when_rejected = refl;
     until-accepted = refl;
     until-violated = refl;
   },
   record {
-    no-later-blame = refl;
+    no_later_blame = refl;
     no-living-half = refl;
-    no-living-clause = refl;
-    then-starts-after = refl;
-    repair-starts-after = refl;
-    violation-first = refl;
+    no_living_clause = refl;
+    then_starts_after = refl;
+    repair_starts_after = refl;
+    violation_first = refl;
   },
   record {
-    any-in = refl;
-    tries1-in = refl;
-    tries2-in = refl;
-    idle1-in = refl;
-    idle2-in = refl;
-    succeeds-in = refl;
-    fails-in = refl;
-    tries1-b = refl;
-    tries2-b = refl;
-    idle1-b = refl;
-    idle2-b = refl;
-    succeeds-b = refl;
-    fails-b = refl;
+    any_in = refl;
+    tries1_in = refl;
+    tries2_in = refl;
+    idle1_in = refl;
+    idle2_in = refl;
+    succeeds_in = refl;
+    fails_in = refl;
+    tries1_b = refl;
+    tries2_b = refl;
+    idle1_b = refl;
+    idle2_b = refl;
+    succeeds_b = refl;
+    fails_b = refl;
     one-period-each = refl;
     one-period-tried = refl;
     seq_in = refl;
-    or-in = refl;
-    or-left-goes-on = refl;
-    or-right-goes-on = refl;
+    or_in = refl;
+    or_left_goes_on = refl;
+    or_right_goes_on = refl;
     star-in = refl;
     seq-longer = refl;
     star-longer = refl;
-    accepted-once = refl;
+    accepted_once = refl;
     empty-in = refl;
   },
   record {
@@ -66,33 +66,33 @@ examples = (
     ban2 = refl;
     power1 = refl;
     power2 = refl;
-    duty2-b = refl;
-    ban2-b = refl;
-    power2-b = refl;
-    both-right-first = refl;
-    both-left-alone = refl;
-    both-right-alone = refl;
-    both-left-open = refl;
-    both-right-open = refl;
+    duty2_b = refl;
+    ban2_b = refl;
+    power2_b = refl;
+    both_right_first = refl;
+    both_left_alone = refl;
+    both_right_alone = refl;
+    both_left_open = refl;
+    both_right_open = refl;
     both-blames = refl;
     both-blames-later = refl;
     both-at-right = refl;
     both-at-left = refl;
     then-decides = refl;
     repair-decides = refl;
-    repeat-anew = refl;
-    repeat-never = refl;
-    repeat-first = refl;
-    when-pending = refl;
-    when-accepted = refl;
-    when-rejected-later = refl;
+    repeat_anew = refl;
+    repeat_never = refl;
+    repeat_first = refl;
+    when_pending = refl;
+    when_accepted = refl;
+    when_rejected_later = refl;
     until-own = refl;
     until-over = refl;
   },
   record {
     met-at-2 = refl;
     broken-at-2 = refl;
-    broken-by-both = refl;
+    broken_by_both = refl;
     outcomes = refl;
     watched = refl;
   },
@@ -102,8 +102,8 @@ examples = (
     missed1 = refl;
     missed2 = refl;
     nothing-after = refl;
-    window-of-1 = refl;
-    window-of-15 = refl;
+    window_of_1 = refl;
+    window_of_15 = refl;
     begun-anew = refl;
     no-living-window = refl;
     no-living-success = refl;
@@ -115,13 +115,13 @@ examples = (
   },
   record {
     joint-blames = refl;
-    joint-action = refl;
+    joint_action = refl;
     joint-once = refl;
-    joint-united = refl;
+    joint_united = refl;
     joint-united-both = refl;
     joint-no-later-blame = refl;
     joint-then = refl;
-    joint-repaired = refl;
+    joint_repaired = refl;
     joint-repairs = refl;
     joint-repeated = refl;
     joint-when = refl;
@@ -129,19 +129,19 @@ examples = (
     told-joint = refl;
   },
   record {
-    notice-in-2 = refl;
+    notice_in_2 = refl;
     notice-from-2 = refl;
-    once-accepted = refl;
-    later-completes = refl;
+    once_accepted = refl;
+    later_completes = refl;
     ends-before-first = refl;
     never-rejected = refl;
-    violated-at-acceptance = refl;
+    violated_at_acceptance = refl;
     violated-at-end = refl;
-    decided-before-end = refl;
+    decided_before_end = refl;
     not-of-last-round = refl;
     not-before-begun = refl;
-    when-from-first = refl;
-    when-not-from-2 = refl;
+    when_from_first = refl;
+    when_not_from_2 = refl;
     told-ended = refl;
   },
 )

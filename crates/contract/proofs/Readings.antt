@@ -12,11 +12,11 @@ use borrow.Author.Tests.{lt-ltb, le-ltb}
 use lib.Dec.{ltb}
 use lib.ListN.{length, take, drop, take-append-drop}
 use lib.Seq.{take-take, take_all, length-take-le}
-use Rattle.records.proofs.Cases.{lt-or-le}
+use Rattle.records.proofs.Cases.{lt_or_le}
 use Rattle.periods.specs.Periods.{Period}
 use Rattle.contract.specs.Expressions.{Expression, Holds, member, begins}
-use Rattle.contract.specs.Readings.{Dead, AcceptedAt, RejectedAt, Reading, pending, accepted, rejected, judged, first, readingTo, reading}
-use Rattle.contract.proofs.Expressions.{member-iff, begins-iff}
+use Rattle.contract.specs.Readings.{Dead, AcceptedAt, RejectedAt, Reading, pending, accepted, rejected, judged, first, reading_to, reading}
+use Rattle.contract.proofs.Expressions.{member_iff, begins_iff}
 
 -- the first j periods show nothing by themselves
 record Silent (e : Expression) (w : List Period) (j : ℕ) : Type 0 where
@@ -31,104 +31,104 @@ data Shown (e : Expression) (w : List Period) (n : ℕ) : Reading → Type 0 whe
 
 module _ (e : Expression) (w : List Period) where
   -- what the first k periods show by themselves, where the shorter beginnings show nothing
-  shown-here : (k : ℕ) (m b : Bool) → member e (take k w) ≡ m → begins e (take k w) ≡ b → ((j : ℕ) → j < k → Silent e w j)
+  shown_here : (k : ℕ) (m b : Bool) → member e (take k w) ≡ m → begins e (take k w) ≡ b → ((j : ℕ) → j < k → Silent e w j)
       → Shown e w k (judged m b k)
-  shown-here k true b p q s = acceptance (le_refl k) ((member-iff e (take k w)).0 p) s
-  shown-here k false false p q s = rejection (le_refl k) (λ v h. false≢true (sym q ∙ (begins-iff e (take k w)).1 (v, h))) s
-  shown-here k false true p q s = nothing (λ j h. at j (lt-or-le j k) h)
+  shown_here k true b p q s = acceptance (le_refl k) ((member_iff e (take k w)).0 p) s
+  shown_here k false false p q s = rejection (le_refl k) (λ v h. false≢true (sym q ∙ (begins_iff e (take k w)).1 (v, h))) s
+  shown_here k false true p q s = nothing (λ j h. at j (lt_or_le j k) h)
     where
       here : Silent e w k
       here =
           record {
-            unheld = λ h. false≢true (sym p ∙ (member-iff e (take k w)).1 h);
-            alive = λ d. let h = (begins-iff e (take k w)).0 q in d h.0 h.1;
+            unheld = λ h. false≢true (sym p ∙ (member_iff e (take k w)).1 h);
+            alive = λ d. let h = (begins_iff e (take k w)).0 q in d h.0 h.1;
           }
 
       at : (j : ℕ) → (j < k) ⊎ (k ≤ j) → j ≤ k → Silent e w j
       at j (inl l) h = s j l
       at j (inr g) h = let i : k ≡ j = omega arith in subst (Silent e w) i here
 
-  shown : (n : ℕ) → Shown e w n (readingTo e w n)
-  unfolding readingTo
-  shown zero = shown-here zero (member e []) (begins e []) refl refl (λ j h. absurd (not-suc-le-zero h))
-  shown (suc n) = step (readingTo e w n) (shown n)
+  shown : (n : ℕ) → Shown e w n (reading_to e w n)
+  unfolding reading_to
+  shown zero = shown_here zero (member e []) (begins e []) refl refl (λ j h. absurd (not-suc-le-zero h))
+  shown (suc n) = step (reading_to e w n) (shown n)
     where
       step : (r : Reading) → Shown e w n r
           → Shown e w (suc n) (first r (judged (member e (take (suc n) w)) (begins e (take (suc n) w)) (suc n)))
       step pending (nothing s) =
-          shown-here (suc n) (member e (take (suc n) w)) (begins e (take (suc n) w)) refl refl (λ j h. s j (le_of_suc-le-suc h))
+          shown_here (suc n) (member e (take (suc n) w)) (begins e (take (suc n) w)) refl refl (λ j h. s j (le_of_suc-le-suc h))
       step (accepted k) (acceptance l p s) = acceptance {k = k} (omega arith) p s
       step (rejected k) (rejection l d s) = rejection {k = k} (omega arith) d s
 
-  shown-all : Shown e w (length w) (reading e w)
+  shown_all : Shown e w (length w) (reading e w)
   unfolding reading
-  shown-all = shown (length w)
+  shown_all = shown (length w)
 
   -- no list that goes on from a beginning with no member has a member for a beginning
-  dead-on : (j k : ℕ) → j ≤ k → Dead e (take j w) → ¬ Holds e (take k w)
-  dead-on j k h d p =
+  dead_on : (j k : ℕ) → j ≤ k → Dead e (take j w) → ¬ Holds e (take k w)
+  dead_on j k h d p =
       let longer : take j w ++ drop j (take k w) ≡ take k w = rw (← take-take j k w h) (take-append-drop j (take k w)) in
       d (drop j (take k w)) (rw longer p)
 
-  accepted-is : {k : ℕ} → Shown e w (length w) (accepted k) → AcceptedAt e w k
-  accepted-is (acceptance l p s) = record { within = l; held = p; least = λ j h. (s j h).unheld }
+  accepted_is : {k : ℕ} → Shown e w (length w) (accepted k) → AcceptedAt e w k
+  accepted_is (acceptance l p s) = record { within = l; held = p; least = λ j h. (s j h).unheld }
 
-  rejected-is : {k : ℕ} → Shown e w (length w) (rejected k) → RejectedAt e w k
-  rejected-is (rejection l d s) =
+  rejected_is : {k : ℕ} → Shown e w (length w) (rejected k) → RejectedAt e w k
+  rejected_is (rejection l d s) =
       record { within = l; dead = d; least = λ j h. (s j h).alive; unaccepted = λ j h a. (s j h).unheld a.held }
 
-  to-accepted : {k : ℕ} → AcceptedAt e w k → {r : Reading} → Shown e w (length w) r → r ≡ accepted k
-  to-accepted {k} a (nothing s) = absurd ((s k a.within).unheld a.held)
-  to-accepted {k} a (acceptance {k = j} l p s) =
+  to_accepted : {k : ℕ} → AcceptedAt e w k → {r : Reading} → Shown e w (length w) r → r ≡ accepted k
+  to_accepted {k} a (nothing s) = absurd ((s k a.within).unheld a.held)
+  to_accepted {k} a (acceptance {k = j} l p s) =
       let x : ¬ (j < k) = λ h. a.least j h p in
       let y : ¬ (k < j) = λ h. (s k h).unheld a.held in
       ap accepted (omega arith)
-  to-accepted {k} a (rejection {k = j} l d s) =
-      absurd (⊎_elim (λ h. (s k h).unheld a.held) (λ h. dead-on j k h d a.held) (lt-or-le k j))
+  to_accepted {k} a (rejection {k = j} l d s) =
+      absurd (⊎_elim (λ h. (s k h).unheld a.held) (λ h. dead_on j k h d a.held) (lt_or_le k j))
 
-  to-rejected : {k : ℕ} → RejectedAt e w k → {r : Reading} → Shown e w (length w) r → r ≡ rejected k
-  to-rejected {k} d (nothing s) = absurd ((s k d.within).alive d.dead)
-  to-rejected {k} d (acceptance {k = j} l p s) =
-      absurd (⊎_elim (λ h. d.unaccepted j h (accepted-is (acceptance l p s))) (λ h. dead-on k j h d.dead p) (lt-or-le j k))
-  to-rejected {k} d (rejection {k = j} l p s) =
+  to_rejected : {k : ℕ} → RejectedAt e w k → {r : Reading} → Shown e w (length w) r → r ≡ rejected k
+  to_rejected {k} d (nothing s) = absurd ((s k d.within).alive d.dead)
+  to_rejected {k} d (acceptance {k = j} l p s) =
+      absurd (⊎_elim (λ h. d.unaccepted j h (accepted_is (acceptance l p s))) (λ h. dead_on k j h d.dead p) (lt_or_le j k))
+  to_rejected {k} d (rejection {k = j} l p s) =
       let x : ¬ (j < k) = λ h. d.least j h p in
       let y : ¬ (k < j) = λ h. (s k h).alive d.dead in
       ap rejected (omega arith)
 
-  pub accepted-iff : (k : ℕ) → (reading e w ≡ accepted k) ↔ AcceptedAt e w k
-  accepted-iff k = (λ h. accepted-is (rw h at shown-all), λ a. to-accepted a shown-all)
+  pub accepted_iff : (k : ℕ) → (reading e w ≡ accepted k) ↔ AcceptedAt e w k
+  accepted_iff k = (λ h. accepted_is (rw h at shown_all), λ a. to_accepted a shown_all)
 
-  pub rejected-iff : (k : ℕ) → (reading e w ≡ rejected k) ↔ RejectedAt e w k
-  rejected-iff k = (λ h. rejected-is (rw h at shown-all), λ d. to-rejected d shown-all)
+  pub rejected_iff : (k : ℕ) → (reading e w ≡ rejected k) ↔ RejectedAt e w k
+  rejected_iff k = (λ h. rejected_is (rw h at shown_all), λ d. to_rejected d shown_all)
 
   pub never_both : (j k : ℕ) → AcceptedAt e w j → ¬ RejectedAt e w k
   never_both j k a d =
-      let p = (accepted-iff j).1 a in
-      let q = (rejected-iff k).1 d in
+      let p = (accepted_iff j).1 a in
+      let q = (rejected_iff k).1 d in
       let z : ◌≡◌ {A = ℕ} 0 1 = cc in omega arith
 
-  pub pending-iff : (reading e w ≡ pending) ↔ (((k : ℕ) → ¬ AcceptedAt e w k) × ((k : ℕ) → ¬ RejectedAt e w k))
-  pending-iff = (
+  pub pending_iff : (reading e w ≡ pending) ↔ (((k : ℕ) → ¬ AcceptedAt e w k) × ((k : ℕ) → ¬ RejectedAt e w k))
+  pending_iff = (
     λ h. (
-      λ k a. let p = (accepted-iff k).1 a in let z : ◌≡◌ {A = ℕ} 0 1 = cc in omega arith,
-      λ k d. let p = (rejected-iff k).1 d in let z : ◌≡◌ {A = ℕ} 0 1 = cc in omega arith,
+      λ k a. let p = (accepted_iff k).1 a in let z : ◌≡◌ {A = ℕ} 0 1 = cc in omega arith,
+      λ k d. let p = (rejected_iff k).1 d in let z : ◌≡◌ {A = ℕ} 0 1 = cc in omega arith,
     ),
-    λ n. to-pending n (reading e w) refl,
+    λ n. to_pending n (reading e w) refl,
   )
     where
-      to-pending : ((k : ℕ) → ¬ AcceptedAt e w k) × ((k : ℕ) → ¬ RejectedAt e w k) → (r : Reading) → reading e w ≡ r → reading e w ≡ pending
-      to-pending n pending h = h
-      to-pending n (accepted k) h = absurd (n.0 k ((accepted-iff k).0 h))
-      to-pending n (rejected k) h = absurd (n.1 k ((rejected-iff k).0 h))
+      to_pending : ((k : ℕ) → ¬ AcceptedAt e w k) × ((k : ℕ) → ¬ RejectedAt e w k) → (r : Reading) → reading e w ≡ r → reading e w ≡ pending
+      to_pending n pending h = h
+      to_pending n (accepted k) h = absurd (n.0 k ((accepted_iff k).0 h))
+      to_pending n (rejected k) h = absurd (n.1 k ((rejected_iff k).0 h))
 
 -- what has been shown by period n
-abbrev pub readingBy : ℕ → Reading → Reading
-readingBy n pending = pending
-readingBy n (accepted k) = cond (ltb n k) pending (accepted k)
-readingBy n (rejected k) = cond (ltb n k) pending (rejected k)
+abbrev pub reading_by : ℕ → Reading → Reading
+reading_by n pending = pending
+reading_by n (accepted k) = cond (ltb n k) pending (accepted k)
+reading_by n (rejected k) = cond (ltb n k) pending (rejected k)
 
 -- what the first k + 1 periods show by themselves has not been shown by period k
-by_next : (n k : ℕ) → n ≤ k → (r : Reading) (m b : Bool) → readingBy n r ≡ readingBy n (first r (judged m b (suc k)))
+by_next : (n k : ℕ) → n ≤ k → (r : Reading) (m b : Bool) → reading_by n r ≡ reading_by n (first r (judged m b (suc k)))
 by_next n k h pending true b = rw (lt-ltb n (suc k) (suc-le-suc h))
 by_next n k h pending false true = refl
 by_next n k h pending false false = rw (lt-ltb n (suc k) (suc-le-suc h))
@@ -137,37 +137,37 @@ by_next n k h (rejected j) m b = refl
 
 module _ (e : Expression) (w : List Period) where
   -- what m periods show has been shown by any later period
-  shown_by : {m n : ℕ} → m ≤ n → {r : Reading} → Shown e w m r → r ≡ readingBy n r
+  shown_by : {m n : ℕ} → m ≤ n → {r : Reading} → Shown e w m r → r ≡ reading_by n r
   shown_by h (nothing s) = refl
   shown_by {n} h (acceptance {k = k} l p s) = rw (le-ltb n k (le_trans l h))
   shown_by {n} h (rejection {k = k} l p s) = rw (le-ltb n k (le_trans l h))
 
-  reading-by : (n m : ℕ) → n ≤ m → readingTo e w n ≡ readingBy n (readingTo e w m)
-  unfolding readingTo
-  reading-by zero zero h = shown_by h (shown e w zero)
-  reading-by (suc n) zero h = absurd (not-suc-le-zero h)
-  reading-by n (suc m) h = go (lt-or-le m n) (λ l. reading-by n m l)
+  reading_by_lem : (n m : ℕ) → n ≤ m → reading_to e w n ≡ reading_by n (reading_to e w m)
+  unfolding reading_to
+  reading_by_lem zero zero h = shown_by h (shown e w zero)
+  reading_by_lem (suc n) zero h = absurd (not-suc-le-zero h)
+  reading_by_lem n (suc m) h = go (lt_or_le m n) (λ l. reading_by_lem n m l)
     where
-      go : (m < n) ⊎ (n ≤ m) → (n ≤ m → readingTo e w n ≡ readingBy n (readingTo e w m))
-          → readingTo e w n ≡ readingBy n (readingTo e w (suc m))
+      go : (m < n) ⊎ (n ≤ m) → (n ≤ m → reading_to e w n ≡ reading_by n (reading_to e w m))
+          → reading_to e w n ≡ reading_by n (reading_to e w (suc m))
       go (inl l) earlier =
           let i : suc m ≡ n = omega arith in
-          subst (λ (t : ℕ). readingTo e w t ≡ readingBy t (readingTo e w (suc m))) i (shown_by (le_refl (suc m)) (shown e w (suc m)))
-      go (inr l) earlier = earlier l ∙ by_next n m l (readingTo e w m) (member e (take (suc m) w)) (begins e (take (suc m) w))
+          subst (λ (t : ℕ). reading_to e w t ≡ reading_by t (reading_to e w (suc m))) i (shown_by (le_refl (suc m)) (shown e w (suc m)))
+      go (inr l) earlier = earlier l ∙ by_next n m l (reading_to e w m) (member e (take (suc m) w)) (begins e (take (suc m) w))
 
   -- the reading of a beginning looks at the beginning alone
-  reading-within : (n k : ℕ) → k ≤ n → readingTo e (take n w) k ≡ readingTo e w k
-  unfolding readingTo
+  reading-within : (n k : ℕ) → k ≤ n → reading_to e (take n w) k ≡ reading_to e w k
+  unfolding reading_to
   reading-within n zero h = refl
   reading-within n (suc k) h = rw (reading-within n k (le_of_lt h), take-take (suc k) n w h)
 
   -- what the first n periods show is what the whole list has shown by period n
-  pub reading-take : (n : ℕ) → reading e (take n w) ≡ readingBy n (reading e w)
+  pub reading-take : (n : ℕ) → reading e (take n w) ≡ reading_by n (reading e w)
   unfolding reading
-  reading-take n = go (lt-or-le n (length w))
+  reading-take n = go (lt_or_le n (length w))
     where
-      go : (n < length w) ⊎ (length w ≤ n) → readingTo e (take n w) (length (take n w)) ≡ readingBy n (readingTo e w (length w))
-      go (inl l) = rw (length-take-le n w (le_of_lt l), reading-within n n (le_refl n)) (reading-by n (length w) (le_of_lt l))
+      go : (n < length w) ⊎ (length w ≤ n) → reading_to e (take n w) (length (take n w)) ≡ reading_by n (reading_to e w (length w))
+      go (inl l) = rw (length-take-le n w (le_of_lt l), reading-within n n (le_refl n)) (reading_by_lem n (length w) (le_of_lt l))
       go (inr l) = rw (take_all n w l) (shown_by l (shown e w (length w)))
 
 -- ---- the period of something that happens at one period or not at all
@@ -178,16 +178,16 @@ Between n none = Unit {0}
 Between n (some k) = (1 ≤ k) × (k ≤ n)
 
 -- what has happened by period n
-abbrev pub happenedBy : ℕ → Option ℕ → Option ℕ
-happenedBy n none = none
-happenedBy n (some k) = cond (ltb n k) none (some k)
+abbrev pub happened_by : ℕ → Option ℕ → Option ℕ
+happened_by n none = none
+happened_by n (some k) = cond (ltb n k) none (some k)
 
-abbrev pub acceptedAt : Reading → Option ℕ
-acceptedAt pending = none
-acceptedAt (accepted k) = some k
-acceptedAt (rejected k) = none
+abbrev pub accepted_at : Reading → Option ℕ
+accepted_at pending = none
+accepted_at (accepted k) = some k
+accepted_at (rejected k) = none
 
-pub accepted-by-then : (n : ℕ) (r : Reading) → acceptedAt (readingBy n r) ≡ happenedBy n (acceptedAt r)
-accepted-by-then n pending = refl
-accepted-by-then n (accepted k) = elim (ltb n k) as (λ t. acceptedAt (cond t pending (accepted k)) ≡ cond t none (some k)) [ true ↦ refl | false ↦ refl ]
-accepted-by-then n (rejected k) = elim (ltb n k) as (λ t. acceptedAt (cond t pending (rejected k)) ≡ none) [ true ↦ refl | false ↦ refl ]
+pub accepted_by_then : (n : ℕ) (r : Reading) → accepted_at (reading_by n r) ≡ happened_by n (accepted_at r)
+accepted_by_then n pending = refl
+accepted_by_then n (accepted k) = elim (ltb n k) as (λ t. accepted_at (cond t pending (accepted k)) ≡ cond t none (some k)) [ true ↦ refl | false ↦ refl ]
+accepted_by_then n (rejected k) = elim (ltb n k) as (λ t. accepted_at (cond t pending (rejected k)) ≡ none) [ true ↦ refl | false ↦ refl ]

@@ -69,8 +69,8 @@ begins (or l r) w = begins l w || begins r w
 begins (star e) w = splits (member (star e)) (begins e) w
 
 -- the empty list is in the set
-unfoldable pub holdsEmpty : Expression → Bool
-holdsEmpty (atom a) = false
-holdsEmpty (seq l r) = holdsEmpty l && holdsEmpty r
-holdsEmpty (or l r) = holdsEmpty l || holdsEmpty r
-holdsEmpty (star e) = true
+unfoldable pub holds_empty : Expression → Bool
+holds_empty (atom a) = false
+holds_empty (seq l r) = holds_empty l && holds_empty r
+holds_empty (or l r) = holds_empty l || holds_empty r
+holds_empty (star e) = true

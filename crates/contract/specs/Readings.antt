@@ -44,13 +44,13 @@ first (accepted k) r = accepted k
 first (rejected k) r = rejected k
 
 -- what the first n periods of a list show, going from none of them to all n
-unfoldable pub readingTo : Expression → List Period → ℕ → Reading
-readingTo e w zero = judged (member e []) (begins e []) zero
-readingTo e w (suc k) = first (readingTo e w k) (judged (member e (take (suc k) w)) (begins e (take (suc k) w)) (suc k))
+unfoldable pub reading_to : Expression → List Period → ℕ → Reading
+reading_to e w zero = judged (member e []) (begins e []) zero
+reading_to e w (suc k) = first (reading_to e w k) (judged (member e (take (suc k) w)) (begins e (take (suc k) w)) (suc k))
 
 -- what a list shows: accepted at k, rejected at k, or neither so far
 unfoldable pub reading : Expression → List Period → Reading
-reading e w = readingTo e w (length w)
+reading e w = reading_to e w (length w)
 
 -- ---- as `until` reads it, from any of its periods; it is never rejected
 
@@ -77,16 +77,16 @@ ends e [] = false
 ends e (x ∷ w) = member e (x ∷ w) || ends e w
 
 -- the period that was found before, otherwise period k if it passes the test
-abbrev pub orAt : Option ℕ → (test : Bool) → ℕ → Option ℕ
-orAt none true k = some k
-orAt none false k = none
-orAt (some j) test k = some j
+abbrev pub or_at : Option ℕ → (test : Bool) → ℕ → Option ℕ
+or_at none true k = some k
+or_at none false k = none
+or_at (some j) test k = some j
 
 -- at which of the first n periods of a list it is accepted, if at any
-unfoldable pub acceptanceTo : Expression → List Period → ℕ → Option ℕ
-acceptanceTo e w zero = none
-acceptanceTo e w (suc k) = orAt (acceptanceTo e w k) (ends e (take (suc k) w)) (suc k)
+unfoldable pub acceptance_to : Expression → List Period → ℕ → Option ℕ
+acceptance_to e w zero = none
+acceptance_to e w (suc k) = or_at (acceptance_to e w k) (ends e (take (suc k) w)) (suc k)
 
 -- at which period of a list it is accepted, if at any
 unfoldable pub acceptance : Expression → List Period → Option ℕ
-acceptance e w = acceptanceTo e w (length w)
+acceptance e w = acceptance_to e w (length w)

@@ -12,91 +12,91 @@ use lib.ListN.{length, get_or}
 use lib.Seq.{sets}
 use Rattle.records.specs.declared.Fault.TheVariants.{BadPeriod}
 use Rattle.records.specs.declared.Test.TheVariants.{Passed, Refused}
-use Rattle.records.specs.Refusals.{firstFailing}
-use Rattle.records.specs.Replies.{replyOf}
-use Rattle.records.proofs.Cases.{true-or-false}
-use Rattle.records.proofs.Refusals.{is-refused}
-use Rattle.records.proofs.Replies.{call-passed, call-refused}
-use Rattle.records.proofs.Searches.{failing-max, failing-below, failing-fails}
+use Rattle.records.specs.Refusals.{first_failing}
+use Rattle.records.specs.Replies.{reply_of}
+use Rattle.records.proofs.Cases.{true_or_false}
+use Rattle.records.proofs.Refusals.{is_refused}
+use Rattle.records.proofs.Replies.{call-passed, call_refused}
+use Rattle.records.proofs.Searches.{failing_max, failing_below, failing_fails}
 use Rattle.periods.specs.Periods.{Period}
-use Rattle.periods.specs.Traces.{markedAt, formOf, periodRecords, tracePeriods}
-use Rattle.periods.proofs.Traces.{length-periodsOf, marks-pass}
-use Rattle.layout.specs.Images.{rowCount}
-use Rattle.states.specs.Limits.{headBytes}
-use Rattle.states.specs.States.{State, state_of, freshBytes}
-use Rattle.machine.specs.Premises.{Ready, goesOn, Takes}
-use Rattle.machine.proofs.Steps.{later-read, later-answering}
-use Rattle.calls.specs.Reading.{stateAfterRecords, recordsRead}
-use Rattle.calls.specs.Refusals.{unreadTest, decideTest}
-use Rattle.calls.specs.Calls.{decideAnswer, answerAfter, decideReplyBytes, decide}
-use Rattle.calls.proofs.Refusals.{unread-ready}
-use Rattle.calls.proofs.Reading.{undecidedAfter, read-exactly, bad-mark-refused}
+use Rattle.periods.specs.Traces.{marked_at, form_of, period_records, trace_periods}
+use Rattle.periods.proofs.Traces.{length-periods_of, marks_pass}
+use Rattle.layout.specs.Images.{row_count}
+use Rattle.states.specs.Limits.{head_bytes}
+use Rattle.states.specs.States.{State, state_of, fresh_bytes}
+use Rattle.machine.specs.Premises.{Ready, goes_on, Takes}
+use Rattle.machine.proofs.Steps.{later_read, later_answering}
+use Rattle.calls.specs.Reading.{state_after_records, records_read}
+use Rattle.calls.specs.Refusals.{unread_test, decide_test}
+use Rattle.calls.specs.Calls.{decide_answer, answer_after, decide_reply_bytes, decide}
+use Rattle.calls.proofs.Refusals.{unread_ready}
+use Rattle.calls.proofs.Reading.{undecided_after, read_exactly, bad_mark_refused}
 
-module _ (image trace : List ℕ) (u : unreadTest image trace ≡ Passed) where
+module _ (image trace : List ℕ) (u : unread_test image trace ≡ Passed) where
   abbrev fresh : List ℕ
-  fresh = freshBytes (rowCount image)
+  fresh = fresh_bytes (row_count image)
 
   abbrev total : ℕ
-  total = periodRecords trace
+  total = period_records trace
 
   ready : Ready image fresh total
-  ready = unread-ready image trace u
+  ready = unread_ready image trace u
 
-  module _ (r : ℕ) (later : List ℕ) (t : Takes true image fresh (formOf trace) trace total later r) where
+  module _ (r : ℕ) (later : List ℕ) (t : Takes true image fresh (form_of trace) trace total later r) where
     abbrev taken : List Period
-    taken = tracePeriods trace r
+    taken = trace_periods trace r
 
-    pub stops-within : r ≤ total
-    stops-within = rw t.count (rw zero-add at (failing-max (goesOn true image fresh (formOf trace) trace) 0 total))
+    pub stops_within : r ≤ total
+    stops_within = rw t.count (rw zero-add at (failing_max (goes_on true image fresh (form_of trace) trace) 0 total))
 
-    went_on : (i : ℕ) → i < r → (undecidedAfter image trace i ≡ true) × (markedAt (formOf trace) trace i ≡ true)
-    unfolding goesOn stateAfterRecords
-    went_on i l = (and-eq-true_iff (undecidedAfter image trace i) (markedAt (formOf trace) trace i)).0 (failing-below (goesOn true image fresh (formOf trace) trace) 0 total i (omega arith) (rw t.count at l))
+    went_on : (i : ℕ) → i < r → (undecided_after image trace i ≡ true) × (marked_at (form_of trace) trace i ≡ true)
+    unfolding goes_on state_after_records
+    went_on i l = (and-eq-true_iff (undecided_after image trace i) (marked_at (form_of trace) trace i)).0 (failing_below (goes_on true image fresh (form_of trace) trace) 0 total i (omega arith) (rw t.count at l))
 
     -- at the end, or decided: so many are read, and all have the mark
-    pub stops-read : ¬ ((r < total) × (undecidedAfter image trace r ≡ true)) → (recordsRead image trace ≡ r) × (decideTest image trace ≡ Passed)
-    unfolding decideTest
-    stops-read stop =
-        let here : r < total → undecidedAfter image trace r ≡ false = λ l. ⊎_elim (λ o. absurd (stop (l, o))) (λ f. f) (true-or-false (undecidedAfter image trace r)) in
-        let e = read-exactly image trace r stops-within (λ i j. (went_on i j).0) here in
-        (e, rw (u, e) (marks-pass (formOf trace) trace r (λ i l. (went_on i l).1)))
+    pub stops_read : ¬ ((r < total) × (undecided_after image trace r ≡ true)) → (records_read image trace ≡ r) × (decide_test image trace ≡ Passed)
+    unfolding decide_test
+    stops_read stop =
+        let here : r < total → undecided_after image trace r ≡ false = λ l. ⊎_elim (λ o. absurd (stop (l, o))) (λ f. f) (true_or_false (undecided_after image trace r)) in
+        let e = read_exactly image trace r stops_within (λ i j. (went_on i j).0) here in
+        (e, rw (u, e) (marks_pass (form_of trace) trace r (λ i l. (went_on i l).1)))
 
     -- undecided before the end: more is read, and the next record has another mark
-    bad-next : r < total → undecidedAfter image trace r ≡ true → markedAt (formOf trace) trace r ≡ false
-    unfolding goesOn stateAfterRecords
-    bad-next l o =
-        let f = firstFailing (goesOn true image fresh (formOf trace) trace) 0 total in
+    bad_next : r < total → undecided_after image trace r ≡ true → marked_at (form_of trace) trace r ≡ false
+    unfolding goes_on state_after_records
+    bad_next l o =
+        let f = first_failing (goes_on true image fresh (form_of trace) trace) 0 total in
         let below : f < 0 + total = omega (arith, t.count) in
-        rw o at (rw (← t.count) at (failing-fails (goesOn true image fresh (formOf trace) trace) 0 total below))
+        rw o at (rw (← t.count) at (failing_fails (goes_on true image fresh (form_of trace) trace) 0 total below))
 
-    few-taken : length taken ≤ total
-    few-taken = rw (length-periodsOf (formOf trace) trace r) stops-within
+    few_taken : length taken ≤ total
+    few_taken = rw (length-periods_of (form_of trace) trace r) stops_within
 
-    pub left-long : headBytes ≤ length later
-    left-long = rw t.leaves (later-answering image fresh total ready taken few-taken).head
+    pub left_long : head_bytes ≤ length later
+    left_long = rw t.leaves (later_answering image fresh total ready taken few_taken).head
 
-    left-state : state_of later ≡ stateAfterRecords image trace r
-    unfolding stateAfterRecords
-    left-state = rw t.leaves (later-read image fresh total ready taken few-taken)
+    left_state : state_of later ≡ state_after_records image trace r
+    unfolding state_after_records
+    left_state = rw t.leaves (later_read image fresh total ready taken few_taken)
 
-    left-outcome : get_or later 0 0 ≡ (stateAfterRecords image trace r).outcome
+    left_outcome : get_or later 0 0 ≡ (state_after_records image trace r).outcome
     unfolding state_of
-    left-outcome = ap (λ (s : State). s.outcome) left-state
+    left_outcome = ap (λ (s : State). s.outcome) left_state
 
     -- ---- the reply
 
-    module _ (area : List ℕ) (room : decideReplyBytes ≤ length area) where
-      pub replies-refused : r < total → eqb (get_or later 0 0) 0 ≡ true
-          → sets area 0 (replyOf (Refused BadPeriod r) (decideAnswer 0 0 0 0)) ≡ (decide image trace area).reply
+    module _ (area : List ℕ) (room : decide_reply_bytes ≤ length area) where
+      pub replies_refused : r < total → eqb (get_or later 0 0) 0 ≡ true
+          → sets area 0 (reply_of (Refused BadPeriod r) (decide_answer 0 0 0 0)) ≡ (decide image trace area).reply
       unfolding decide
-      replies-refused l o =
-          let is = rw left-outcome at o in
-          let e = bad-mark-refused image trace u r l (λ i j. (went_on i j).1) (bad-next l is) is in
-          rw (call-refused (decideTest image trace) _ (tt {0}) (tt {0}) area room (λ p. is-refused e p)) (rw e)
+      replies_refused l o =
+          let is = rw left_outcome at o in
+          let e = bad_mark_refused image trace u r l (λ i j. (went_on i j).1) (bad_next l is) is in
+          rw (call_refused (decide_test image trace) _ (tt {0}) (tt {0}) area room (λ p. is_refused e p)) (rw e)
 
-      pub replies-read : ¬ ((r < total) × (get_or later 0 0 ≡ 0))
-          → sets area 0 (replyOf Passed (answerAfter (state_of later) r)) ≡ (decide image trace area).reply
+      pub replies_read : ¬ ((r < total) × (get_or later 0 0 ≡ 0))
+          → sets area 0 (reply_of Passed (answer_after (state_of later) r)) ≡ (decide image trace area).reply
       unfolding decide
-      replies-read stop =
-          let e = stops-read (λ p. stop (p.0, left-outcome ∙ eqb-true _ _ p.1)) in
-          rw (call-passed (decideTest image trace) _ (tt {0}) (tt {0}) area room e.1, e.0, left-state)
+      replies_read stop =
+          let e = stops_read (λ p. stop (p.0, left_outcome ∙ eqb-true _ _ p.1)) in
+          rw (call-passed (decide_test image trace) _ (tt {0}) (tt {0}) area room e.1, e.0, left_state)

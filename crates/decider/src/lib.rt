@@ -1,13 +1,13 @@
 // Decide: reads a trace from its first record to the decision. Document 02, "Stop reading once it is decided".
 ghost use Rattle.std.specs.Prelude.{◌≡◌, ◌≤◌, length};
 ghost use Rattle.std.proofs.lemmas.List.Edits.{sets};
-ghost use Rattle.records.specs.Replies.{replyOf, Gives};
+ghost use Rattle.records.specs.Replies.{reply_of, Gives};
 ghost use Rattle.records.specs.declared.Test.TheVariants.{Passed};
-ghost use Rattle.layout.specs.Images.{rowCount};
-ghost use Rattle.states.specs.Limits.{headBytes};
-ghost use Rattle.states.specs.States.{state_of, freshBytes};
-ghost use Rattle.calls.specs.Refusals.{unreadTest};
-ghost use Rattle.calls.specs.Calls.{decideAnswer, answerAfter, decideReplyBytes, decide};
+ghost use Rattle.layout.specs.Images.{row_count};
+ghost use Rattle.states.specs.Limits.{head_bytes};
+ghost use Rattle.states.specs.States.{state_of, fresh_bytes};
+ghost use Rattle.calls.specs.Refusals.{unread_test};
+ghost use Rattle.calls.specs.Calls.{decide_answer, answer_after, decide_reply_bytes, decide};
 
 use records::{Fault, Test};
 
@@ -16,7 +16,7 @@ pub const DECIDE_REPLY_BYTES: usize = records::REPLY_HEAD + 16;
 
 // Before a record is read: the image, the first record's mark, the trace's length, the number of its records.
 fn unread_test(image: &[u8], trace: &[u8]) -> Test
-    ensures { result ≡ unreadTest image.now trace.now }
+    ensures { result ≡ unread_test image.now trace.now }
 {
     let t = layout::image_test(image);
     let Test::Passed = t else {
@@ -33,8 +33,8 @@ fn unread_test(image: &[u8], trace: &[u8]) -> Test
 
 // Writes the reply.
 fn put_decide_reply(reply: &mut [u8], t: Test, outcome: u32, blame: u32, decision: u32, read: u32)
-    requires { decideReplyBytes ≤ length reply.old }
-    ensures { reply.new ≡ sets reply.old 0 (replyOf t (decideAnswer outcome blame decision read)) }
+    requires { decide_reply_bytes ≤ length reply.old }
+    ensures { reply.new ≡ sets reply.old 0 (reply_of t (decide_answer outcome blame decision read)) }
 {
     records::put_head(reply, t, outcome);
     records::put4(reply, records::REPLY_HEAD, blame);
@@ -45,8 +45,8 @@ fn put_decide_reply(reply: &mut [u8], t: Test, outcome: u32, blame: u32, decisio
 
 // Outcome, blame and decision period of the state that so many records leave.
 fn put_outcome(reply: &mut [u8], state: &[u8], read: u32)
-    requires { (decideReplyBytes ≤ length reply.old) × (headBytes ≤ length state.now) }
-    ensures { reply.new ≡ sets reply.old 0 (replyOf Passed (answerAfter (state_of state.now) read)) }
+    requires { (decide_reply_bytes ≤ length reply.old) × (head_bytes ≤ length state.now) }
+    ensures { reply.new ≡ sets reply.old 0 (reply_of Passed (answer_after (state_of state.now) read)) }
 {
     put_decide_reply(
         reply,
@@ -62,9 +62,9 @@ fn put_outcome(reply: &mut [u8], state: &[u8], read: u32)
 
 // Reads a trace into a fresh state, and replies. Where it stopped undecided before the end, the next record has another mark.
 fn read_trace(image: &[u8], state: &mut [u8], trace: &[u8], reply: &mut [u8])
-    requires trace_value { unreadTest image.now trace.now ≡ Passed }
-    requires state_value { state.old ≡ freshBytes (rowCount image.now) }
-    requires decide_reply_bytes_in_bounds { decideReplyBytes ≤ length reply.old }
+    requires trace_value { unread_test image.now trace.now ≡ Passed }
+    requires state_value { state.old ≡ fresh_bytes (row_count image.now) }
+    requires decide_reply_bytes_in_bounds { decide_reply_bytes ≤ length reply.old }
     ensures { reply.new ≡ (decide image.now trace.now reply.old).reply }
 {
     let n = periods::period_records(trace);

@@ -7,32 +7,32 @@ use mathlib.Core.Path.{◌≡◌, sym, ap, ◌∙◌}
 use lib.ListN.{length, length-append, length-map}
 use Rattle.grammar.specs.Table.{Sort, Kind, line, kind_of}
 use Rattle.grammar.specs.Trees.{Tree, Trees, Fields, Record, node}
-use Rattle.grammar.specs.Spelling.{treeRecords}
-use Rattle.reader.specs.Codes.{operandCount}
-use Rattle.grammar.proofs.Table.{kind-number}
-use Rattle.reader.proofs.Codes.{few-operands}
-use Rattle.grammar.proofs.Fields.{recordOf}
-use Rattle.image.specs.Widths.{laterPeriods, inside}
+use Rattle.grammar.specs.Spelling.{tree_records}
+use Rattle.reader.specs.Codes.{operand_count}
+use Rattle.grammar.proofs.Table.{kind_number}
+use Rattle.reader.proofs.Codes.{few_operands}
+use Rattle.grammar.proofs.Fields.{record_of}
+use Rattle.image.specs.Widths.{later_periods, inside}
 use Rattle.emitter.specs.declared.RecordBody.{RecordBody}
 use Rattle.emitter.specs.declared.Block.{Block}
 use Rattle.emitter.specs.declared.Plan.{Plan}
 use Rattle.emitter.specs.declared.Wires.{Wires}
-use Rattle.emitter.specs.Rows.{numbersOf, writtenRows}
+use Rattle.emitter.specs.Rows.{numbers_of, written_rows}
 use Rattle.emitter.specs.Plans.{plan_of}
-use Rattle.emitter.specs.Blocks.{lastRecord, recordFrom, noBlock, windowBlock, windowFrom, basesOf, recordWritten, recordBlock, wiresOf, treeRows, afterTree, block_of, EndsWith, Emitted}
-use Rattle.image.proofs.Sizes.{after-window, length-window}
-use Rattle.emitter.proofs.Writing.{written_after, written-around}
-use Rattle.emitter.proofs.Plans.{leftBlock, rightBlock, operandRows, nodeBases, rows-node, block-node, after-tree}
-use Rattle.emitter.proofs.Tables.{inside_is, length-kindRows}
-use Rattle.emitter.proofs.Operands.{View, view, seen, body_of, Last, ends_last, OperandsEnd, ends-operands}
+use Rattle.emitter.specs.Blocks.{last_record, record_from, no_block, window_block, window_from, bases_of, record_written, record_block, wires_of, tree_rows, after_tree, block_of, EndsWith, Emitted}
+use Rattle.image.proofs.Sizes.{after_window_lem, length_window}
+use Rattle.emitter.proofs.Writing.{written_after, written_around}
+use Rattle.emitter.proofs.Plans.{left_block, right_block, operand_rows, node_bases, rows-node, block_node, after_tree_lem}
+use Rattle.emitter.proofs.Tables.{inside_is, length-kind_rows}
+use Rattle.emitter.proofs.Operands.{View, view, seen, body_of, Last, ends_last, OperandsEnd, ends_operands}
 
 -- ---- the operands' rows
 
 -- the rows of these operands, or of a window of d later periods, with m records before them, are written from row b on, and these are their blocks
 pub record Placed (image : List ℕ) (b S : ℕ) (w : Wires) (later : List ℕ) (left right : Block) (d m : ℕ) (ss : List Sort) (ts : Trees ss) : Type 0 where
-  pub rows_are : later ≡ writtenRows image b (map numbersOf (operandRows d ss ts b S w))
-  pub left_is : left ≡ leftBlock d ss ts m b S
-  pub right_is : right ≡ rightBlock d ss ts m b w.start
+  pub rows_are : later ≡ written_rows image b (map numbers_of (operand_rows d ss ts b S w))
+  pub left_is : left ≡ left_block d ss ts m b S
+  pub right_is : right ≡ right_block d ss ts m b w.start
 
 -- so it is with whichever operands, as many as `count`, the first `last` records end with
 pub record Written (contract : List ℕ) (last count d : ℕ) (image : List ℕ) (b S : ℕ) (w : Wires) (later : List ℕ) (left right : Block) : Type 0 where
@@ -40,9 +40,9 @@ pub record Written (contract : List ℕ) (last count d : ℕ) (image : List ℕ)
       → Placed image b S w later left right d m ss ts
 
 module _ {contract : List ℕ} {last d : ℕ} {image : List ℕ} {b S : ℕ} {w : Wires} where
-  pub written-no : {later : List ℕ} {window : Block} → later ≡ writtenRows image b (map numbersOf (windowFrom d b)) → window ≡ windowBlock last d b
+  pub written_no : {later : List ℕ} {window : Block} → later ≡ written_rows image b (map numbers_of (window_from d b)) → window ≡ window_block last d b
       → Written contract last 0 d image b S w later window window
-  written-no {later} {window} g i = record { placed = each }
+  written_no {later} {window} g i = record { placed = each }
     where
       each : (m : ℕ) (ss : List Sort) (ts : Trees ss) → length ss ≡ 0 → OperandsEnd contract last m ss ts
           → Placed image b S w later window window d m ss ts
@@ -51,34 +51,34 @@ module _ {contract : List ℕ} {last d : ℕ} {image : List ℕ} {b S : ℕ} {w 
       each m (s ∷ s' ∷ ss) ts h e = absurd (omega arith)
 
   pub written_one : {later : List ℕ} {r : Block} → Emitted contract last image b w.start w.go later r
-      → Written contract last 1 d image b S w later (noBlock r.before r.next) r
+      → Written contract last 1 d image b S w later (no_block r.before r.next) r
   written_one {later} {r} g = record { placed = each }
     where
       each : (m : ℕ) (ss : List Sort) (ts : Trees ss) → length ss ≡ 1 → OperandsEnd contract last m ss ts
-          → Placed image b S w later (noBlock r.before r.next) r d m ss ts
+          → Placed image b S w later (no_block r.before r.next) r d m ss ts
       each m [] ts h e = absurd (omega arith)
       each m (s ∷ []) ts h e =
           let is = g.tree_is m s ts.0 e in
           record { rows_are = is.0; left_is = rw is.1; right_is = is.1 }
       each m (s ∷ s' ∷ ss) ts h e = absurd (omega arith)
 
-  pub written-two : {later latest : List ℕ} {r l : Block} → Emitted contract last image b w.start w.go later r
+  pub written_two : {later latest : List ℕ} {r l : Block} → Emitted contract last image b w.start w.go later r
       → Emitted contract r.before later r.next S w.keep latest l → Written contract last 2 d image b S w latest l r
-  written-two {later} {latest} {r} {l} g h = record { placed = each }
+  written_two {later} {latest} {r} {l} g h = record { placed = each }
     where
       each : (m : ℕ) (ss : List Sort) (ts : Trees ss) → length ss ≡ 2 → OperandsEnd contract last m ss ts → Placed image b S w latest l r d m ss ts
       each m [] ts i e = absurd (omega arith)
       each m (s ∷ []) ts i e = absurd (omega arith)
       each m (s ∷ s' ∷ []) ts i e =
-          let is = g.tree_is (m + treeRecords s ts.0) s' ts.1.0 e.0 in
+          let is = g.tree_is (m + tree_records s ts.0) s' ts.1.0 e.0 in
           let ends : EndsWith contract r.before m s ts.0 = rw is.1 e.1 in
-          let n : r.next ≡ afterTree s' ts.1.0 b = rw is.1 in
+          let n : r.next ≡ after_tree s' ts.1.0 b = rw is.1 in
           let left = h.tree_is m s ts.0 ends in
           record {
             rows_are =
                 left.0
                 ∙ rw (is.0, n, map-append)
-                (written_after image b (afterTree s' ts.1.0 b) _ _ (rw length-map (after-tree s' ts.1.0 b w.start w.go)));
+                (written_after image b (after_tree s' ts.1.0 b) _ _ (rw length-map (after_tree_lem s' ts.1.0 b w.start w.go)));
             left_is = rw (← n) left.1;
             right_is = is.1;
           }
@@ -88,73 +88,73 @@ module _ {contract : List ℕ} {last d : ℕ} {image : List ℕ} {b S : ℕ} {w 
 
 -- its bytes, its plan and how many operands it has
 pub record RecordRead (contract : List ℕ) (n : ℕ) (r : RecordBody) (count : ℕ) (p : Plan) : Type 0 where
-  pub body_is : r ≡ lastRecord contract n
-  pub plan-is : (k : Kind) → kind_of r.kind ≡ some k → p ≡ plan_of (recordFrom k r)
-  pub count-is : count ≡ operandCount (kind_of r.kind)
+  pub body_is : r ≡ last_record contract n
+  pub plan_is : (k : Kind) → kind_of r.kind ≡ some k → p ≡ plan_of (record_from k r)
+  pub count_is : count ≡ operand_count (kind_of r.kind)
 
 -- the same where it is this record
 pub record Known (own : Record) (r : RecordBody) (count : ℕ) (p : Plan) : Type 0 where
   pub body_is : r ≡ body_of own
-  pub plan-is : p ≡ plan_of own
-  pub count-is : length (line own.kind).operands ≡ count
+  pub plan_is : p ≡ plan_of own
+  pub count_is : length (line own.kind).operands ≡ count
 
 -- the operands' rows reach to the row after the left one's
-next-left : (d : ℕ) (ss : List Sort) (ts : Trees ss) (m b S : ℕ) (w : Wires) → length ss ≤ 2
-    → (leftBlock d ss ts m b S).next ≡ b + length (operandRows d ss ts b S w)
-next-left d [] ts m b S w h = rw (after-window d b, length-window d) (omega arith)
-next-left d (s ∷ []) ts m b S w h = after-tree s ts.0 b w.start w.go
-next-left d (s ∷ s' ∷ []) ts m b S w h =
+next_left : (d : ℕ) (ss : List Sort) (ts : Trees ss) (m b S : ℕ) (w : Wires) → length ss ≤ 2
+    → (left_block d ss ts m b S).next ≡ b + length (operand_rows d ss ts b S w)
+next_left d [] ts m b S w h = rw (after_window_lem d b, length_window d) (omega arith)
+next_left d (s ∷ []) ts m b S w h = after_tree_lem s ts.0 b w.start w.go
+next_left d (s ∷ s' ∷ []) ts m b S w h =
     rw length-append
-    (omega (arith, after-tree s' ts.1.0 b w.start w.go, after-tree s ts.0 (afterTree s' ts.1.0 b) S w.keep))
-next-left d (s ∷ s' ∷ s'' ∷ ss) ts m b S w h = absurd (omega arith)
+    (omega (arith, after_tree_lem s' ts.1.0 b w.start w.go, after_tree_lem s ts.0 (after_tree s' ts.1.0 b) S w.keep))
+next_left d (s ∷ s' ∷ s'' ∷ ss) ts m b S w h = absurd (omega arith)
 
 module _ {contract : List ℕ} {n : ℕ} {r : RecordBody} {count : ℕ} {p : Plan} (reads : RecordRead contract n r count p) where
   pub known : (own : Record) → Last contract n own → Known own r count p
   known own l =
       let e : r ≡ body_of own = reads.body_is ∙ l.is in
-      let j : kind_of r.kind ≡ some own.kind = rw e (kind-number own.kind) in
+      let j : kind_of r.kind ≡ some own.kind = rw e (kind_number own.kind) in
       record {
         body_is = e;
-        plan-is = reads.plan-is own.kind j ∙ ap (λ (r : RecordBody). plan_of (recordFrom own.kind r)) e;
-        count-is = rw (reads.count-is, j);
+        plan_is = reads.plan_is own.kind j ∙ ap (λ (r : RecordBody). plan_of (record_from own.kind r)) e;
+        count_is = rw (reads.count_is, j);
       }
 
   -- ---- the record's own rows round its operands' rows are the tree's
 
   module _ (b S K : ℕ) {image later latest : List ℕ} {left right block : Block}
-      (w : Written contract (n - 1) count (r.last - 1) image (b + p.before) S (wiresOf p b S K) later left right)
-      (rows : latest ≡ recordWritten later (basesOf b S K left right r.party r.action) p b left.next)
-      (gives : block ≡ recordBlock (basesOf b S K left right r.party r.action) p r.kind r.party left right) where
+      (w : Written contract (n - 1) count (r.last - 1) image (b + p.before) S (wires_of p b S K) later left right)
+      (rows : latest ≡ record_written later (bases_of b S K left right r.party r.action) p b left.next)
+      (gives : block ≡ record_block (bases_of b S K left right r.party r.action) p r.kind r.party left right) where
     module _ (m : ℕ) (k : Kind) (f : Fields) (ts : Trees (line k).operands) (e : EndsWith contract n m (line k).completes (node k f ts)) where
       abbrev own : Record
-      own = recordOf k f
+      own = record_of k f
 
-      placed : Placed image (inside k b) S (wiresOf (plan_of own) b S K) later left right (laterPeriods own) m (line k).operands ts
+      placed : Placed image (inside k b) S (wires_of (plan_of own) b S K) later left right (later_periods own) m (line k).operands ts
       placed =
           let i = known own (ends_last contract n m k f ts e) in
-          let o = ends-operands contract n m k f ts e in
-          let d = w.placed m (line k).operands ts i.count-is o in
-          rw (i.plan-is, i.body_is, inside_is own b) at d
+          let o = ends_operands contract n m k f ts e in
+          let d = w.placed m (line k).operands ts i.count_is o in
+          rw (i.plan_is, i.body_is, inside_is own b) at d
 
-      node-rows : latest ≡ writtenRows image b (map numbersOf (treeRows (line k).completes (node k f ts) b S K))
-      unfolding recordWritten
+      node-rows : latest ≡ written_rows image b (map numbers_of (tree_rows (line k).completes (node k f ts) b S K))
+      unfolding record_written
       node-rows =
           let i = known own (ends_last contract n m k f ts e) in
           let d = placed in
-          let l = length-kindRows (nodeBases k f ts m b S K) own in
-          rw (rows, i.plan-is, i.body_is, d.rows_are, d.left_is, d.right_is, rows-node k f ts m b S K)
-          (written-around image b (inside k b) _ _ _ _ (rw l.0 (sym (inside_is own b)))
-          (rw length-map (next-left (laterPeriods own) (line k).operands ts m (inside k b) S (wiresOf (plan_of own) b S K) (few-operands k))))
+          let l = length-kind_rows (node_bases k f ts m b S K) own in
+          rw (rows, i.plan_is, i.body_is, d.rows_are, d.left_is, d.right_is, rows-node k f ts m b S K)
+          (written_around image b (inside k b) _ _ _ _ (rw l.0 (sym (inside_is own b)))
+          (rw length-map (next_left (later_periods own) (line k).operands ts m (inside k b) S (wires_of (plan_of own) b S K) (few_operands k))))
 
       node_block : block ≡ block_of (line k).completes (node k f ts) m b S
       node_block =
           let i = known own (ends_last contract n m k f ts e) in
           let d = placed in
-          rw (gives, i.plan-is, i.body_is, d.left_is, d.right_is) (sym (block-node k f ts m b S K))
+          rw (gives, i.plan_is, i.body_is, d.left_is, d.right_is) (sym (block_node k f ts m b S K))
 
     pub emitted : Emitted contract n image b S K latest block
     emitted = record { tree_is = λ m s t e. at m s t (seen s t) e }
       where
         at : (m : ℕ) (s : Sort) (t : Tree s) → View s t → EndsWith contract n m s t
-            → (latest ≡ writtenRows image b (map numbersOf (treeRows s t b S K))) × (block ≡ block_of s t m b S)
+            → (latest ≡ written_rows image b (map numbers_of (tree_rows s t b S K))) × (block ≡ block_of s t m b S)
         at m s t (view k f ts) e = (node-rows m k f ts e, node_block m k f ts e)

@@ -5,49 +5,49 @@ use mathlib.Core.List.{List, [], ◌∷◌, map, map-append}
 use mathlib.Core.Path.{◌≡◌, refl, sym, ap, ◌∙◌}
 use lib.ListN.{length, length-map}
 use lib.Seq.{sets}
-use Rattle.layout.specs.Limits.{rowBytes}
-use Rattle.layout.specs.Rows.{Row, previous, conjunction, disjunction, kind, rowRecord}
-use Rattle.image.specs.Widths.{never_row, periodRows, ◌⊹◌, afterWindow}
-use Rattle.image.specs.Blocks.{windowRows, lastRow}
-use Rattle.image.proofs.Sizes.{after-window, length-window, inside-window}
-use Rattle.emitter.specs.Rows.{numbersOf, writtenRows}
-use Rattle.emitter.specs.Blocks.{windowFrom}
+use Rattle.layout.specs.Limits.{row_bytes}
+use Rattle.layout.specs.Rows.{Row, previous, conjunction, disjunction, kind, row_record}
+use Rattle.image.specs.Widths.{never_row, period_rows, ◌⊹◌, after_window}
+use Rattle.image.specs.Blocks.{window_rows, last_row}
+use Rattle.image.proofs.Sizes.{after_window_lem, length_window, inside_window}
+use Rattle.emitter.specs.Rows.{numbers_of, written_rows}
+use Rattle.emitter.specs.Blocks.{window_from}
 use Rattle.emitter.specs.Premises.{PeriodRoom, WindowRoom}
-use Rattle.emitter.proofs.Writing.{sets-row, length-written, written_none, written_after}
-use Rattle.emitter.proofs.Plans.{window-onto}
+use Rattle.emitter.proofs.Writing.{sets_row, length-written, written_none, written_after}
+use Rattle.emitter.proofs.Plans.{window_onto}
 
 -- ---- one period
 
 -- three rows, one behind the other
-pub written-period : (image one two three : List ℕ) (c g e m : ℕ)
-    → one ≡ sets image (rowBytes * c) (rowRecord (kind (previous m)) m 0)
-    → two ≡ sets one (rowBytes * (c + 1)) (rowRecord (kind (disjunction e c)) e c)
-    → three ≡ sets two (rowBytes * (c + 2)) (rowRecord (kind (conjunction g c)) g c)
-    → three ≡ writtenRows image c (map numbersOf (windowRows 1 g e m c []))
-unfolding windowRows
-written-period image one two three c g e m i j k =
-    let r = numbersOf (previous m) in
-    let s = numbersOf (disjunction e c) in
-    let t = numbersOf (conjunction g c) in
-    rw (k, j, i, sets-row image c r, sets-row _ (c + 1) s, sets-row _ (c + 2) t)
-    (ap (λ l. writtenRows l (c + 2) (t ∷ [])) (written_after image c (c + 1) (r ∷ []) (s ∷ []) refl)
+pub written_period : (image one two three : List ℕ) (c g e m : ℕ)
+    → one ≡ sets image (row_bytes * c) (row_record (kind (previous m)) m 0)
+    → two ≡ sets one (row_bytes * (c + 1)) (row_record (kind (disjunction e c)) e c)
+    → three ≡ sets two (row_bytes * (c + 2)) (row_record (kind (conjunction g c)) g c)
+    → three ≡ written_rows image c (map numbers_of (window_rows 1 g e m c []))
+unfolding window_rows
+written_period image one two three c g e m i j k =
+    let r = numbers_of (previous m) in
+    let s = numbers_of (disjunction e c) in
+    let t = numbers_of (conjunction g c) in
+    rw (k, j, i, sets_row image c r, sets_row _ (c + 1) s, sets_row _ (c + 2) t)
+    (ap (λ l. written_rows l (c + 2) (t ∷ [])) (written_after image c (c + 1) (r ∷ []) (s ∷ []) refl)
     ∙ written_after image c (c + 2) (r ∷ s ∷ []) (t ∷ []) refl)
 
 -- ---- one period more
 
-after_next : (n c : ℕ) → afterWindow (suc n) c ≡ afterWindow n c + 3
-after_next n c = rw (after-window n c, after-window (suc n) c) (omega arith)
+after_next : (n c : ℕ) → after_window (suc n) c ≡ after_window n c + 3
+after_next n c = rw (after_window_lem n c, after_window_lem (suc n) c) (omega arith)
 
-last-next : (n k x c : ℕ) → lastRow (suc n) k x c ≡ afterWindow n c ⊹ k
-last-next zero k x c = refl
-last-next (suc n) k x c = last-next n k (c ⊹ k) (c ⊹ periodRows)
+last_next : (n k x c : ℕ) → last_row (suc n) k x c ≡ after_window n c ⊹ k
+last_next zero k x c = refl
+last_next (suc n) k x c = last_next n k (c ⊹ k) (c ⊹ period_rows)
 
-window-next : (n g e m c : ℕ) (rest : List Row)
-    → windowRows (suc n) g e m c rest ≡ windowRows n g e m c (windowRows 1 g (lastRow n 1 e c) (lastRow n 2 m c) (afterWindow n c) rest)
-unfolding windowRows
-window-next zero g e m c rest = refl
-window-next (suc n) g e m c rest =
-    ap (λ rs. previous m ∷ disjunction e c ∷ conjunction g c ∷ rs) (window-next n g (c ⊹ 1) (c ⊹ 2) (c ⊹ periodRows) rest)
+window_next : (n g e m c : ℕ) (rest : List Row)
+    → window_rows (suc n) g e m c rest ≡ window_rows n g e m c (window_rows 1 g (last_row n 1 e c) (last_row n 2 m c) (after_window n c) rest)
+unfolding window_rows
+window_next zero g e m c rest = refl
+window_next (suc n) g e m c rest =
+    ap (λ rs. previous m ∷ disjunction e c ∷ conjunction g c ∷ rs) (window_next n g (c ⊹ 1) (c ⊹ 2) (c ⊹ period_rows) rest)
 
 -- ---- the loop
 
@@ -56,46 +56,46 @@ pub record WindowSoFar (image₀ : List ℕ) (at window : ℕ) (image : List ℕ
   pub done : ℕ
   pub count : j ≡ done + 1
   pub few : done ≤ window - 1
-  pub rows_are : image ≡ writtenRows image₀ at (map numbersOf (windowFrom done at))
-  pub next-is : next ≡ afterWindow done at
-  pub earlier-is : earlier ≡ lastRow done 1 never_row at
-  pub missed-is : missed ≡ lastRow done 2 (at - 1) at
+  pub rows_are : image ≡ written_rows image₀ at (map numbers_of (window_from done at))
+  pub next_is : next ≡ after_window done at
+  pub earlier_is : earlier ≡ last_row done 1 never_row at
+  pub missed_is : missed ≡ last_row done 2 (at - 1) at
 
 pub none_yet : (image : List ℕ) (at window : ℕ) → WindowSoFar image at window image at 0 (at - 1) 1
-unfolding windowRows
+unfolding window_rows
 none_yet image at window = record {
   done = 0;
   count = refl;
   few = omega arith;
   rows_are = sym (written_none image at);
-  next-is = refl;
-  earlier-is = refl;
-  missed-is = refl;
+  next_is = refl;
+  earlier_is = refl;
+  missed_is = refl;
 }
 
 module _ {image₀ : List ℕ} {at window : ℕ} {image : List ℕ} {next earlier missed j : ℕ} (w : WindowSoFar image₀ at window image next earlier missed j) where
   pub same_length : length image ≡ length image₀
-  same_length = rw w.rows_are (length-written image₀ at (map numbersOf (windowFrom w.done at)))
+  same_length = rw w.rows_are (length-written image₀ at (map numbers_of (window_from w.done at)))
 
   -- there is room for one period more
-  pub period-room : WindowRoom (length image₀) (window - 1) at → j < window → PeriodRoom (length image) next (at - 2) earlier missed
-  period-room r h =
+  pub period_room : WindowRoom (length image₀) (window - 1) at → j < window → PeriodRoom (length image) next (at - 2) earlier missed
+  period_room r h =
       let d = w.done in
       let c = w.count in
-      let n = after-window d at in
-      let e = after-window (window - 1) at in
-      let f = inside-window d 1 never_row at (omega arith) (omega (arith, r.one-before)) in
-      let m = inside-window d 2 (at - 1) at (omega arith) (omega (arith, r.one-before)) in
-      rw (same_length, w.next-is, w.earlier-is, w.missed-is)
+      let n = after_window_lem d at in
+      let e = after_window_lem (window - 1) at in
+      let f = inside_window d 1 never_row at (omega arith) (omega (arith, r.one_before)) in
+      let m = inside_window d 2 (at - 1) at (omega arith) (omega (arith, r.one_before)) in
+      rw (same_length, w.next_is, w.earlier_is, w.missed_is)
       record {
         room = omega (arith, r.room);
         few = omega (arith, r.few);
-        unmet-lower = omega (arith, r.one-before);
-        earlier-lower = f;
-        missed-lower = m;
+        unmet_lower = omega (arith, r.one_before);
+        earlier_lower = f;
+        missed_lower = m;
       }
 
-  pub one_more : {later : List ℕ} → j < window → later ≡ writtenRows image next (map numbersOf (windowRows 1 (at - 2) earlier missed next []))
+  pub one_more : {later : List ℕ} → j < window → later ≡ written_rows image next (map numbers_of (window_rows 1 (at - 2) earlier missed next []))
       → WindowSoFar image₀ at window later (next + 3) (next + 1) (next + 2) (j + 1)
   one_more {later} h i =
       let d = w.done in
@@ -107,18 +107,18 @@ module _ {image₀ : List ℕ} {at window : ℕ} {image : List ℕ} {next earlie
         rows_are =
             i
             ∙ rw (
-              w.next-is,
-              w.earlier-is,
-              w.missed-is,
+              w.next_is,
+              w.earlier_is,
+              w.missed_is,
               w.rows_are,
-              window-next d (at - 2) never_row (at - 1) at [],
-              window-onto d (at - 2) never_row (at - 1) at [] (windowRows 1 (at - 2) (lastRow d 1 never_row at) (lastRow d 2 (at - 1) at) (afterWindow d at) []),
+              window_next d (at - 2) never_row (at - 1) at [],
+              window_onto d (at - 2) never_row (at - 1) at [] (window_rows 1 (at - 2) (last_row d 1 never_row at) (last_row d 2 (at - 1) at) (after_window d at) []),
               map-append,
             )
-            (written_after image₀ at (afterWindow d at) _ _ (rw (length-map, length-window d) (omega (arith, after-window d at))));
-        next-is = rw w.next-is (sym (after_next d at));
-        earlier-is = rw (w.next-is, last-next d 1 never_row at) (omega arith);
-        missed-is = rw (w.next-is, last-next d 2 (at - 1) at) (omega arith);
+            (written_after image₀ at (after_window d at) _ _ (rw (length-map, length_window d) (omega (arith, after_window_lem d at))));
+        next_is = rw w.next_is (sym (after_next d at));
+        earlier_is = rw (w.next_is, last_next d 1 never_row at) (omega arith);
+        missed_is = rw (w.next_is, last_next d 2 (at - 1) at) (omega arith);
       }
 
   -- the loop ends with all of them

@@ -9,78 +9,78 @@ use borrow.Author.Tests.{leb-true}
 use lib.Dec.{eqb, leb, lit<}
 use lib.ListN.{length}
 use Rattle.records.specs.Holding.{AllBelow}
-use Rattle.records.proofs.Fields.{allBelow-nil, allBelow-cons}
-use Rattle.periods.specs.Periods.{Party, party1, party2, partyNumber, other}
-use Rattle.layout.specs.Limits.{rowBytes, maxRows}
-use Rattle.grammar.specs.Limits.{recordBytes}
+use Rattle.records.proofs.Fields.{all_below_nil, all_below_cons}
+use Rattle.periods.specs.Periods.{Party, party1, party2, party_number, other}
+use Rattle.layout.specs.Limits.{row_bytes, max_rows}
+use Rattle.grammar.specs.Limits.{record_bytes}
 use Rattle.grammar.specs.Table.{Sort, clause, expression, Kind, line}
-use Rattle.grammar.specs.Trees.{Tree, Trees, Fields, partyNamed}
-use Rattle.grammar.specs.Spelling.{treeRecords}
-use Rattle.reader.specs.Codes.{emptyCode}
-use Rattle.grammar.proofs.Table.{of-all}
-use Rattle.grammar.proofs.Fields.{uses, recordOf}
-use Rattle.image.specs.Widths.{width, laterPeriods, never_row}
-use Rattle.image.proofs.Sizes.{after-window, inside-expression, inside-clause, inside-window}
+use Rattle.grammar.specs.Trees.{Tree, Trees, Fields, party_named}
+use Rattle.grammar.specs.Spelling.{tree_records}
+use Rattle.reader.specs.Codes.{empty_code}
+use Rattle.grammar.proofs.Table.{of_all}
+use Rattle.grammar.proofs.Fields.{uses, record_of}
+use Rattle.image.specs.Widths.{width, later_periods, never_row}
+use Rattle.image.proofs.Sizes.{after_window_lem, inside_expression, inside_clause, inside_window}
 use Rattle.emitter.specs.declared.RecordBody.{RecordBody}
 use Rattle.emitter.specs.declared.Block.{Block}
 use Rattle.emitter.specs.declared.Plan.{Plan}
 use Rattle.emitter.specs.declared.Wires.{Wires}
-use Rattle.emitter.specs.Rows.{leafRows, rowTable}
-use Rattle.emitter.specs.Blocks.{noBlock, basesOf, wiresOf, afterTree, block_of, EndsWith, Emitted}
+use Rattle.emitter.specs.Rows.{leaf_rows, row_table}
+use Rattle.emitter.specs.Blocks.{no_block, bases_of, wires_of, after_tree, block_of, EndsWith, Emitted}
 use Rattle.emitter.specs.Premises.{RecordRows, WindowRoom, Emits}
-use Rattle.emitter.proofs.Plans.{leftBlock, rightBlock, after-node}
-use Rattle.emitter.proofs.Tables.{before-is, inside_is, end, listed, in-one-table, WiresInside, wires-inside}
-use Rattle.emitter.proofs.Operands.{View, view, seen, ends_last, OperandsEnd, ends-operands}
+use Rattle.emitter.proofs.Plans.{left_block, right_block, after_node}
+use Rattle.emitter.proofs.Tables.{before_is, inside_is, end, listed, in_one_table, WiresInside, wires_inside}
+use Rattle.emitter.proofs.Operands.{View, view, seen, ends_last, OperandsEnd, ends_operands}
 use Rattle.emitter.proofs.Emitting.{Written, RecordRead, Known, known}
 
 -- ---- the rows that a block gives out
 
 -- the rows that a block gives out are below n
 record Given (r : Block) (n : ℕ) : Type 0 where
-  sat-is : r.sat < n
-  one-is : r.one < n
+  sat_is : r.sat < n
+  one_is : r.one < n
   two_is : r.two < n
 
 -- a tree's rows are those up to the row after it, and what its block gives out stands before that
-block_inside : (s : Sort) (t : Tree s) (m b S : ℕ) → S < b → (b ≤ afterTree s t b) × Given (block_of s t m b S) (afterTree s t b)
-block_inside clause c m b S h = let i = inside-clause c b (omega arith) in omega arith
-block_inside expression e m b S h = let i = inside-expression e b S h in omega arith
+block_inside : (s : Sort) (t : Tree s) (m b S : ℕ) → S < b → (b ≤ after_tree s t b) × Given (block_of s t m b S) (after_tree s t b)
+block_inside clause c m b S h = let i = inside_clause c b (omega arith) in omega arith
+block_inside expression e m b S h = let i = inside_expression e b S h in omega arith
 
 -- ---- small numbers
 
-small-if : (t : Bool) {x y : ℕ} → x < 256 ^ 2 → y < 256 ^ 2 → cond t x y < 256 ^ 2
-small-if true h i = h
-small-if false h i = i
+small_if : (t : Bool) {x y : ℕ} → x < 256 ^ 2 → y < 256 ^ 2 → cond t x y < 256 ^ 2
+small_if true h i = h
+small_if false h i = i
 
-small-number : (p : Party) → partyNumber p < 256 ^ 2
-small-number party1 = lit< tt
-small-number party2 = lit< tt
+small_number : (p : Party) → party_number p < 256 ^ 2
+small_number party1 = lit< tt
+small_number party2 = lit< tt
 
-small-bases : (n b S K : ℕ) (left right : Block) (party action : ℕ) → n ≤ maxRows → b ≤ n → S < b → K < b → left.next ≤ n
-    → Given left n → Given right n → party < 256 → action < 256 → AllBelow (256 ^ 2) (basesOf b S K left right party action)
-small-bases n b S K left right party action m h i j e l r p a =
-    allBelow-cons (omega arith)
-    (allBelow-cons (omega arith)
-    (allBelow-cons (omega arith)
-    (allBelow-cons (omega arith)
-    (allBelow-cons (omega arith)
-    (allBelow-cons (omega arith)
-    (allBelow-cons (omega arith)
-    (allBelow-cons (omega arith)
-    (allBelow-cons (omega arith)
-    (allBelow-cons (omega arith)
-    (allBelow-cons (omega arith)
-    (allBelow-cons (small-if (eqb left.code emptyCode) (omega arith) (omega arith))
-    (allBelow-cons (small-if (eqb right.code emptyCode) (omega arith) (omega arith))
-    (allBelow-cons (omega arith)
-    (allBelow-cons (small-number (other (partyNamed party)))
-    (allBelow-cons (omega arith) (allBelow-nil (lit< tt)))))))))))))))))
+small_bases : (n b S K : ℕ) (left right : Block) (party action : ℕ) → n ≤ max_rows → b ≤ n → S < b → K < b → left.next ≤ n
+    → Given left n → Given right n → party < 256 → action < 256 → AllBelow (256 ^ 2) (bases_of b S K left right party action)
+small_bases n b S K left right party action m h i j e l r p a =
+    all_below_cons (omega arith)
+    (all_below_cons (omega arith)
+    (all_below_cons (omega arith)
+    (all_below_cons (omega arith)
+    (all_below_cons (omega arith)
+    (all_below_cons (omega arith)
+    (all_below_cons (omega arith)
+    (all_below_cons (omega arith)
+    (all_below_cons (omega arith)
+    (all_below_cons (omega arith)
+    (all_below_cons (omega arith)
+    (all_below_cons (small_if (eqb left.code empty_code) (omega arith) (omega arith))
+    (all_below_cons (small_if (eqb right.code empty_code) (omega arith) (omega arith))
+    (all_below_cons (omega arith)
+    (all_below_cons (small_number (other (party_named party)))
+    (all_below_cons (omega arith) (all_below_nil (lit< tt)))))))))))))))))
 
 -- ---- there is room for a window's rows, or the operands'
 
 -- a record with a window of several periods has two rows before those of the later ones
-unmet-row : (k : Kind) (f : Fields) → 1 ≤ laterPeriods (recordOf k f) → 2 ≤ (width k).before
-unmet-row k f = each (uses (line k).last) (of-all (λ J. not (uses (line J).last) || leb 2 (width J).before) refl k)
+unmet_row : (k : Kind) (f : Fields) → 1 ≤ later_periods (record_of k f) → 2 ≤ (width k).before
+unmet_row k f = each (uses (line k).last) (of_all (λ J. not (uses (line J).last) || leb 2 (width J).before) refl k)
   where
     each : (u : Bool) → (not u || leb 2 (width k).before) ≡ true → 1 ≤ cond u f.last 0 - 1 → 2 ≤ (width k).before
     each true e h = leb-true 2 (width k).before e
@@ -88,24 +88,24 @@ unmet-row k f = each (uses (line k).last) (of-all (λ J. not (uses (line J).last
 
 record Room (contract : List ℕ) (last : ℕ) (image : List ℕ) (b S : ℕ) (w : Wires) (d m : ℕ) (ss : List Sort) (ts : Trees ss) : Type 0 where
   ends : OperandsEnd contract last m ss ts
-  room : rowBytes * (leftBlock d ss ts m b S).next ≤ length image
-  few : (leftBlock d ss ts m b S).next ≤ maxRows
+  room : row_bytes * (left_block d ss ts m b S).next ≤ length image
+  few : (left_block d ss ts m b S).next ≤ max_rows
   begins : S < b
   wires : WiresInside w b
 
 -- the rows that the blocks give out stand before the row after the left operand's
 record Ordered (b S : ℕ) (w : Wires) (d m : ℕ) (ss : List Sort) (ts : Trees ss) : Type 0 where
-  not-before : b ≤ (leftBlock d ss ts m b S).next
-  left-given : Given (leftBlock d ss ts m b S) (leftBlock d ss ts m b S).next
-  right-given : Given (rightBlock d ss ts m b w.start) (leftBlock d ss ts m b S).next
+  not_before : b ≤ (left_block d ss ts m b S).next
+  left_given : Given (left_block d ss ts m b S) (left_block d ss ts m b S).next
+  right_given : Given (right_block d ss ts m b w.start) (left_block d ss ts m b S).next
 
 module _ {contract : List ℕ} {last : ℕ} {image : List ℕ} {b S : ℕ} {w : Wires} {d : ℕ} where
   ordered : (m : ℕ) (ss : List Sort) (ts : Trees ss) → Room contract last image b S w d m ss ts → Ordered b S w d m ss ts
   ordered m [] ts r =
       let h = r.begins in
-      let n = after-window d b in
-      let earlier = inside-window d 1 never_row b (omega arith) (omega arith) in
-      let missed = inside-window d 2 (b - 1) b (omega arith) (omega arith) in
+      let n = after_window_lem d b in
+      let earlier = inside_window d 1 never_row b (omega arith) (omega arith) in
+      let missed = inside_window d 2 (b - 1) b (omega arith) (omega arith) in
       omega arith
   ordered m (s ∷ []) ts r =
       let t = r.wires in
@@ -114,14 +114,14 @@ module _ {contract : List ℕ} {last : ℕ} {image : List ℕ} {b S : ℕ} {w : 
   ordered m (s ∷ s' ∷ ss) ts r =
       let t = r.wires in
       let h = r.begins in
-      let i = block_inside s' ts.1.0 (m + treeRecords s ts.0) b w.start t.start_is in
-      let j = block_inside s ts.0 m (afterTree s' ts.1.0 b) S (omega arith) in
+      let i = block_inside s' ts.1.0 (m + tree_records s ts.0) b w.start t.start_is in
+      let j = block_inside s ts.0 m (after_tree s' ts.1.0 b) S (omega arith) in
       omega arith
 
-  right-room : (m : ℕ) (ss : List Sort) (ts : Trees ss) → Room contract last image b S w d m ss ts → ¬ (length ss ≡ 0)
+  right_room : (m : ℕ) (ss : List Sort) (ts : Trees ss) → Room contract last image b S w d m ss ts → ¬ (length ss ≡ 0)
       → Emits contract last image b w.start w.go
-  right-room m [] ts r h = absurd (h refl)
-  right-room m (s ∷ []) ts r h =
+  right_room m [] ts r h = absurd (h refl)
+  right_room m (s ∷ []) ts r h =
       let t = r.wires in
       record {
         before = m;
@@ -131,37 +131,37 @@ module _ {contract : List ℕ} {last : ℕ} {image : List ℕ} {b S : ℕ} {w : 
         room = r.room;
         few = r.few;
         begins = t.start_is;
-        goes_on = t.go-is;
+        goes_on = t.go_is;
       }
-  right-room m (s ∷ s' ∷ ss) ts r h =
+  right_room m (s ∷ s' ∷ ss) ts r h =
       let t = r.wires in
-      let i = block_inside s' ts.1.0 (m + treeRecords s ts.0) b w.start t.start_is in
+      let i = block_inside s' ts.1.0 (m + tree_records s ts.0) b w.start t.start_is in
       let b' = r.begins in
-      let j = block_inside s ts.0 m (afterTree s' ts.1.0 b) S (omega arith) in
+      let j = block_inside s ts.0 m (after_tree s' ts.1.0 b) S (omega arith) in
       let rm = r.room in
       let fw = r.few in
       record {
-        before = m + treeRecords s ts.0;
+        before = m + tree_records s ts.0;
         sort = s';
         tree = ts.1.0;
         ends = r.ends.0;
         room = omega arith;
         few = omega arith;
         begins = t.start_is;
-        goes_on = t.go-is;
+        goes_on = t.go_is;
       }
 
-  left-room : {later : List ℕ} {right : Block} (m : ℕ) (ss : List Sort) (ts : Trees ss) → Room contract last image b S w d m ss ts
+  left_room : {later : List ℕ} {right : Block} (m : ℕ) (ss : List Sort) (ts : Trees ss) → Room contract last image b S w d m ss ts
       → ¬ (length ss ≡ 0) → ¬ (length ss ≡ 1) → Emitted contract last image b w.start w.go later right → length later ≡ length image
       → Emits contract right.before later right.next S w.keep × (right.before ≤ last)
-  left-room m [] ts r h i g l = absurd (h refl)
-  left-room m (s ∷ []) ts r h i g l = absurd (i refl)
-  left-room m (s ∷ s' ∷ ss) ts r h i g l =
+  left_room m [] ts r h i g l = absurd (h refl)
+  left_room m (s ∷ []) ts r h i g l = absurd (i refl)
+  left_room m (s ∷ s' ∷ ss) ts r h i g l =
       let t = r.wires in
-      let is = (g.tree_is (m + treeRecords s ts.0) s' ts.1.0 r.ends.0).1 in
-      let j = block_inside s' ts.1.0 (m + treeRecords s ts.0) b w.start t.start_is in
+      let is = (g.tree_is (m + tree_records s ts.0) s' ts.1.0 r.ends.0).1 in
+      let j = block_inside s' ts.1.0 (m + tree_records s ts.0) b w.start t.start_is in
       let b' = r.begins in
-      let keep = t.keep-is in
+      let keep = t.keep_is in
       let count = r.ends.0.count in
       rw is (
         record {
@@ -185,32 +185,32 @@ record Opened (contract : List ℕ) (n : ℕ) (image : List ℕ) (b S K : ℕ) (
   k : Kind
   f : Fields
   ts : Trees (line k).operands
-  is : Known (recordOf k f) r count p
-  operands : Room contract (n - 1) image (b + p.before) S (wiresOf p b S K) (r.last - 1) before (line k).operands ts
-  room : rowBytes * ((leftBlock (r.last - 1) (line k).operands ts before (b + p.before) S).next + p.after) ≤ length image
-  few : (leftBlock (r.last - 1) (line k).operands ts before (b + p.before) S).next + p.after ≤ maxRows
+  is : Known (record_of k f) r count p
+  operands : Room contract (n - 1) image (b + p.before) S (wires_of p b S K) (r.last - 1) before (line k).operands ts
+  room : row_bytes * ((left_block (r.last - 1) (line k).operands ts before (b + p.before) S).next + p.after) ≤ length image
+  few : (left_block (r.last - 1) (line k).operands ts before (b + p.before) S).next + p.after ≤ max_rows
 
 module _ {contract : List ℕ} {n : ℕ} {image : List ℕ} {b S K : ℕ} (e : Emits contract n image b S K) where
-  pub some-record : (1 ≤ n) × (recordBytes * n ≤ length contract)
-  some-record = (at e.sort e.tree (seen e.sort e.tree) e.ends, e.ends.whole)
+  pub some_record : (1 ≤ n) × (record_bytes * n ≤ length contract)
+  some_record = (at e.sort e.tree (seen e.sort e.tree) e.ends, e.ends.whole)
     where
       at : (s : Sort) (t : Tree s) → View s t → EndsWith contract n e.before s t → 1 ≤ n
-      at s t (view k f ts) i = (ends_last contract n e.before k f ts i).some-record
+      at s t (view k f ts) i = (ends_last contract n e.before k f ts i).some_record
 
   module _ {r : RecordBody} {count : ℕ} {p : Plan} (reads : RecordRead contract n r count p) where
     opened : Opened contract n image b S K r count p
     opened = at e.sort e.tree (seen e.sort e.tree) e.ends e.room e.few
       where
-        at : (s : Sort) (t : Tree s) → View s t → EndsWith contract n e.before s t → rowBytes * afterTree s t b ≤ length image
-            → afterTree s t b ≤ maxRows → Opened contract n image b S K r count p
+        at : (s : Sort) (t : Tree s) → View s t → EndsWith contract n e.before s t → row_bytes * after_tree s t b ≤ length image
+            → after_tree s t b ≤ max_rows → Opened contract n image b S K r count p
         at s t (view k f ts) i room few =
             let m = e.before in
             let l = ends_last contract n m k f ts i in
-            let own = recordOf k f in
+            let own = record_of k f in
             let is = known reads own l in
-            let ends = ends-operands contract n m k f ts i in
-            let rm = rw (after-node k f ts m b S) at room in
-            let fw = rw (after-node k f ts m b S) at few in
+            let ends = ends_operands contract n m k f ts i in
+            let rm = rw (after_node k f ts m b S) at room in
+            let fw = rw (after_node k f ts m b S) at few in
             record {
               before = m;
               k = k;
@@ -218,82 +218,82 @@ module _ {contract : List ℕ} {n : ℕ} {image : List ℕ} {b S K : ℕ} (e : E
               ts = ts;
               is = is;
               operands =
-                  rw (is.plan-is, is.body_is, inside_is own b) record {
+                  rw (is.plan_is, is.body_is, inside_is own b) record {
                     ends = ends;
                     room = omega arith;
                     few = omega arith;
                     begins = omega (arith, e.begins, inside_is own b);
-                    wires = wires-inside own b S K e.begins e.goes_on;
+                    wires = wires_inside own b S K e.begins e.goes_on;
                   };
-              room = rw (is.plan-is, is.body_is, inside_is own b) rm;
-              few = rw (is.plan-is, is.body_is, inside_is own b) fw;
+              room = rw (is.plan_is, is.body_is, inside_is own b) rm;
+              few = rw (is.plan_is, is.body_is, inside_is own b) fw;
             }
 
-    pub few-inside : b + p.before ≤ maxRows
-    few-inside =
+    pub few_inside : b + p.before ≤ max_rows
+    few_inside =
         let o = opened in
         let i = ordered o.before (line o.k).operands o.ts o.operands in
-        omega (arith, o.few, i.not-before)
+        omega (arith, o.few, i.not_before)
 
-    pub wires-small : AllBelow (256 ^ 2) (basesOf b S K (noBlock 0 0) (noBlock 0 0) 0 0)
-    wires-small =
-        let h = few-inside in
+    pub wires_small : AllBelow (256 ^ 2) (bases_of b S K (no_block 0 0) (no_block 0 0) 0 0)
+    wires_small =
+        let h = few_inside in
         let i = e.begins in
-        small-bases maxRows b S K (noBlock 0 0) (noBlock 0 0) 0 0 (omega arith) (omega arith) i e.goes_on (omega arith) (omega arith) (omega arith)
+        small_bases max_rows b S K (no_block 0 0) (no_block 0 0) 0 0 (omega arith) (omega arith) i e.goes_on (omega arith) (omega arith) (omega arith)
         (omega arith) (omega arith)
 
-    pub window-room : count ≡ 0 → WindowRoom (length image) (r.last - 1) (b + p.before)
-    window-room h =
+    pub window_room : count ≡ 0 → WindowRoom (length image) (r.last - 1) (b + p.before)
+    window_room h =
         let o = opened in
-        none o.k o.f o.is (line o.k).operands o.ts (o.is.count-is ∙ h) o.operands
+        none o.k o.f o.is (line o.k).operands o.ts (o.is.count_is ∙ h) o.operands
       where
-        none : (k : Kind) (f : Fields) → Known (recordOf k f) r count p → (ss : List Sort) (ts : Trees ss) → length ss ≡ 0 → {m : ℕ}
-            → Room contract (n - 1) image (b + p.before) S (wiresOf p b S K) (r.last - 1) m ss ts
+        none : (k : Kind) (f : Fields) → Known (record_of k f) r count p → (ss : List Sort) (ts : Trees ss) → length ss ≡ 0 → {m : ℕ}
+            → Room contract (n - 1) image (b + p.before) S (wires_of p b S K) (r.last - 1) m ss ts
             → WindowRoom (length image) (r.last - 1) (b + p.before)
         none k f i [] ts e g =
             record {
               room = g.room;
               few = g.few;
-              one-before = omega (arith, g.begins);
-              two-before = rw (i.body_is, i.plan-is) (λ j. omega (arith, unmet-row k f j, before-is (recordOf k f)));
+              one_before = omega (arith, g.begins);
+              two_before = rw (i.body_is, i.plan_is) (λ j. omega (arith, unmet_row k f j, before_is (record_of k f)));
             }
         none k f i (s ∷ ss) ts e g = absurd (omega arith)
 
-    pub right-emits : ¬ (count ≡ 0) → Emits contract (n - 1) image (b + p.before) (wiresOf p b S K).start (wiresOf p b S K).go
-    right-emits h =
+    pub right_emits : ¬ (count ≡ 0) → Emits contract (n - 1) image (b + p.before) (wires_of p b S K).start (wires_of p b S K).go
+    right_emits h =
         let o = opened in
-        right-room o.before (line o.k).operands o.ts o.operands (λ z. h (sym o.is.count-is ∙ z))
+        right_room o.before (line o.k).operands o.ts o.operands (λ z. h (sym o.is.count_is ∙ z))
 
-    pub left-emits : {later : List ℕ} {right : Block} → ¬ (count ≡ 0) → ¬ (count ≡ 1)
-        → Emitted contract (n - 1) image (b + p.before) (wiresOf p b S K).start (wiresOf p b S K).go later right → length later ≡ length image
-        → Emits contract right.before later right.next S (wiresOf p b S K).keep × (right.before ≤ n - 1)
-    left-emits h i g l =
+    pub left_emits : {later : List ℕ} {right : Block} → ¬ (count ≡ 0) → ¬ (count ≡ 1)
+        → Emitted contract (n - 1) image (b + p.before) (wires_of p b S K).start (wires_of p b S K).go later right → length later ≡ length image
+        → Emits contract right.before later right.next S (wires_of p b S K).keep × (right.before ≤ n - 1)
+    left_emits h i g l =
         let o = opened in
-        left-room o.before (line o.k).operands o.ts o.operands (λ z. h (sym o.is.count-is ∙ z)) (λ z. i (sym o.is.count-is ∙ z)) g l
+        left_room o.before (line o.k).operands o.ts o.operands (λ z. h (sym o.is.count_is ∙ z)) (λ z. i (sym o.is.count_is ∙ z)) g l
 
-    pub record-rows : {later : List ℕ} {left right : Block} → Written contract (n - 1) count (r.last - 1) image (b + p.before) S (wiresOf p b S K) later left right
+    pub record_rows : {later : List ℕ} {left right : Block} → Written contract (n - 1) count (r.last - 1) image (b + p.before) S (wires_of p b S K) later left right
         → length later ≡ length image → (r.party < 256) × (r.action < 256)
-        → RecordRows (length later) p b left.next (basesOf b S K left right r.party r.action)
-    record-rows {later} {left} {right} w l small-fields =
+        → RecordRows (length later) p b left.next (bases_of b S K left right r.party r.action)
+    record_rows {later} {left} {right} w l small-fields =
         let o = opened in
-        let d = w.placed o.before (line o.k).operands o.ts o.is.count-is o.operands.ends in
+        let d = w.placed o.before (line o.k).operands o.ts o.is.count_is o.operands.ends in
         let i = ordered o.before (line o.k).operands o.ts o.operands in
-        let after : b + p.before ≤ left.next = rw d.left_is i.not-before in
-        let l-given : Given left left.next = rw d.left_is i.left-given in
-        let r-given : Given right left.next = rw (d.right_is, d.left_is) i.right-given in
-        let room : rowBytes * (left.next + p.after) ≤ length later = rw (l, d.left_is) o.room in
-        let few : left.next + p.after ≤ maxRows = rw d.left_is o.few in
-        let in_table : end p ≤ length rowTable = rw o.is.plan-is (listed (recordOf o.k o.f)) in
-        let in_one : (end p ≤ length leafRows) ⊎ (length leafRows ≤ p.from) = rw o.is.plan-is (in-one-table (recordOf o.k o.f)) in
+        let after : b + p.before ≤ left.next = rw d.left_is i.not_before in
+        let l_given : Given left left.next = rw d.left_is i.left_given in
+        let r_given : Given right left.next = rw (d.right_is, d.left_is) i.right_given in
+        let room : row_bytes * (left.next + p.after) ≤ length later = rw (l, d.left_is) o.room in
+        let few : left.next + p.after ≤ max_rows = rw d.left_is o.few in
+        let in_table : end p ≤ length row_table = rw o.is.plan_is (listed (record_of o.k o.f)) in
+        let in_one : (end p ≤ length leaf_rows) ⊎ (length leaf_rows ≤ p.from) = rw o.is.plan_is (in_one_table (record_of o.k o.f)) in
         let small =
-        small-bases left.next b S K left right r.party r.action (omega arith) (omega arith) e.begins e.goes_on (omega arith) l-given r-given small-fields.0 small-fields.1 in
+        small_bases left.next b S K left right r.party r.action (omega arith) (omega arith) e.begins e.goes_on (omega arith) l_given r_given small-fields.0 small-fields.1 in
         record {
           first = record {
-            has_room = record { bases-small = small; short = omega arith; listed = omega arith; room = omega arith; few = omega arith };
+            has_room = record { bases_small = small; short = omega arith; listed = omega arith; room = omega arith; few = omega arith };
             in_one = ⊎_elim (λ h. inl (omega arith)) inr in_one;
           };
           second = record {
-            has_room = record { bases-small = small; short = omega arith; listed = in_table; room = room; few = few };
+            has_room = record { bases_small = small; short = omega arith; listed = in_table; room = room; few = few };
             in_one = ⊎_elim inl (λ h. inr (omega arith)) in_one;
           };
         }

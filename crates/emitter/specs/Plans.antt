@@ -1,6 +1,6 @@
 -- How the rows of each record are laid out. That the tables and plans give the rows of image/specs/Blocks.antt is shown in proofs/Plans.antt.
 use Rattle.std.specs.Prelude.{ℕ, Bool, ◌&&◌, cond, eqb}
-use Rattle.contract.specs.Meaning.{bothParties, partiesNumber}
+use Rattle.contract.specs.Meaning.{both_parties, parties_number}
 use Rattle.grammar.specs.Table.{Kind, duty, ban, power, both, then, repair, repeat, when, until, deadline, any, tries, idle, succeeds, fails, seq, or, star, line}
 use Rattle.grammar.specs.Trees.{Record}
 use Rattle.image.specs.Widths.{width, ◌⊹◌}
@@ -15,29 +15,29 @@ plan j from s k l x y z =
     let w = width j in
     record { 0 = from; 1 = w.before; 2 = w.after; 3 = s; 4 = k; 5 = l; 6 = x; 7 = y; 8 = z }
 
-abbrev pub planLine : Kind → PlanLine
-planLine duty = plan duty 0 ZERO ZERO ZERO (B ⊹ 3) (B ⊹ 5) (B ⊹ 7)
-planLine ban = plan ban 8 ZERO ZERO ZERO (B ⊹ 5) (B ⊹ 3) ZERO
-planLine power = plan power 14 ZERO ZERO ZERO (B ⊹ 6) ZERO (B ⊹ 4)
-planLine both = plan both 55 S (B ⊹ 2) (B ⊹ 2) (N ⊹ 6) (N ⊹ 7) (N ⊹ 8)
-planLine then = plan then 69 (B ⊹ 1) (B ⊹ 3) K RSAT N (N ⊹ 1)
-planLine repair = plan repair 75 (B ⊹ 1) (B ⊹ 3) K (N ⊹ 1) RONE RTWO
-planLine repeat = plan repeat 81 (B ⊹ 4) (B ⊹ 3) ZERO ZERO RONE RTWO
-planLine when = plan when 86 (B ⊹ 1) (B ⊹ 3) (B ⊹ 3) (N ⊹ 6) RONE RTWO
-planLine until = plan until 97 (B ⊹ 5) (B ⊹ 2) (B ⊹ 2) (N ⊹ 3) LONE LTWO
-planLine deadline = plan deadline 21 ZERO ZERO ZERO (N ⊹ 2) (N ⊹ 4) (N ⊹ 5)
-planLine any = plan any 33 ZERO ZERO ZERO S ZERO ZERO
-planLine tries = plan tries 33 ZERO ZERO ZERO (B ⊹ 1) ZERO ZERO
-planLine idle = plan idle 35 ZERO ZERO ZERO (B ⊹ 2) ZERO ZERO
-planLine succeeds = plan succeeds 38 ZERO ZERO ZERO (B ⊹ 3) ZERO ZERO
-planLine fails = plan fails 42 ZERO ZERO ZERO (B ⊹ 4) ZERO ZERO
-planLine seq = plan seq 108 (B ⊹ 2) K K N (N ⊹ 2) ZERO
-planLine or = plan or 114 S K K N (N ⊹ 1) ZERO
-planLine star = plan star 116 (B ⊹ 2) K ZERO RSAT N ZERO
+abbrev pub plan_line : Kind → PlanLine
+plan_line duty = plan duty 0 ZERO ZERO ZERO (B ⊹ 3) (B ⊹ 5) (B ⊹ 7)
+plan_line ban = plan ban 8 ZERO ZERO ZERO (B ⊹ 5) (B ⊹ 3) ZERO
+plan_line power = plan power 14 ZERO ZERO ZERO (B ⊹ 6) ZERO (B ⊹ 4)
+plan_line both = plan both 55 S (B ⊹ 2) (B ⊹ 2) (N ⊹ 6) (N ⊹ 7) (N ⊹ 8)
+plan_line then = plan then 69 (B ⊹ 1) (B ⊹ 3) K RSAT N (N ⊹ 1)
+plan_line repair = plan repair 75 (B ⊹ 1) (B ⊹ 3) K (N ⊹ 1) RONE RTWO
+plan_line repeat = plan repeat 81 (B ⊹ 4) (B ⊹ 3) ZERO ZERO RONE RTWO
+plan_line when = plan when 86 (B ⊹ 1) (B ⊹ 3) (B ⊹ 3) (N ⊹ 6) RONE RTWO
+plan_line until = plan until 97 (B ⊹ 5) (B ⊹ 2) (B ⊹ 2) (N ⊹ 3) LONE LTWO
+plan_line deadline = plan deadline 21 ZERO ZERO ZERO (N ⊹ 2) (N ⊹ 4) (N ⊹ 5)
+plan_line any = plan any 33 ZERO ZERO ZERO S ZERO ZERO
+plan_line tries = plan tries 33 ZERO ZERO ZERO (B ⊹ 1) ZERO ZERO
+plan_line idle = plan idle 35 ZERO ZERO ZERO (B ⊹ 2) ZERO ZERO
+plan_line succeeds = plan succeeds 38 ZERO ZERO ZERO (B ⊹ 3) ZERO ZERO
+plan_line fails = plan fails 42 ZERO ZERO ZERO (B ⊹ 4) ZERO ZERO
+plan_line seq = plan seq 108 (B ⊹ 2) K K N (N ⊹ 2) ZERO
+plan_line or = plan or 114 S K K N (N ⊹ 1) ZERO
+plan_line star = plan star 116 (B ⊹ 2) K ZERO RSAT N ZERO
 
 -- the same of a duty that both parties own
-abbrev pub jointLine : PlanLine
-jointLine = plan duty 47 ZERO ZERO ZERO (B ⊹ 3) (B ⊹ 5) (B ⊹ 7)
+abbrev pub joint_line : PlanLine
+joint_line = plan duty 47 ZERO ZERO ZERO (B ⊹ 3) (B ⊹ 5) (B ⊹ 7)
 
 -- a line's fields by their names
 abbrev pub named : PlanLine → Plan
@@ -55,8 +55,8 @@ named l =
     }
 
 -- the plan of a kind's records, by whether they name both parties
-abbrev pub planFor : Kind → (joint : Bool) → Plan
-planFor k joint = named (cond (eqb (line k).number (line duty).number && joint) jointLine (planLine k))
+abbrev pub plan_for : Kind → (joint : Bool) → Plan
+plan_for k joint = named (cond (eqb (line k).number (line duty).number && joint) joint_line (plan_line k))
 
 abbrev pub plan_of : Record → Plan
-plan_of r = planFor r.kind (eqb r.fields.party (partiesNumber bothParties))
+plan_of r = plan_for r.kind (eqb r.fields.party (parties_number both_parties))

@@ -2,13 +2,13 @@
 ghost use Rattle.std.specs.Prelude.{◌≡◌, cond, [], map, ◌+◌, ◌*◌, ◌-◌, ◌^◌, ◌<◌, ◌≤◌, length, get_or};
 ghost use Rattle.std.proofs.Math.Option.{some};
 ghost use Rattle.records.specs.Holding.{AllBelow};
-ghost use Rattle.layout.specs.Limits.{maxRows};
-ghost use Rattle.grammar.specs.Limits.{recordBytes};
+ghost use Rattle.layout.specs.Limits.{max_rows};
+ghost use Rattle.grammar.specs.Limits.{record_bytes};
 ghost use Rattle.grammar.specs.Table.{Kind, kind_of};
-ghost use Rattle.image.specs.Blocks.{windowRows};
-ghost use Rattle.emitter.specs.Rows.{numbersOf, leafRows, nodeRows, rowTable, unpacked, value_at, tableRows, writtenRows};
-ghost use Rattle.emitter.specs.Plans.{planLine, named, plan_of};
-ghost use Rattle.emitter.specs.Blocks.{lastRecord, recordFrom, otherNumber, basesOf, wiresOf, noBlock, windowBlock, windowFrom, recordBlock, recordWritten, Emitted};
+ghost use Rattle.image.specs.Blocks.{window_rows};
+ghost use Rattle.emitter.specs.Rows.{numbers_of, leaf_rows, node_rows, row_table, unpacked, value_at, table_rows, written_rows};
+ghost use Rattle.emitter.specs.Plans.{plan_line, named, plan_of};
+ghost use Rattle.emitter.specs.Blocks.{last_record, record_from, other_number, bases_of, wires_of, no_block, window_block, window_from, record_block, record_written, Emitted};
 ghost use Rattle.emitter.specs.Premises.{RoomFrom, RoomForRows, RecordRows, PeriodRoom, WindowRoom, Emits};
 
 use layout::{AND, ATTEMPT, NOT, OR, PREVIOUS};
@@ -249,8 +249,8 @@ pub struct RecordBody {
 // The last of the first n records.
 fn last_record(contract: &[u8], n: usize) -> RecordBody
     requires le_n { 1 ≤ n }
-    requires n_in_bounds { recordBytes * n ≤ length contract.now }
-    ensures { result ≡ lastRecord contract.now n }
+    requires n_in_bounds { record_bytes * n ≤ length contract.now }
+    ensures { result ≡ last_record contract.now n }
 {
     let at = reader::RECORD_BYTES * (n - 1);
     RecordBody {
@@ -332,7 +332,7 @@ fn named(l: PlanLine) -> Plan
 
 // The plan of a kind.
 fn kind_plan(kind: u8) -> Plan
-    ensures { (k : Kind) → kind_of kind ≡ some k → result ≡ named (planLine k) }
+    ensures { (k : Kind) → kind_of kind ≡ some k → result ≡ named (plan_line k) }
 {
     let plans = PLANS;
     match kind {
@@ -353,7 +353,7 @@ const JOINT_PLAN: PlanLine = PlanLine(47, 8, 0, ZERO, ZERO, ZERO, B + 3, B + 5, 
 
 // The plan of a record.
 fn plan_of(r: RecordBody) -> Plan
-    ensures { (k : Kind) → kind_of r.kind ≡ some k → result ≡ plan_of (recordFrom k r) }
+    ensures { (k : Kind) → kind_of r.kind ≡ some k → result ≡ plan_of (record_from k r) }
 {
     let kind = r.kind;
     let party = r.party;
@@ -381,7 +381,7 @@ pub struct Block {
 
 // A block of no rows, where a record has no such operand.
 fn no_block(before: usize, next: u32) -> Block
-    ensures { result ≡ noBlock before next }
+    ensures { result ≡ no_block before next }
 {
     Block {
         before: before,
@@ -402,14 +402,14 @@ fn row_if(c: bool, x: u32) -> u32
 
 // The other party.
 fn other(party: u32) -> u32
-    ensures { result ≡ otherNumber party }
+    ensures { result ≡ other_number party }
 {
     if party == 1 { 2 } else { 1 }
 }
 
 // What the bases stand for, in their order.
 fn bases(at: u32, s: u32, k: u32, left: Block, right: Block, party: u32, action: u32) -> [u32; 16]
-    ensures { result ≡ basesOf at s k left right party action }
+    ensures { result ≡ bases_of at s k left right party action }
 {
     let se = row_if(left.code == reader::EMPTY, s);
     let le = row_if(right.code == reader::EMPTY, left.sat);
@@ -444,7 +444,7 @@ fn value_at(bases: &[u32; 16], x: u8) -> u32
 // Writes `count` rows of a table, from its row `from` on.
 fn put_from(image: &mut [u8], at: u32, bases: &[u32; 16], table: &[u32], from: u8, count: u8)
     requires { RoomFrom (length image.old) at bases.now (length table.now) from count }
-    ensures { image.new ≡ writtenRows image.old at (tableRows bases.now (map unpacked table.now) from count) }
+    ensures { image.new ≡ written_rows image.old at (table_rows bases.now (map unpacked table.now) from count) }
 {
     let mut j = 0;
     while j < count {
@@ -462,16 +462,16 @@ fn put_from(image: &mut [u8], at: u32, bases: &[u32; 16], table: &[u32], from: u
 
 // The same from the first table, and from the second: a function for each, so that only one of the two is laid on the stack.
 fn put_leaf_rows(image: &mut [u8], at: u32, bases: &[u32; 16], from: u8, count: u8)
-    requires { RoomFrom (length image.old) at bases.now (length leafRows) from count }
-    ensures { image.new ≡ writtenRows image.old at (tableRows bases.now leafRows from count) }
+    requires { RoomFrom (length image.old) at bases.now (length leaf_rows) from count }
+    ensures { image.new ≡ written_rows image.old at (table_rows bases.now leaf_rows from count) }
 {
     let table = LEAF_ROWS;
     put_from(image, at, bases, &table, from, count);
 }
 
 fn put_node_rows(image: &mut [u8], at: u32, bases: &[u32; 16], from: u8, count: u8)
-    requires { RoomFrom (length image.old) at bases.now (length nodeRows) from count }
-    ensures { image.new ≡ writtenRows image.old at (tableRows bases.now nodeRows from count) }
+    requires { RoomFrom (length image.old) at bases.now (length node_rows) from count }
+    ensures { image.new ≡ written_rows image.old at (table_rows bases.now node_rows from count) }
 {
     let table = NODE_ROWS;
     put_from(image, at, bases, &table, from, count);
@@ -480,7 +480,7 @@ fn put_node_rows(image: &mut [u8], at: u32, bases: &[u32; 16], from: u8, count: 
 // Writes `count` of a record's own rows, from row `from` on, counted over both tables.
 fn put_rows(image: &mut [u8], at: u32, bases: &[u32; 16], from: u8, count: u8)
     requires { RoomForRows (length image.old) at bases.now from count }
-    ensures { image.new ≡ writtenRows image.old at (tableRows bases.now rowTable from count) }
+    ensures { image.new ≡ written_rows image.old at (table_rows bases.now row_table from count) }
 {
     if count == 0 {
         return;
@@ -495,7 +495,7 @@ fn put_rows(image: &mut [u8], at: u32, bases: &[u32; 16], from: u8, count: u8)
 // Writes a record's own rows: those from row `at` on, and those from row `next` on, after the operands' rows.
 fn put_own(image: &mut [u8], plan: Plan, at: u32, next: u32, bases: &[u32; 16])
     requires { RecordRows (length image.old) plan at next bases.now }
-    ensures { image.new ≡ recordWritten image.old bases.now plan at next }
+    ensures { image.new ≡ record_written image.old bases.now plan at next }
 {
     put_rows(image, at, bases, plan.from, plan.before);
     put_rows(image, next, bases, plan.from + plan.before, plan.after);
@@ -504,8 +504,8 @@ fn put_own(image: &mut [u8], plan: Plan, at: u32, next: u32, bases: &[u32; 16])
 // The block of a record and its operands.
 fn block_of(bases: &[u32; 16], plan: Plan, r: RecordBody, left: Block, right: Block) -> Block
     requires all_below { AllBelow (256 ^ 2) bases.now }
-    requires after_bound { left.next + plan.after ≤ maxRows }
-    ensures { result ≡ recordBlock bases.now plan r.kind r.party left right }
+    requires after_bound { left.next + plan.after ≤ max_rows }
+    ensures { result ≡ record_block bases.now plan r.kind r.party left right }
 {
     let next = left.next + plan.after as u32;
     let sat = value_at(bases, plan.sat);
@@ -534,9 +534,9 @@ fn put_record(
     left: Block,
     right: Block,
 ) -> Block
-    requires { RecordRows (length image.old) plan at left.next (basesOf at s k left right r.party r.action) }
-    ensures written { image.new ≡ recordWritten image.old (basesOf at s k left right r.party r.action) plan at left.next }
-    ensures gives { result ≡ recordBlock (basesOf at s k left right r.party r.action) plan r.kind r.party left right }
+    requires { RecordRows (length image.old) plan at left.next (bases_of at s k left right r.party r.action) }
+    ensures written { image.new ≡ record_written image.old (bases_of at s k left right r.party r.action) plan at left.next }
+    ensures gives { result ≡ record_block (bases_of at s k left right r.party r.action) plan r.kind r.party left right }
 {
     let party = records::widened(r.party);
     let action = records::widened(r.action);
@@ -551,7 +551,7 @@ fn put_record(
 // `missed` tells that the duty is missed now in the last one, `earlier` that it was missed in the period before in one before that.
 fn put_period(image: &mut [u8], at: u32, unmet: u32, earlier: u32, missed: u32)
     requires { PeriodRoom (length image.old) at unmet earlier missed }
-    ensures { image.new ≡ writtenRows image.old at (map numbersOf (windowRows 1 unmet earlier missed at [])) }
+    ensures { image.new ≡ written_rows image.old at (map numbers_of (window_rows 1 unmet earlier missed at [])) }
 {
     layout::put_row(image, at, PREVIOUS, missed, 0);
     layout::put_row(image, at + 1, OR, earlier, at);
@@ -561,8 +561,8 @@ fn put_period(image: &mut [u8], at: u32, unmet: u32, earlier: u32, missed: u32)
 // Writes the rows of a window's later periods from row `at` on, right after the record's own rows before them, and gives their block.
 fn put_window(image: &mut [u8], before: usize, at: u32, window: u8) -> Block
     requires { WindowRoom (length image.old) (window - 1) at }
-    ensures written { image.new ≡ writtenRows image.old at (map numbersOf (windowFrom (window - 1) at)) }
-    ensures gives { result ≡ windowBlock before (window - 1) at }
+    ensures written { image.new ≡ written_rows image.old at (map numbers_of (window_from (window - 1) at)) }
+    ensures gives { result ≡ window_block before (window - 1) at }
 {
     let mut next = at;
     let mut earlier = 0;
@@ -596,8 +596,8 @@ pub struct Wires {
 }
 
 fn wires_of(plan: Plan, at: u32, s: u32, k: u32) -> Wires
-    requires { AllBelow (256 ^ 2) (basesOf at s k (noBlock 0 0) (noBlock 0 0) 0 0) }
-    ensures { result ≡ wiresOf plan at s k }
+    requires { AllBelow (256 ^ 2) (bases_of at s k (no_block 0 0) (no_block 0 0) 0 0) }
+    ensures { result ≡ wires_of plan at s k }
 {
     let meant = bases(at, s, k, no_block(0, 0), no_block(0, 0), 0, 0);
     Wires {

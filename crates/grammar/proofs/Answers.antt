@@ -8,32 +8,32 @@ use Rattle.contract.specs.Meaning.{Clause}
 use Rattle.records.specs.declared.Fault.{Fault}
 use Rattle.records.specs.declared.Fault.TheVariants.{BadLength, NotOneClause}
 use Rattle.records.specs.declared.Test.TheVariants.{Passed}
-use Rattle.records.proofs.Refusals.{refused-passed, among, onlyFor, among-append}
-use Rattle.grammar.specs.Reader.{Result, refused, taken, contractRecords, read, test_of, readTest}
+use Rattle.records.proofs.Refusals.{refused_passed, among, only_for, among_append}
+use Rattle.grammar.specs.Reader.{Result, refused, taken, contract_records, read, test_of, read_test}
 use Rattle.grammar.specs.Taken.{Contract}
-use Rattle.grammar.proofs.Reader.{taken-spells, taken-count}
-use Rattle.grammar.proofs.Places.{recordFaults, Refusal, at_length, at-record, at-end, refusal}
+use Rattle.grammar.proofs.Reader.{taken_spells, taken_count}
+use Rattle.grammar.proofs.Places.{record_faults, Refusal, at_length, at_record, at_end, refusal}
 
-pub test-passed : (l : List ℕ) → readTest l ≡ Passed → Contract l (contractRecords l)
-unfolding readTest
-test-passed l h = go (read l) refl
+pub test_passed : (l : List ℕ) → read_test l ≡ Passed → Contract l (contract_records l)
+unfolding read_test
+test_passed l h = go (read l) refl
   where
-    go : (r : Result Clause) → read l ≡ r → Contract l (contractRecords l)
-    go (refused f k) e = let h' = rw e at h in absurd (refused-passed h')
-    go (taken c) e = record { clause = c; is = e; spells = taken-spells l c e; count = taken-count l c e }
+    go : (r : Result Clause) → read l ≡ r → Contract l (contract_records l)
+    go (refused f k) e = let h' = rw e at h in absurd (refused_passed h')
+    go (taken c) e = record { clause = c; is = e; spells = taken_spells l c e; count = taken_count l c e }
 
-abbrev pub readFaults : List Fault
-readFaults = BadLength ∷ NotOneClause ∷ recordFaults
+abbrev pub read_faults : List Fault
+read_faults = BadLength ∷ NotOneClause ∷ record_faults
 
-pub read_only : (l : List ℕ) → onlyFor readFaults (readTest l) ≡ true
-unfolding readTest
+pub read_only : (l : List ℕ) → only_for read_faults (read_test l) ≡ true
+unfolding read_test
 read_only l = go (read l) refl
   where
-    among-read : (f : Fault) (k : ℕ) → Refusal l f k → among readFaults f ≡ true
-    among-read f k (at_length g e i) = rw (← e)
-    among-read f k (at-record w r o) = let own = BadLength ∷ NotOneClause ∷ [] in among-append own recordFaults f ∙ rw o (or-true (among own f))
-    among-read f k (at-end w st r e i) = rw (← e)
+    among_read : (f : Fault) (k : ℕ) → Refusal l f k → among read_faults f ≡ true
+    among_read f k (at_length g e i) = rw (← e)
+    among_read f k (at_record w r o) = let own = BadLength ∷ NotOneClause ∷ [] in among_append own record_faults f ∙ rw o (or-true (among own f))
+    among_read f k (at_end w st r e i) = rw (← e)
 
-    go : (r : Result Clause) → read l ≡ r → onlyFor readFaults (test_of r) ≡ true
+    go : (r : Result Clause) → read l ≡ r → only_for read_faults (test_of r) ≡ true
     go (taken c) e = refl
-    go (refused f k) e = among-read f k (refusal l f k e)
+    go (refused f k) e = among_read f k (refusal l f k e)

@@ -6,39 +6,39 @@ use mathlib.Core.Logic.{⊎_elim}
 use mathlib.Core.Path.{◌≡◌, refl}
 use lib.Dec.{eqb, ltb, leb}
 use borrow.Author.Tests.{eqb-true, eqb-false, leb-true, le-leb, ltb-true, ltb-false}
-use Rattle.records.proofs.Cases.{true-or-false}
+use Rattle.records.proofs.Cases.{true_or_false}
 use Rattle.periods.specs.Limits.{actions}
-use Rattle.periods.specs.Periods.{partyNumber}
-use Rattle.contract.specs.Meaning.{partiesNumber}
-use Rattle.grammar.specs.Limits.{maxWindow}
-use Rattle.grammar.specs.Table.{Kind, Range, within, partyNumbers, ownerNumbers, Line, line}
-use Rattle.grammar.specs.Trees.{Fields, Record, goodFields, partyNamed, ownerNamed}
+use Rattle.periods.specs.Periods.{party_number}
+use Rattle.contract.specs.Meaning.{parties_number}
+use Rattle.grammar.specs.Limits.{max_window}
+use Rattle.grammar.specs.Table.{Kind, Range, within, party_numbers, owner_numbers, Line, line}
+use Rattle.grammar.specs.Trees.{Fields, Record, good_fields, party_named, owner_named}
 use Rattle.grammar.specs.Spelling.{Allowed}
-use Rattle.grammar.proofs.Table.{of-all}
+use Rattle.grammar.proofs.Table.{of_all}
 
 abbrev pub uses : Range → Bool
 uses r = ltb 0 r.greatest
 
 -- whether a range of parties has the number of both
-abbrev ofOwners : Range → Bool
-ofOwners r = leb ownerNumbers.greatest r.greatest
+abbrev of_owners : Range → Bool
+of_owners r = leb owner_numbers.greatest r.greatest
 
 -- what a node keeps of the field with a party: the owner, the party, or nothing
-abbrev keptParty : Range → ℕ → ℕ
-keptParty r n = cond (ofOwners r) (partiesNumber (ownerNamed n)) (cond (uses r) (partyNumber (partyNamed n)) 0)
+abbrev kept_party : Range → ℕ → ℕ
+kept_party r n = cond (of_owners r) (parties_number (owner_named n)) (cond (uses r) (party_number (party_named n)) 0)
 
 -- what it keeps of all
 abbrev pub used : Kind → Fields → Fields
 used k f =
     record {
-      party = keptParty (line k).party f.party;
+      party = kept_party (line k).party f.party;
       action = cond (uses (line k).action) f.action 0;
       last = cond (uses (line k).last) f.last 0;
     }
 
 -- the record of a node
-abbrev pub recordOf : Kind → Fields → Record
-recordOf k f = record { kind = k; fields = used k f }
+abbrev pub record_of : Kind → Fields → Record
+record_of k f = record { kind = k; fields = used k f }
 
 -- ---- fields in range
 
@@ -52,16 +52,16 @@ record Each (l : Line) (f : Fields) : Type 0 where
   action : within l.action f.action ≡ true
   last : within l.last f.last ≡ true
 
-each : (l : Line) (f : Fields) → goodFields l f ≡ true → Each l f
-unfolding goodFields
+each : (l : Line) (f : Fields) → good_fields l f ≡ true → Each l f
+unfolding good_fields
 each l f h =
     let g = (and-eq-true_iff (within l.party f.party && within l.action f.action) (within l.last f.last)).0 h in
     let i = (and-eq-true_iff (within l.party f.party) (within l.action f.action)).0 g.0 in
     record { party = i.0; action = i.1; last = g.1 }
 
-used-number : (r : Range) (n : ℕ) → within r n ≡ true → cond (uses r) n 0 ≡ n
-used-number r n h =
-    ⊎_elim (λ e. rw e) (λ e. rw e (omega (arith, ltb-false 0 r.greatest e, inside r n h))) (true-or-false (uses r))
+used_number : (r : Range) (n : ℕ) → within r n ≡ true → cond (uses r) n 0 ≡ n
+used_number r n h =
+    ⊎_elim (λ e. rw e) (λ e. rw e (omega (arith, ltb-false 0 r.greatest e, inside r n h))) (true_or_false (uses r))
 
 -- all numbers of one range are in another
 abbrev contains : Range → Range → Bool
@@ -75,55 +75,55 @@ contained s r g n h =
     let i = inside r n h in
     rw (le-leb s.least n (omega arith), le-leb n s.greatest (omega arith))
 
-party-number : (n : ℕ) → within partyNumbers n ≡ true → partyNumber (partyNamed n) ≡ n
-party-number n h =
-    let i = inside partyNumbers n h in
-    ⊎_elim (λ e. rw (eqb-true n 1 e)) (λ e. let d : n ≡ 1 → ⊥ = eqb-false n 1 e in rw e (omega arith)) (true-or-false (eqb n 1))
+party_number_lem : (n : ℕ) → within party_numbers n ≡ true → party_number (party_named n) ≡ n
+party_number_lem n h =
+    let i = inside party_numbers n h in
+    ⊎_elim (λ e. rw (eqb-true n 1 e)) (λ e. let d : n ≡ 1 → ⊥ = eqb-false n 1 e in rw e (omega arith)) (true_or_false (eqb n 1))
 
-owner-number : (n : ℕ) → within ownerNumbers n ≡ true → partiesNumber (ownerNamed n) ≡ n
-owner-number n h =
-    let i = inside ownerNumbers n h in
+owner_number : (n : ℕ) → within owner_numbers n ≡ true → parties_number (owner_named n) ≡ n
+owner_number n h =
+    let i = inside owner_numbers n h in
     ⊎_elim (λ e. rw (eqb-true n 3 e))
-    (λ e. let d : n ≡ 3 → ⊥ = eqb-false n 3 e in rw e (party-number n (rw (le-leb 1 n (omega arith), le-leb n 2 (omega arith)))))
-    (true-or-false (eqb n 3))
+    (λ e. let d : n ≡ 3 → ⊥ = eqb-false n 3 e in rw e (party_number_lem n (rw (le-leb 1 n (omega arith), le-leb n 2 (omega arith)))))
+    (true_or_false (eqb n 3))
 
 -- a range of owners, of parties, or of 0 alone
-abbrev ofParties : Range → Bool
-ofParties r = cond (ofOwners r) (contains ownerNumbers r) (not (uses r) || contains partyNumbers r)
+abbrev of_parties : Range → Bool
+of_parties r = cond (of_owners r) (contains owner_numbers r) (not (uses r) || contains party_numbers r)
 
-used-party : (r : Range) → ofParties r ≡ true → (n : ℕ) → within r n ≡ true → keptParty r n ≡ n
-used-party r g n h = go (ofOwners r) (uses r) g (used-number r n h)
+used_party : (r : Range) → of_parties r ≡ true → (n : ℕ) → within r n ≡ true → kept_party r n ≡ n
+used_party r g n h = go (of_owners r) (uses r) g (used_number r n h)
   where
-    go : (o u : Bool) → cond o (contains ownerNumbers r) (not u || contains partyNumbers r) ≡ true → cond u n 0 ≡ n
-        → cond o (partiesNumber (ownerNamed n)) (cond u (partyNumber (partyNamed n)) 0) ≡ n
-    go true u e i = owner-number n (contained ownerNumbers r e n h)
-    go false true e i = party-number n (contained partyNumbers r e n h)
+    go : (o u : Bool) → cond o (contains owner_numbers r) (not u || contains party_numbers r) ≡ true → cond u n 0 ≡ n
+        → cond o (parties_number (owner_named n)) (cond u (party_number (party_named n)) 0) ≡ n
+    go true u e i = owner_number n (contained owner_numbers r e n h)
+    go false true e i = party_number_lem n (contained party_numbers r e n h)
     go false false e i = i
 
-pub used-same : (k : Kind) (f : Fields) → goodFields (line k) f ≡ true → used k f ≡ f
-used-same k f h =
+pub used_same : (k : Kind) (f : Fields) → good_fields (line k) f ≡ true → used k f ≡ f
+used_same k f h =
     let l = line k in
     let e = each l f h in
     rw (
-      used-party l.party (of-all (λ J. ofParties (line J).party) refl k) f.party e.party,
-      used-number l.action f.action e.action,
-      used-number l.last f.last e.last,
+      used_party l.party (of_all (λ J. of_parties (line J).party) refl k) f.party e.party,
+      used_number l.action f.action e.action,
+      used_number l.last f.last e.last,
     )
 
 -- an action in range is one of those that there are
-pub allowed-action : (r : Record) → Allowed r → r.fields.action < actions
-allowed-action r h =
+pub allowed_action : (r : Record) → Allowed r → r.fields.action < actions
+allowed_action r h =
     let l = line r.kind in
     let i = inside l.action r.fields.action (each l r.fields h).action in
     let m : l.action.greatest < actions =
-    ltb-true l.action.greatest actions (of-all (λ J. ltb (line J).action.greatest actions) refl r.kind) in
+    ltb-true l.action.greatest actions (of_all (λ J. ltb (line J).action.greatest actions) refl r.kind) in
     omega arith
 
 -- a last byte in range is at most the longest window
-pub allowed-last : (r : Record) → Allowed r → r.fields.last ≤ maxWindow
-allowed-last r h =
+pub allowed_last : (r : Record) → Allowed r → r.fields.last ≤ max_window
+allowed_last r h =
     let l = line r.kind in
     let i = inside l.last r.fields.last (each l r.fields h).last in
-    let m : l.last.greatest ≤ maxWindow =
-    leb-true l.last.greatest maxWindow (of-all (λ J. leb (line J).last.greatest maxWindow) refl r.kind) in
+    let m : l.last.greatest ≤ max_window =
+    leb-true l.last.greatest max_window (of_all (λ J. leb (line J).last.greatest max_window) refl r.kind) in
     omega arith

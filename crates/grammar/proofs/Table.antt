@@ -9,31 +9,31 @@ use mathlib.Core.Option.{Option, none, some}
 use lib.Dec.{eqb, ltb, leb}
 use lib.ListN.{length, get_or}
 use borrow.Author.Tests.{eqb-true, lt-ltb, le-leb}
-use Rattle.records.specs.Refusals.{firstFailing}
-use Rattle.records.proofs.Cases.{lt-or-le}
-use Rattle.records.proofs.Searches.{failing-below}
-use Rattle.grammar.specs.Table.{Kind, kinds, firstNumbered, kind_of, line, duty, ban, power, both, then, repair, repeat, when, until, deadline, any, tries, idle, succeeds, fails, seq, or, star}
+use Rattle.records.specs.Refusals.{first_failing}
+use Rattle.records.proofs.Cases.{lt_or_le}
+use Rattle.records.proofs.Searches.{failing_below}
+use Rattle.grammar.specs.Table.{Kind, kinds, first_numbered, kind_of, line, duty, ban, power, both, then, repair, repeat, when, until, deadline, any, tries, idle, succeeds, fails, seq, or, star}
 
-pub kind-number : (k : Kind) → kind_of (line k).number ≡ some k
-unfolding kind_of firstNumbered
-kind-number duty = refl
-kind-number ban = refl
-kind-number power = refl
-kind-number both = refl
-kind-number then = refl
-kind-number repair = refl
-kind-number repeat = refl
-kind-number when = refl
-kind-number until = refl
-kind-number deadline = refl
-kind-number any = refl
-kind-number tries = refl
-kind-number idle = refl
-kind-number succeeds = refl
-kind-number fails = refl
-kind-number seq = refl
-kind-number or = refl
-kind-number star = refl
+pub kind_number : (k : Kind) → kind_of (line k).number ≡ some k
+unfolding kind_of first_numbered
+kind_number duty = refl
+kind_number ban = refl
+kind_number power = refl
+kind_number both = refl
+kind_number then = refl
+kind_number repair = refl
+kind_number repeat = refl
+kind_number when = refl
+kind_number until = refl
+kind_number deadline = refl
+kind_number any = refl
+kind_number tries = refl
+kind_number idle = refl
+kind_number succeeds = refl
+kind_number fails = refl
+kind_number seq = refl
+kind_number or = refl
+kind_number star = refl
 
 abbrev pub every : (Kind → Bool) → List Kind → Bool
 every f [] = true
@@ -45,23 +45,23 @@ Passes f n none = Unit {0}
 Passes f n (some K) = ((line K).number ≡ n) × (f K ≡ true)
 
 -- a kind found by its number passes the test that all do
-first_passes : (f : Kind → Bool) (n : ℕ) (Ks : List Kind) → every f Ks ≡ true → Passes f n (firstNumbered n Ks)
-unfolding firstNumbered
+first_passes : (f : Kind → Bool) (n : ℕ) (Ks : List Kind) → every f Ks ≡ true → Passes f n (first_numbered n Ks)
+unfolding first_numbered
 first_passes f n [] h = tt
 first_passes f n (K ∷ Ks) h = go (eqb (line K).number n) refl (first_passes f n Ks ((and-eq-true_iff (f K) (every f Ks)).0 h).1)
   where
-    go : (t : Bool) → eqb (line K).number n ≡ t → Passes f n (firstNumbered n Ks) → Passes f n (cond t (some K) (firstNumbered n Ks))
+    go : (t : Bool) → eqb (line K).number n ≡ t → Passes f n (first_numbered n Ks) → Passes f n (cond t (some K) (first_numbered n Ks))
     go true e rest = (eqb-true (line K).number n e, ((and-eq-true_iff (f K) (every f Ks)).0 h).0)
     go false e rest = rest
 
 -- a test that all kinds of the table pass is passed by every kind
-pub of-all : (f : Kind → Bool) → every f kinds ≡ true → (k : Kind) → f k ≡ true
+pub of_all : (f : Kind → Bool) → every f kinds ≡ true → (k : Kind) → f k ≡ true
 unfolding kind_of
-of-all f h k = (subst (Passes f (line k).number) (kind-number k) (first_passes f (line k).number kinds h)).1
+of_all f h k = (subst (Passes f (line k).number) (kind_number k) (first_passes f (line k).number kinds h)).1
 
-pub number-kind : (n : ℕ) (k : Kind) → kind_of n ≡ some k → (line k).number ≡ n
+pub number_kind : (n : ℕ) (k : Kind) → kind_of n ≡ some k → (line k).number ≡ n
 unfolding kind_of
-number-kind n k h = (subst (Passes (λ j. true) n) h (first_passes (λ j. true) n kinds refl)).0
+number_kind n k h = (subst (Passes (λ j. true) n) h (first_passes (λ j. true) n kinds refl)).0
 
 -- ---- the kinds of the numbers
 
@@ -72,26 +72,26 @@ OfClause n = ((line duty).number ≤ n) × (n ≤ (line deadline).number)
 abbrev pub OfExpression : ℕ → Type 0
 OfExpression n = ((line any).number ≤ n) × (n ≤ (line star).number)
 
-abbrev pub clausePlace : ℕ → ℕ
-clausePlace n = n - (line duty).number
+abbrev pub clause_place : ℕ → ℕ
+clause_place n = n - (line duty).number
 
-abbrev pub expressionPlace : ℕ → ℕ
-expressionPlace n = n - ((line any).number - (line deadline).number)
+abbrev pub expression_place : ℕ → ℕ
+expression_place n = n - ((line any).number - (line deadline).number)
 
-abbrev hasNumber : (place : ℕ → ℕ) → ℕ → Bool
-hasNumber place n = eqb (line (get_or kinds (place n) duty)).number n
+abbrev has_number : (place : ℕ → ℕ) → ℕ → Bool
+has_number place n = eqb (line (get_or kinds (place n) duty)).number n
 
-kind_at : (place : ℕ → ℕ) (a count n : ℕ) → a ≤ n → n < firstFailing (hasNumber place) a count → kind_of n ≡ some (get_or kinds (place n) duty)
+kind_at : (place : ℕ → ℕ) (a count n : ℕ) → a ≤ n → n < first_failing (has_number place) a count → kind_of n ≡ some (get_or kinds (place n) duty)
 kind_at place a count n h l =
-    ap kind_of (sym (eqb-true _ n (failing-below (hasNumber place) a count n h l))) ∙ kind-number (get_or kinds (place n) duty)
+    ap kind_of (sym (eqb-true _ n (failing_below (has_number place) a count n h l))) ∙ kind_number (get_or kinds (place n) duty)
 
-pub clause-kind : (n : ℕ) → OfClause n → kind_of n ≡ some (get_or kinds (clausePlace n) duty)
-unfolding firstFailing
-clause-kind n h = kind_at clausePlace (line duty).number 10 n h.0 (omega arith)
+pub clause_kind : (n : ℕ) → OfClause n → kind_of n ≡ some (get_or kinds (clause_place n) duty)
+unfolding first_failing
+clause_kind n h = kind_at clause_place (line duty).number 10 n h.0 (omega arith)
 
-pub expression-kind : (n : ℕ) → OfExpression n → kind_of n ≡ some (get_or kinds (expressionPlace n) duty)
-unfolding firstFailing
-expression-kind n h = kind_at expressionPlace (line any).number 8 n h.0 (omega arith)
+pub expression_kind : (n : ℕ) → OfExpression n → kind_of n ≡ some (get_or kinds (expression_place n) duty)
+unfolding first_failing
+expression_kind n h = kind_at expression_place (line any).number 8 n h.0 (omega arith)
 
 -- no kind has a number from a on and below b
 none_between : (a b n : ℕ) → every (λ K. not (leb a (line K).number && ltb (line K).number b)) kinds ≡ true → a ≤ n → n < b
@@ -104,7 +104,7 @@ none_between a b n none-there h l = go (kind_of n) refl
 
     go : (o : Option Kind) → kind_of n ≡ o → kind_of n ≡ none
     go none e = e
-    go (some K) e = absurd (false≢true (rw (number-kind n K e, le-leb a n h, lt-ltb n b l) at (of-all outside none-there K)))
+    go (some K) e = absurd (false≢true (rw (number_kind n K e, le-leb a n h, lt-ltb n b l) at (of_all outside none-there K)))
 
 pub no_kind : (n : ℕ) → ¬ OfClause n → ¬ OfExpression n → kind_of n ≡ none
 no_kind n no-clause no-expression =
@@ -115,7 +115,7 @@ no_kind n no-clause no-expression =
     (λ b. ⊎_elim (λ l. none_between after-clauses (line any).number n refl b l)
     (λ c. ⊎_elim (λ l. absurd (no-expression (c, omega arith)))
     (λ d. none_between after-expressions (suc n) n refl d (omega arith))
-    (lt-or-le n after-expressions)) (lt-or-le n (line any).number)) (lt-or-le n after-clauses)) (lt-or-le n (line duty).number)
+    (lt_or_le n after-expressions)) (lt_or_le n (line any).number)) (lt_or_le n after-clauses)) (lt_or_le n (line duty).number)
 
 -- ---- tables of the kinds
 

@@ -2,13 +2,13 @@
 use Rattle.std.specs.Prelude.{ℕ}
 
 -- a contract is 1 to 64 records
-abbrev pub maxRecords : ℕ
-maxRecords = 64
+abbrev pub max_records : ℕ
+max_records = 64
 
 -- a window is 1 to 15 periods
-abbrev pub maxWindow : ℕ
-maxWindow = 15
+abbrev pub max_window : ℕ
+max_window = 15
 
 -- the bytes of a contract record
-abbrev pub recordBytes : ℕ
-recordBytes = 6
+abbrev pub record_bytes : ℕ
+record_bytes = 6

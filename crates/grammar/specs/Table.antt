@@ -3,7 +3,7 @@
 use Rattle.std.specs.Prelude.{ℕ, ◌-◌, Bool, ◌&&◌, cond, List, [], ◌∷◌, eqb, leb}
 use Rattle.std.proofs.Math.Option.{Option, none, some}
 use Rattle.periods.specs.Limits.{actions}
-use Rattle.grammar.specs.Limits.{maxWindow}
+use Rattle.grammar.specs.Limits.{max_window}
 
 -- what a record completes, and what an operand is
 pub data Sort : Type 0 where
@@ -29,20 +29,20 @@ abbrev pub unused : Range
 unused = range 0 0
 
 -- "party (1 or 2)"
-abbrev pub partyNumbers : Range
-partyNumbers = range 1 2
+abbrev pub party_numbers : Range
+party_numbers = range 1 2
 
 -- a duty's owner: a party, or 3 for both
-abbrev pub ownerNumbers : Range
-ownerNumbers = range 1 3
+abbrev pub owner_numbers : Range
+owner_numbers = range 1 3
 
 -- "actions run from 0 to 31"
-abbrev pub actionNumbers : Range
-actionNumbers = range 0 (actions - 1)
+abbrev pub action_numbers : Range
+action_numbers = range 0 (actions - 1)
 
 -- "a window d of 1 to 15 in the record's last byte"
-abbrev pub windowNumbers : Range
-windowNumbers = range 1 maxWindow
+abbrev pub window_numbers : Range
+window_numbers = range 1 max_window
 
 -- a line of the table: the kind's number, what its record completes, the sorts of its operands in the order in which they are read, and the
 -- range of each of its fields
@@ -58,21 +58,21 @@ abbrev entry : ℕ → Sort → List Sort → (party action last : Range) → Li
 entry n c os p a z = record { number = n; completes = c; operands = os; party = p; action = a; last = z }
 
 abbrev pub line : Kind → Line
-line duty = entry 1 clause [] ownerNumbers actionNumbers unused
-line ban = entry 2 clause [] partyNumbers actionNumbers unused
-line power = entry 3 clause [] partyNumbers actionNumbers unused
+line duty = entry 1 clause [] owner_numbers action_numbers unused
+line ban = entry 2 clause [] party_numbers action_numbers unused
+line power = entry 3 clause [] party_numbers action_numbers unused
 line both = entry 4 clause (clause ∷ clause ∷ []) unused unused unused
 line then = entry 5 clause (clause ∷ clause ∷ []) unused unused unused
 line repair = entry 6 clause (clause ∷ clause ∷ []) unused unused unused
 line repeat = entry 7 clause (clause ∷ []) unused unused unused
 line when = entry 8 clause (expression ∷ clause ∷ []) unused unused unused
 line until = entry 9 clause (clause ∷ expression ∷ []) unused unused unused
-line deadline = entry 10 clause [] partyNumbers actionNumbers windowNumbers
+line deadline = entry 10 clause [] party_numbers action_numbers window_numbers
 line any = entry 16 expression [] unused unused unused
-line tries = entry 17 expression [] partyNumbers actionNumbers unused
-line idle = entry 18 expression [] partyNumbers actionNumbers unused
-line succeeds = entry 19 expression [] unused actionNumbers unused
-line fails = entry 20 expression [] unused actionNumbers unused
+line tries = entry 17 expression [] party_numbers action_numbers unused
+line idle = entry 18 expression [] party_numbers action_numbers unused
+line succeeds = entry 19 expression [] unused action_numbers unused
+line fails = entry 20 expression [] unused action_numbers unused
 line seq = entry 21 expression (expression ∷ expression ∷ []) unused unused unused
 line or = entry 22 expression (expression ∷ expression ∷ []) unused unused unused
 line star = entry 23 expression (expression ∷ []) unused unused unused
@@ -83,10 +83,10 @@ kinds =
     duty ∷ ban ∷ power ∷ both ∷ then ∷ repair ∷ repeat ∷ when ∷ until ∷ deadline ∷ any ∷ tries ∷ idle ∷ succeeds ∷ fails ∷ seq ∷ or ∷ star ∷ []
 
 -- the first of some kinds that has this number
-unfoldable pub firstNumbered : ℕ → List Kind → Option Kind
-firstNumbered n [] = none
-firstNumbered n (k ∷ ks) = cond (eqb (line k).number n) (some k) (firstNumbered n ks)
+unfoldable pub first_numbered : ℕ → List Kind → Option Kind
+first_numbered n [] = none
+first_numbered n (k ∷ ks) = cond (eqb (line k).number n) (some k) (first_numbered n ks)
 
 -- the kind of a number, if it is one
 unfoldable pub kind_of : ℕ → Option Kind
-kind_of n = firstNumbered n kinds
+kind_of n = first_numbered n kinds

@@ -8,48 +8,48 @@ use mathlib.Core.Option.{Option, none, some}
 use mathlib.Core.Path.{◌≡◌, refl, sym, ◌∙◌}
 use Rattle.periods.specs.Periods.{Party, party1, party2, other, Period, tries, succeeds}
 use Rattle.contract.specs.Meaning.{only, duty, Clause, literal, deadline, meaning, EmptyFree}
-use Rattle.contract.proofs.Windows.{by-party, deadline-none, deadline-one, deadline-more}
-use Rattle.image.proofs.Signals.{Signal, at, ◌≐◌, at-or, Report, isMet, isBroken, literalReport, Says, exactly, HandsOver, Window, at_last, more, deadlineReport}
-use Rattle.image.proofs.Threads.{Exclusive, exclusive-hands-over, thread}
-use Rattle.image.proofs.Reports.{someone-blamed, unbroken, saidBy}
+use Rattle.contract.proofs.Windows.{by_party, deadline_none, deadline_one, deadline_more}
+use Rattle.image.proofs.Signals.{Signal, at, ◌≐◌, at_or, Report, is_met, is_broken, literal_report, Says, exactly, HandsOver, Window, at_last, more, deadline_report}
+use Rattle.image.proofs.Threads.{Exclusive, exclusive_hands_over, thread}
+use Rattle.image.proofs.Reports.{someone_blamed, unbroken, said_by}
 use Rattle.image.proofs.Behaviour.{Behaves}
-use Rattle.image.proofs.Literals.{behaves-literal}
-use Rattle.image.proofs.Handing.{behaves-repair}
+use Rattle.image.proofs.Literals.{behaves_literal}
+use Rattle.image.proofs.Handing.{behaves_repair}
 
 -- ---- clauses that mean the same
 
-said_same : (c d : Clause) → ((w : List Period) → meaning d w ≡ meaning c w) → (t : Option (List Period)) → saidBy d t ≡ saidBy c t
+said_same : (c d : Clause) → ((w : List Period) → meaning d w ≡ meaning c w) → (t : Option (List Period)) → said_by d t ≡ said_by c t
 said_same c d e none = refl
 said_same c d e (some w) = rw (e w)
 
-behaves-same : {c d : Clause} {S K sat one two : Signal} → ((w : List Period) → meaning d w ≡ meaning c w)
+behaves_same : {c d : Clause} {S K sat one two : Signal} → ((w : List Period) → meaning d w ≡ meaning c w)
     → Behaves c S K sat one two → Behaves d S K sat one two
-behaves-same {c} {d} {S} {K} e b = record { says = λ h. rw (said_same c d e (thread S K h)) (b.says h) }
+behaves_same {c} {d} {S} {K} e b = record { says = λ h. rw (said_same c d e (thread S K h)) (b.says h) }
 
 -- ---- the reports of a duty and of a deadline
 
 -- a duty that waits is violated where it is missed
-missed-broken : (q : Party) (w t u : Bool)
-    → (w && not (t && u)) ≡ (isBroken party1 (literalReport (duty (only q)) w t u) || isBroken party2 (literalReport (duty (only q)) w t u))
-missed-broken q false t u = refl
-missed-broken q true true true = refl
-missed-broken q true true false = sym (someone-blamed (only (other q)))
-missed-broken q true false u = sym (someone-blamed (only q))
+missed_broken : (q : Party) (w t u : Bool)
+    → (w && not (t && u)) ≡ (is_broken party1 (literal_report (duty (only q)) w t u) || is_broken party2 (literal_report (duty (only q)) w t u))
+missed_broken q false t u = refl
+missed_broken q true true true = refl
+missed_broken q true true false = sym (someone_blamed (only (other q)))
+missed_broken q true false u = sym (someone_blamed (only q))
 
 -- a deadline is satisfied where it waits and both try, and so is a duty
-met-where : (q : Party) (w z t u : Bool) → isMet (literalReport (duty (only q)) (cond (t && u) w z) t u) ≡ (w && (t && u))
-met-where q true z true true = refl
-met-where q false z true true = refl
-met-where q w true true false = sym (and-false w)
-met-where q w false true false = sym (and-false w)
-met-where q w true false u = sym (and-false w)
-met-where q w false false u = sym (and-false w)
+met_where : (q : Party) (w z t u : Bool) → is_met (literal_report (duty (only q)) (cond (t && u) w z) t u) ≡ (w && (t && u))
+met_where q true z true true = refl
+met_where q false z true true = refl
+met_where q w true true false = sym (and-false w)
+met_where q w false true false = sym (and-false w)
+met_where q w true false u = sym (and-false w)
+met_where q w false false u = sym (and-false w)
 
-met-first : (q : Party) (w t u : Bool) → isMet (literalReport (duty (only q)) w t u) ≡ (w && (t && u))
-met-first q true true true = refl
-met-first q true true false = refl
-met-first q true false u = refl
-met-first q false t u = refl
+met_first : (q : Party) (w t u : Bool) → is_met (literal_report (duty (only q)) w t u) ≡ (w && (t && u))
+met_first q true true true = refl
+met_first q true true false = refl
+met_first q true false u = refl
+met_first q false t u = refl
 
 swap : (k m s : Bool) → (k && m && s) ≡ (k && s && m)
 swap false m s = refl
@@ -63,74 +63,74 @@ in_either false true m l s = refl
 in_either false false m l s = refl
 
 -- blame goes by the window's last period alone
-broken-last : (r q : Party) (x y z t u : Bool)
-    → isBroken r (literalReport (duty (only q)) (cond (t && u) x z) t u) ≡ isBroken r (literalReport (duty (only q)) (cond (t && u) y z) t u)
-broken-last r q x y z true true = unbroken r x ∙ sym (unbroken r y)
-broken-last r q x y z true false = refl
-broken-last r q x y z false u = refl
+broken_last : (r q : Party) (x y z t u : Bool)
+    → is_broken r (literal_report (duty (only q)) (cond (t && u) x z) t u) ≡ is_broken r (literal_report (duty (only q)) (cond (t && u) y z) t u)
+broken_last r q x y z true true = unbroken r x ∙ sym (unbroken r y)
+broken_last r q x y z true false = refl
+broken_last r q x y z false u = refl
 
 -- ---- of a window's periods at most one is now
 
 -- `older`: missed in an earlier period of the window. W: the duty waits in this period of it. G: the thread of this period on goes on.
 record Apart (K older W G : Signal) : Type 0 where
   goes : G ≐ λ p h. K p h && not (at older h)
-  not-both : (p : Period) (h : List Period) → older p h ≡ true → W p h ≡ false
-  older-on : (p : Period) (h : List Period) → older p h ≡ true → K p h ≡ true → at older h ≡ true
-  waits-on : (p : Period) (h : List Period) → W p h ≡ true → K p h ≡ true → at older h ≡ true
+  not_both : (p : Period) (h : List Period) → older p h ≡ true → W p h ≡ false
+  older_on : (p : Period) (h : List Period) → older p h ≡ true → K p h ≡ true → at older h ≡ true
+  waits_on : (p : Period) (h : List Period) → W p h ≡ true → K p h ≡ true → at older h ≡ true
 
-abbrev noSignal : Signal
-noSignal p h = false
+abbrev no_signal : Signal
+no_signal p h = false
 
-at_none : (h : List Period) → at noSignal h ≡ false
+at_none : (h : List Period) → at no_signal h ≡ false
 at_none [] = refl
 at_none (p ∷ h) = refl
 
-apart-first : {S K : Signal} → Exclusive S K → Apart K noSignal S K
-apart-first {S} {K} x = record {
+apart_first : {S K : Signal} → Exclusive S K → Apart K no_signal S K
+apart_first {S} {K} x = record {
   goes = λ p h. rw (at_none h) (sym (and-true (K p h)));
-  not-both = λ p h e. absurd (false≢true e);
-  older-on = λ p h e f. absurd (false≢true e);
-  waits-on = λ p h e f. absurd (false≢true (rw (e, f) at (sym (x.never_both p h))));
+  not_both = λ p h e. absurd (false≢true e);
+  older_on = λ p h e f. absurd (false≢true e);
+  waits_on = λ p h e f. absurd (false≢true (rw (e, f) at (sym (x.never_both p h))));
 }
 
 -- Handing over from one period to the next: where the duty waits next, which thread goes on, and what is older by then.
 module _ {K older W G missed : Signal} (x : Apart K older W G) (waiting : (p : Period) (h : List Period) → missed p h ≡ true → W p h ≡ true) where
-  not-older : (h : List Period) → at missed h ≡ true → at older h ≡ false
-  not-older [] e = refl
-  not-older (p ∷ h) e = each (older p h) refl
+  not_older : (h : List Period) → at missed h ≡ true → at older h ≡ false
+  not_older [] e = refl
+  not_older (p ∷ h) e = each (older p h) refl
     where
       each : (o : Bool) → older p h ≡ o → o ≡ false
       each false i = refl
-      each true i = absurd (false≢true (sym (x.not-both p h i) ∙ waiting p h e))
+      each true i = absurd (false≢true (sym (x.not_both p h i) ∙ waiting p h e))
 
   start_is : {start go : Signal} → HandsOver missed G start go → start ≐ λ p h. K p h && at missed h
   start_is w p h = w.starts p h ∙ rw (x.goes p h) (each (at missed h) refl)
     where
       each : (m : Bool) → at missed h ≡ m → (K p h && not (at older h) && m) ≡ (K p h && m)
-      each true e = rw (not-older h e) (and-true (K p h && true))
+      each true e = rw (not_older h e) (and-true (K p h && true))
       each false e = rw (and-false (K p h), and-false)
 
-  abbrev newlyOlder : Signal
-  newlyOlder p h = older p h || missed p h
+  abbrev newly_older : Signal
+  newly_older p h = older p h || missed p h
 
-  at-older : (h : List Period) → at newlyOlder h ≡ (at older h || at missed h)
-  at-older = at-or newlyOlder older missed (λ p h. refl)
+  at_older : (h : List Period) → at newly_older h ≡ (at older h || at missed h)
+  at_older = at_or newly_older older missed (λ p h. refl)
 
   -- nothing that was older goes on into a period in which the duty waits next
-  clash : (p : Period) (h : List Period) → newlyOlder p h ≡ true → K p h ≡ true → at older h ≡ true
+  clash : (p : Period) (h : List Period) → newly_older p h ≡ true → K p h ≡ true → at older h ≡ true
   clash p h e k = each (older p h) refl (missed p h) refl e
     where
       each : (o : Bool) → older p h ≡ o → (m : Bool) → missed p h ≡ m → (o || m) ≡ true → at older h ≡ true
-      each true i m j e = x.older-on p h i k
-      each false i true j e = x.waits-on p h (waiting p h j) k
+      each true i m j e = x.older_on p h i k
+      each false i true j e = x.waits_on p h (waiting p h j) k
       each false i false j e = absurd (false≢true e)
 
-  apart_next : {start go : Signal} → HandsOver missed G start go → Apart K newlyOlder start go
+  apart_next : {start go : Signal} → HandsOver missed G start go → Apart K newly_older start go
   apart_next w = record {
-    goes = λ p h. w.goes p h ∙ rw (x.goes p h, at-older h) (neither (K p h) (at older h) (at missed h));
-    not-both = λ p h e. start_is w p h ∙ never p h (K p h) refl (at missed h) refl e;
-    older-on = λ p h e k. rw (at-older h, clash p h e k);
-    waits-on = λ p h e k. rw (at-older h, ((and-eq-true_iff (K p h) (at missed h)).0 (sym (start_is w p h) ∙ e)).1, or-true);
+    goes = λ p h. w.goes p h ∙ rw (x.goes p h, at_older h) (neither (K p h) (at older h) (at missed h));
+    not_both = λ p h e. start_is w p h ∙ never p h (K p h) refl (at missed h) refl e;
+    older_on = λ p h e k. rw (at_older h, clash p h e k);
+    waits_on = λ p h e k. rw (at_older h, ((and-eq-true_iff (K p h) (at missed h)).0 (sym (start_is w p h) ∙ e)).1, or-true);
   }
     where
       neither : (k o m : Bool) → (k && not o && not m) ≡ (k && not (o || m))
@@ -138,46 +138,46 @@ module _ {K older W G missed : Signal} (x : Apart K older W G) (waiting : (p : P
       neither true true m = refl
       neither true false m = refl
 
-      never : (p : Period) (h : List Period) (k : Bool) → K p h ≡ k → (m : Bool) → at missed h ≡ m → newlyOlder p h ≡ true → (k && m) ≡ false
+      never : (p : Period) (h : List Period) (k : Bool) → K p h ≡ k → (m : Bool) → at missed h ≡ m → newly_older p h ≡ true → (k && m) ≡ false
       never p h false i m j e = refl
       never p h true i false j e = refl
-      never p h true i true j e = absurd (false≢true (sym (not-older h j) ∙ clash p h e i))
+      never p h true i true j e = absurd (false≢true (sym (not_older h j) ∙ clash p h e i))
 
 -- ---- the window
 
 module _ (q : Party) (a : ℕ) where
   abbrev DeadlineSays : (waits last sat one two : Signal) → Type 0
   DeadlineSays waits last sat one two =
-      (p : Period) (h : List Period) → Says (sat p h) (one p h) (two p h) (deadlineReport q a (waits p h) (last p h) p)
+      (p : Period) (h : List Period) → Says (sat p h) (one p h) (two p h) (deadline_report q a (waits p h) (last p h) p)
 
   -- the duty is missed where it waits and not both try
   abbrev Misses : (W missed : Signal) → Type 0
   Misses W missed = missed ≐ λ p h. W p h && not (succeeds p a)
 
   -- one period is left: a plain duty
-  behaves-last : (K : Signal) {W G missed earlier last sat one two : Signal} → Misses W missed → (earlier ≐ λ p h. false) → (last ≐ missed)
+  behaves_last : (K : Signal) {W G missed earlier last sat one two : Signal} → Misses W missed → (earlier ≐ λ p h. false) → (last ≐ missed)
       → DeadlineSays (λ p h. W p h || K p h && earlier p h) last sat one two → Behaves (literal (duty (only q)) a) W G sat one two
-  behaves-last K {W} m e l s = behaves-literal λ p h. rw (e p h, l p h, m p h, one-period (W p h) (K p h) (succeeds p a)) at (s p h)
+  behaves_last K {W} m e l s = behaves_literal λ p h. rw (e p h, l p h, m p h, one_period (W p h) (K p h) (succeeds p a)) at (s p h)
     where
-      one-period : (w k t : Bool) → cond t (w || k && false) (w && not t) ≡ w
-      one-period true k true = refl
-      one-period true k false = refl
-      one-period false true true = refl
-      one-period false false true = refl
-      one-period false k false = refl
+      one_period : (w k t : Bool) → cond t (w || k && false) (w && not t) ≡ w
+      one_period true k true = refl
+      one_period true k false = refl
+      one_period false true true = refl
+      one_period false false true = refl
+      one_period false k false = refl
 
-  behaves-window : (n : ℕ) {K older W G missed earlier last sat one two : Signal} → Apart K older W G → Exclusive W G → Misses W missed
+  behaves_window : (n : ℕ) {K older W G missed earlier last sat one two : Signal} → Apart K older W G → Exclusive W G → Misses W missed
       → Window a K n missed earlier last → DeadlineSays (λ p h. W p h || K p h && earlier p h) last sat one two
       → Behaves (deadline q a (suc n)) W G sat one two
   unfolding EmptyFree
-  behaves-window zero {K} x y m (at_last e l) s = behaves-same (deadline-one q a) (behaves-last K m e l s)
-  behaves-window (suc n) {K} {W = W} {G} {missed} {earlier} {last} {sat} {one} {two} x y m (more {next = next} {later = later} i w e) s =
-      behaves-same (deadline-more q a n)
-      (behaves-repair (tt, tt) y (behaves-literal {S = W} {K = G} λ p h. exactly (literalReport (duty (only q)) (W p h) (tries p q a) (tries p (other q) a)))
-      (λ p h. m p h ∙ rw (by-party q p a) (missed-broken q (W p h) (tries p q a) (tries p (other q) a)))
+  behaves_window zero {K} x y m (at_last e l) s = behaves_same (deadline_one q a) (behaves_last K m e l s)
+  behaves_window (suc n) {K} {W = W} {G} {missed} {earlier} {last} {sat} {one} {two} x y m (more {next = next} {later = later} i w e) s =
+      behaves_same (deadline_more q a n)
+      (behaves_repair (tt, tt) y (behaves_literal {S = W} {K = G} λ p h. exactly (literal_report (duty (only q)) (W p h) (tries p q a) (tries p (other q) a)))
+      (λ p h. m p h ∙ rw (by_party q p a) (missed_broken q (W p h) (tries p q a) (tries p (other q) a)))
       hands
-      (behaves-window n (apart_next x waiting hands) (exclusive-hands-over hands) next-missed w rest-says)
-      sat-or)
+      (behaves_window n (apart_next x waiting hands) (exclusive_hands_over hands) next_missed w rest_says)
+      sat_or)
     where
       waiting : (p : Period) (h : List Period) → missed p h ≡ true → W p h ≡ true
       waiting p h i = ((and-eq-true_iff (W p h) (not (succeeds p a))).0 (sym (m p h) ∙ i)).0
@@ -191,37 +191,37 @@ module _ (q : Party) (a : ℕ) where
       hands : HandsOver missed G start go
       hands = record { starts = λ p h. refl; goes = λ p h. refl }
 
-      next-missed : Misses start next
-      next-missed p h = i p h ∙ sym (rw (start_is x waiting hands p h) (swap (K p h) (at missed h) (not (succeeds p a))))
+      next_missed : Misses start next
+      next_missed p h = i p h ∙ sym (rw (start_is x waiting hands p h) (swap (K p h) (at missed h) (not (succeeds p a))))
 
       rest : Period → List Period → Report
-      rest p h = deadlineReport q a (start p h || K p h && later p h) (last p h) p
+      rest p h = deadline_report q a (start p h || K p h && later p h) (last p h) p
 
       blamed : (r : Party) (p : Period) (h : List Period)
-          → isBroken r (deadlineReport q a (W p h || K p h && earlier p h) (last p h) p) ≡ isBroken r (rest p h)
-      blamed r p h = rw (by-party q p a) (broken-last r q _ _ (last p h) (tries p q a) (tries p (other q) a))
+          → is_broken r (deadline_report q a (W p h || K p h && earlier p h) (last p h) p) ≡ is_broken r (rest p h)
+      blamed r p h = rw (by_party q p a) (broken_last r q _ _ (last p h) (tries p q a) (tries p (other q) a))
 
-      rest-says : DeadlineSays (λ p h. start p h || K p h && later p h) last (λ p h. isMet (rest p h)) one two
-      rest-says p h = record { sat-is = refl; one-is = (s p h).one-is ∙ blamed party1 p h; two_is = (s p h).two_is ∙ blamed party2 p h }
+      rest_says : DeadlineSays (λ p h. start p h || K p h && later p h) last (λ p h. is_met (rest p h)) one two
+      rest_says p h = record { sat_is = refl; one_is = (s p h).one_is ∙ blamed party1 p h; two_is = (s p h).two_is ∙ blamed party2 p h }
 
-      sat-or : sat ≐ λ p h. isMet (literalReport (duty (only q)) (W p h) (tries p q a) (tries p (other q) a)) || isMet (rest p h)
-      sat-or p h =
+      sat_or : sat ≐ λ p h. is_met (literal_report (duty (only q)) (W p h) (tries p q a) (tries p (other q) a)) || is_met (rest p h)
+      sat_or p h =
           let t = tries p q a in
           let u = tries p (other q) a in
-          (s p h).sat-is
+          (s p h).sat_is
           ∙ rw (
             e p h,
             start_is x waiting hands p h,
-            by-party q p a,
-            met-first q (W p h) t u,
-            met-where q (W p h || K p h && (at missed h || later p h)) (last p h) t u,
-            met-where q (K p h && at missed h || K p h && later p h) (last p h) t u,
+            by_party q p a,
+            met_first q (W p h) t u,
+            met_where q (W p h || K p h && (at missed h || later p h)) (last p h) t u,
+            met_where q (K p h && at missed h || K p h && later p h) (last p h) t u,
           ) (in_either (W p h) (K p h) (at missed h) (later p h) (t && u))
 
-  pub behaves-deadline : (d : ℕ) {S K missed earlier last sat one two : Signal} → Exclusive S K → Misses S missed
+  pub behaves_deadline : (d : ℕ) {S K missed earlier last sat one two : Signal} → Exclusive S K → Misses S missed
       → Window a K (d - 1) missed earlier last → DeadlineSays (λ p h. S p h || K p h && earlier p h) last sat one two
       → Behaves (deadline q a d) S K sat one two
-  behaves-deadline zero {K = K} x m (at_last e l) s = behaves-same (deadline-none q a) (behaves-last K m e l s)
-  behaves-deadline (suc n) x m w s =
+  behaves_deadline zero {K = K} x m (at_last e l) s = behaves_same (deadline_none q a) (behaves_last K m e l s)
+  behaves_deadline (suc n) x m w s =
       let e : suc n - 1 ≡ n = omega arith in
-      behaves-window n (apart-first x) x m (rw e at w) s
+      behaves_window n (apart_first x) x m (rw e at w) s

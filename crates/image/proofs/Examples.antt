@@ -2,82 +2,82 @@
 use mathlib.Core.Path.{refl}
 use Rattle.records.specs.Fields.{bytes, field, value}
 use Rattle.records.specs.Marks.{marked}
-use Rattle.records.specs.Refusals.{firstFailing}
-use Rattle.periods.specs.Forms.{eitherMark}
-use Rattle.periods.specs.Periods.{tries, bit, periodFrom}
-use Rattle.periods.specs.Traces.{wholePeriods, periodAt, periodsOf, markedAt, marksTest, formOf, formTest, startTest, periodTest}
+use Rattle.records.specs.Refusals.{first_failing}
+use Rattle.periods.specs.Forms.{either_mark}
+use Rattle.periods.specs.Periods.{tries, bit, period_from}
+use Rattle.periods.specs.Traces.{whole_periods, period_at, periods_of, marked_at, marks_test, form_of, form_test, start_test, period_test}
 use Rattle.layout.specs.Rows.{row_of, encode, decode}
-use Rattle.layout.specs.Images.{imageBytes, rowsBytes, endBytes, rowCount, rows_of, image_of, goodImageLength, goodRowAt, goodEnd}
-use Rattle.layout.specs.Refusals.{imageTest}
-use Rattle.states.specs.States.{state_of, stateBytes, sound, allAtMost, allZero}
-use Rattle.states.specs.Refusals.{stateTest, countTest}
-use Rattle.machine.specs.Machine.{afterPeriod, afterPeriods, computed, counted, valuesAfter, newValues}
-use Rattle.calls.specs.Reading.{stateAfterRecords, recordsRead}
-use Rattle.calls.specs.Refusals.{beginTest, readyTest, stepTest, unreadTest, decideTest}
-use Rattle.records.specs.Replies.{fieldsBytes, call}
+use Rattle.layout.specs.Images.{image_bytes, rows_bytes, end_bytes, row_count, rows_of, image_of, good_image_length, good_row_at, good_end}
+use Rattle.layout.specs.Refusals.{image_test}
+use Rattle.states.specs.States.{state_of, state_bytes, sound, all_at_most, all_zero}
+use Rattle.states.specs.Refusals.{state_test, count_test}
+use Rattle.machine.specs.Machine.{after_period, after_periods, computed, counted, values_after, new_values}
+use Rattle.calls.specs.Reading.{state_after_records, records_read}
+use Rattle.calls.specs.Refusals.{begin_test, ready_test, step_test, unread_test, decide_test}
+use Rattle.records.specs.Replies.{fields_bytes, call}
 use Rattle.calls.specs.Calls.{begin, step, decide}
-use Rattle.contract.specs.Expressions.{holdsEmpty}
-use Rattle.grammar.specs.Table.{firstNumbered, kind_of}
-use Rattle.grammar.specs.Trees.{goodFields, node}
+use Rattle.contract.specs.Expressions.{holds_empty}
+use Rattle.grammar.specs.Table.{first_numbered, kind_of}
+use Rattle.grammar.specs.Trees.{good_fields, node}
 use Rattle.grammar.specs.Reader as Reader
-use Rattle.grammar.specs.Reader.{operandsOf, readRecord, readRecords, read}
-use Rattle.image.specs.Widths.{afterExpression, afterClause}
-use Rattle.image.specs.Blocks.{endRow, liveRow, expressionRows, outputsOf, windowRows, clauseRows}
-use Rattle.image.specs.Images.{rowsFor, image, imageFor}
-use Rattle.image.specs.Examples.{lines_from, lines, repliesFrom, repliesOn, replies, decidedReplies, KindVectors, StudentVectors, DeadlineVectors, JointVectors, EndingVectors, WatchVector, EarlierVectors, DecisionVectors, RowVectors, RoomVectors}
+use Rattle.grammar.specs.Reader.{operands_of, read_record, read_records, read}
+use Rattle.image.specs.Widths.{after_expression, after_clause}
+use Rattle.image.specs.Blocks.{end_row, live_row, expression_rows, outputs_of, window_rows, clause_rows}
+use Rattle.image.specs.Images.{rows_for, image, image_for}
+use Rattle.image.specs.Examples.{lines_from, lines, replies_from, replies_on, replies, decided_replies, KindVectors, StudentVectors, DeadlineVectors, JointVectors, EndingVectors, WatchVector, EarlierVectors, DecisionVectors, RowVectors, RoomVectors}
 
-pub student-vectors : StudentVectors
+pub student_vectors : StudentVectors
 unfolding
-    lines lines_from image rowsFor clauseRows expressionRows outputsOf endRow afterClause afterExpression state_of afterPeriod valuesAfter newValues
+    lines lines_from image rows_for clause_rows expression_rows outputs_of end_row after_clause after_expression state_of after_period values_after new_values
     computed counted tries bit field value
-student-vectors =
+student_vectors =
     record {
-      no-later-blame = refl;
+      no_later_blame = refl;
       no-living-half = refl;
-      no-living-clause = refl;
+      no_living_clause = refl;
       right-of-then = refl;
       right-of-repair = refl;
-      violation-first = refl;
+      violation_first = refl;
     }
 
-pub kind-vectors : KindVectors
+pub kind_vectors : KindVectors
 unfolding
-    lines lines_from image rowsFor clauseRows expressionRows outputsOf endRow liveRow holdsEmpty afterClause afterExpression state_of afterPeriod
-    valuesAfter newValues computed counted tries bit field value
-kind-vectors =
-    record { powers-and-duties = refl; accepted-second = refl; rejected-fails = refl; accepted-odd = refl }
+    lines lines_from image rows_for clause_rows expression_rows outputs_of end_row live_row holds_empty after_clause after_expression state_of after_period
+    values_after new_values computed counted tries bit field value
+kind_vectors =
+    record { powers_and_duties = refl; accepted-second = refl; rejected_fails = refl; accepted-odd = refl }
 
-pub deadline-vectors : DeadlineVectors
+pub deadline_vectors : DeadlineVectors
 unfolding
-    lines lines_from image rowsFor clauseRows windowRows expressionRows outputsOf endRow afterClause afterExpression state_of afterPeriod
-    valuesAfter newValues computed counted tries bit field value
-deadline-vectors =
+    lines lines_from image rows_for clause_rows window_rows expression_rows outputs_of end_row after_clause after_expression state_of after_period
+    values_after new_values computed counted tries bit field value
+deadline_vectors =
     record {
       missed-by-own = refl;
       missed-by-other = refl;
-      met-in-last = refl;
-      window-of-1 = refl;
-      window-of-15 = refl;
+      met_in_last = refl;
+      window_of_1 = refl;
+      window_of_15 = refl;
       no-life-after-success = refl;
       no-living-window = refl;
       no-living-success = refl;
     }
 
-pub joint-vectors : JointVectors
+pub joint_vectors : JointVectors
 unfolding
-    lines lines_from image rowsFor clauseRows outputsOf afterClause state_of afterPeriod valuesAfter newValues computed counted tries bit field value
-joint-vectors =
-    record { joint-alone = refl; joint-repeated = refl; joint-united = refl; joint-repaired = refl; joint-begun-later = refl }
+    lines lines_from image rows_for clause_rows outputs_of after_clause state_of after_period values_after new_values computed counted tries bit field value
+joint_vectors =
+    record { joint-alone = refl; joint-repeated = refl; joint_united = refl; joint_repaired = refl; joint_begun_later = refl }
 
-pub ending-vectors : EndingVectors
+pub ending_vectors : EndingVectors
 unfolding
-    lines lines_from image rowsFor clauseRows expressionRows outputsOf endRow liveRow holdsEmpty afterClause afterExpression state_of afterPeriod
-    valuesAfter newValues computed counted tries bit field value
-ending-vectors =
+    lines lines_from image rows_for clause_rows expression_rows outputs_of end_row live_row holds_empty after_clause after_expression state_of after_period
+    values_after new_values computed counted tries bit field value
+ending_vectors =
     record {
-      notice-in-2 = refl;
-      violated-at-acceptance = refl;
-      later-completes = refl;
+      notice_in_2 = refl;
+      violated_at_acceptance = refl;
+      later_completes = refl;
       ends-before-first = refl;
       not-of-last-round = refl;
       nothing-before-begun = refl;
@@ -85,30 +85,30 @@ ending-vectors =
       no-living-expression = refl;
     }
 
-pub watch-vector : WatchVector
+pub watch_vector : WatchVector
 unfolding
-    replies repliesOn repliesFrom decidedReplies decide decideTest unreadTest recordsRead stateAfterRecords periodsOf afterPeriods read Reader.goodContractLength Reader.contractRecords readRecords readRecord firstNumbered kind_of goodFields operandsOf node imageFor image
-    rowsFor clauseRows outputsOf afterClause imageBytes rowsBytes endBytes encode begin step call beginTest stepTest readyTest fieldsBytes
-    imageTest goodImageLength rowCount firstFailing goodRowAt goodEnd decode row_of image_of rows_of stateTest state_of stateBytes sound allAtMost allZero
-    periodTest formTest startTest marksTest eitherMark formOf wholePeriods markedAt countTest afterPeriod valuesAfter newValues computed counted periodAt periodFrom tries bit marked bytes field value
-watch-vector = record { replied = refl; replied-wide = refl; decided = refl; decided-wide = refl; upper-action = refl }
+    replies replies_on replies_from decided_replies decide decide_test unread_test records_read state_after_records periods_of after_periods read Reader.good_contract_length Reader.contract_records read_records read_record first_numbered kind_of good_fields operands_of node image_for image
+    rows_for clause_rows outputs_of after_clause image_bytes rows_bytes end_bytes encode begin step call begin_test step_test ready_test fields_bytes
+    image_test good_image_length row_count first_failing good_row_at good_end decode row_of image_of rows_of state_test state_of state_bytes sound all_at_most all_zero
+    period_test form_test start_test marks_test either_mark form_of whole_periods marked_at count_test after_period values_after new_values computed counted period_at period_from tries bit marked bytes field value
+watch_vector = record { replied = refl; replied-wide = refl; decided = refl; decided_wide = refl; upper_action = refl }
 
-pub earlier-vectors : EarlierVectors
+pub earlier_vectors : EarlierVectors
 unfolding
-    replies repliesOn repliesFrom decide decideTest unreadTest recordsRead stateAfterRecords periodsOf afterPeriods read Reader.goodContractLength Reader.contractRecords readRecords readRecord firstNumbered kind_of goodFields operandsOf node imageFor image
-    rowsFor clauseRows expressionRows outputsOf endRow holdsEmpty afterClause afterExpression imageBytes rowsBytes endBytes encode begin step call beginTest stepTest readyTest fieldsBytes
-    imageTest goodImageLength rowCount firstFailing goodRowAt goodEnd decode row_of image_of rows_of stateTest state_of stateBytes sound allAtMost allZero
-    periodTest formTest startTest marksTest eitherMark formOf wholePeriods markedAt countTest afterPeriod valuesAfter newValues computed counted periodAt periodFrom tries bit marked bytes field value
-earlier-vectors = record { earlier-answers = refl; earlier-decided = refl; answers-now = refl; decided-now = refl }
+    replies replies_on replies_from decide decide_test unread_test records_read state_after_records periods_of after_periods read Reader.good_contract_length Reader.contract_records read_records read_record first_numbered kind_of good_fields operands_of node image_for image
+    rows_for clause_rows expression_rows outputs_of end_row holds_empty after_clause after_expression image_bytes rows_bytes end_bytes encode begin step call begin_test step_test ready_test fields_bytes
+    image_test good_image_length row_count first_failing good_row_at good_end decode row_of image_of rows_of state_test state_of state_bytes sound all_at_most all_zero
+    period_test form_test start_test marks_test either_mark form_of whole_periods marked_at count_test after_period values_after new_values computed counted period_at period_from tries bit marked bytes field value
+earlier_vectors = record { earlier_answers = refl; earlier_decided = refl; answers_now = refl; decided_now = refl }
 
-pub decision-vectors : DecisionVectors
-decision-vectors = record { records = refl }
+pub decision_vectors : DecisionVectors
+decision_vectors = record { records = refl }
 
-pub row-vectors : RowVectors
+pub row_vectors : RowVectors
 unfolding
-    read Reader.goodContractLength Reader.contractRecords readRecords readRecord firstNumbered kind_of goodFields operandsOf node imageFor image
-    rowsFor clauseRows windowRows expressionRows outputsOf endRow holdsEmpty afterClause afterExpression imageBytes rowsBytes endBytes encode rowCount marked bytes field value
-row-vectors =
+    read Reader.good_contract_length Reader.contract_records read_records read_record first_numbered kind_of good_fields operands_of node image_for image
+    rows_for clause_rows window_rows expression_rows outputs_of end_row holds_empty after_clause after_expression image_bytes rows_bytes end_bytes encode row_count marked bytes field value
+row_vectors =
     record {
       rows-of-window-1 = refl;
       rows-of-window-3 = refl;
@@ -119,6 +119,6 @@ row-vectors =
       most-rows = refl;
     }
 
-pub room-vectors : RoomVectors
-unfolding Reader.contractRecords Reader.contractWindows Reader.windowsOf
-room-vectors = record { rows-for-64 = refl; bytes-for-1 = refl; bytes-for-64 = refl }
+pub room_vectors : RoomVectors
+unfolding Reader.contract_records Reader.contract_windows Reader.windows_of
+room_vectors = record { rows_for_64 = refl; bytes_for_1 = refl; bytes_for_64 = refl }

@@ -8,20 +8,20 @@ use mathlib.Core.Path.{◌≡◌, refl}
 use lib.ListN.{length, get_or}
 use borrow.Author.Tests.{lt-ltb}
 use Rattle.periods.specs.Limits.{actions}
-use Rattle.layout.specs.Rows.{Row, never, initial, attempt, negation, conjunction, disjunction, previous, Fits, namesRows}
+use Rattle.layout.specs.Rows.{Row, never, initial, attempt, negation, conjunction, disjunction, previous, Fits, names_rows}
 use Rattle.layout.proofs.ImageBytes.{Writable}
 use Rattle.contract.specs.Expressions.{any, tries, idle, succeeds, fails, Expression, atom, seq, or, star}
-use Rattle.contract.specs.Meaning.{only, bothParties, duty, ban, power, Clause, literal, deadline, both, then, repair, repeat, when, until}
-use Rattle.grammar.specs.Limits.{maxRecords}
+use Rattle.contract.specs.Meaning.{only, both_parties, duty, ban, power, Clause, literal, deadline, both, then, repair, repeat, when, until}
+use Rattle.grammar.specs.Limits.{max_records}
 use Rattle.grammar.specs.Table
 use Rattle.grammar.specs.Table.{Kind}
-use Rattle.grammar.specs.Spelling.{atomRecord, literalRecord, deadlineRecord, records, ExpressionInRange, InRange}
-use Rattle.grammar.proofs.Fields.{allowed-action}
+use Rattle.grammar.specs.Spelling.{atom_record, literal_record, deadline_record, records, ExpressionInRange, InRange}
+use Rattle.grammar.proofs.Fields.{allowed_action}
 use Rattle.grammar.proofs.WindowSum.{windows-max}
-use Rattle.image.specs.Widths.{width, never_row, periodRows, ◌⊹◌, afterWindow, inside, fixedRows, afterExpression, afterClause}
-use Rattle.image.specs.Blocks.{joinRow, endRow, expressionRows, outputsOf, windowRows, clauseRows}
-use Rattle.image.specs.Images.{rowsFor, image}
-use Rattle.image.proofs.Sizes.{after-window, after-clause, length-rowsFor, rows-max, inside-expression, inside-ifEmpty, inside-clause, inside-window, inside-two}
+use Rattle.image.specs.Widths.{width, never_row, period_rows, ◌⊹◌, after_window, inside, fixed_rows, after_expression, after_clause}
+use Rattle.image.specs.Blocks.{join_row, end_row, expression_rows, outputs_of, window_rows, clause_rows}
+use Rattle.image.specs.Images.{rows_for, image}
+use Rattle.image.proofs.Sizes.{after_window_lem, after_clause_lem, length-rows_for, rows_max, inside_expression, inside-if_empty, inside_clause, inside_window, inside_two}
 
 -- ---- good rows
 
@@ -35,35 +35,35 @@ GoodAt n k (conjunction x y) = (x < k) × (y < k)
 GoodAt n k (disjunction x y) = (x < k) × (y < k)
 GoodAt n k (previous x) = x < n
 
-good-fits : (n k : ℕ) → k < n → n ≤ 256 ^ 2 → (r : Row) → GoodAt n k r → Fits r
-good-fits n k h i never g = g
-good-fits n k h i initial g = g
-good-fits n k h i (attempt p a) g = g
-good-fits n k h i (negation x) g = omega arith
-good-fits n k h i (conjunction x y) g = omega arith
-good-fits n k h i (disjunction x y) g = omega arith
-good-fits n k h i (previous x) g = omega arith
+good_fits : (n k : ℕ) → k < n → n ≤ 256 ^ 2 → (r : Row) → GoodAt n k r → Fits r
+good_fits n k h i never g = g
+good_fits n k h i initial g = g
+good_fits n k h i (attempt p a) g = g
+good_fits n k h i (negation x) g = omega arith
+good_fits n k h i (conjunction x y) g = omega arith
+good_fits n k h i (disjunction x y) g = omega arith
+good_fits n k h i (previous x) g = omega arith
 
-good-names : (n k : ℕ) (r : Row) → GoodAt n k r → namesRows k n r ≡ true
-good-names n k never g = refl
-good-names n k initial g = refl
-good-names n k (attempt p a) g = refl
-good-names n k (negation x) g = lt-ltb x k g
-good-names n k (conjunction x y) g = rw (lt-ltb x k g.0, lt-ltb y k g.1)
-good-names n k (disjunction x y) g = rw (lt-ltb x k g.0, lt-ltb y k g.1)
-good-names n k (previous x) g = lt-ltb x n g
+good_names : (n k : ℕ) (r : Row) → GoodAt n k r → names_rows k n r ≡ true
+good_names n k never g = refl
+good_names n k initial g = refl
+good_names n k (attempt p a) g = refl
+good_names n k (negation x) g = lt-ltb x k g
+good_names n k (conjunction x y) g = rw (lt-ltb x k g.0, lt-ltb y k g.1)
+good_names n k (disjunction x y) g = rw (lt-ltb x k g.0, lt-ltb y k g.1)
+good_names n k (previous x) g = lt-ltb x n g
 
 -- the rows of a list are good, the first of them being row b
 data GoodFrom (n : ℕ) : (b : ℕ) → List Row → Type 0 where
   end : {b : ℕ} → GoodFrom n b []
   next : {b : ℕ} {r : Row} {rs : List Row} → GoodAt n b r → GoodFrom n (suc b) rs → GoodFrom n b (r ∷ rs)
 
-good-at : {n b : ℕ} {rs : List Row} → GoodFrom n b rs → (k : ℕ) → k < length rs → GoodAt n (b + k) (get_or rs k never)
-good-at end k h = absurd (omega arith)
-good-at (next g gs) zero h = rw add-zero g
-good-at {b = b} (next g gs) (suc k) h =
+good_at : {n b : ℕ} {rs : List Row} → GoodFrom n b rs → (k : ℕ) → k < length rs → GoodAt n (b + k) (get_or rs k never)
+good_at end k h = absurd (omega arith)
+good_at (next g gs) zero h = rw add-zero g
+good_at {b = b} (next g gs) (suc k) h =
     let e : b + suc k ≡ suc b + k = omega arith in
-    rw e (good-at gs k (omega arith))
+    rw e (good_at gs k (omega arith))
 
 -- the first m of them are, and those after these are
 abbrev First : (n b m : ℕ) → List Row → Type 0
@@ -95,115 +95,115 @@ record InPlace (n b S K after : ℕ) : Type 0 where
   ends : after ≤ n
 
 module _ (n : ℕ) where
-  good-expression : (e : Expression) {b S K : ℕ} {rest : List Row} → ExpressionInRange e → InPlace n b S K (afterExpression e b)
-      → GoodFrom n (afterExpression e b) rest → GoodFrom n b (expressionRows e b S K rest)
-  unfolding ExpressionInRange afterExpression endRow expressionRows
-  good-expression (atom any) i h g = g
-  good-expression (atom (tries p a)) i h g =
-      let j = allowed-action (atomRecord (tries p a)) i in
+  good_expression : (e : Expression) {b S K : ℕ} {rest : List Row} → ExpressionInRange e → InPlace n b S K (after_expression e b)
+      → GoodFrom n (after_expression e b) rest → GoodFrom n b (expression_rows e b S K rest)
+  unfolding ExpressionInRange after_expression end_row expression_rows
+  good_expression (atom any) i h g = g
+  good_expression (atom (tries p a)) i h g =
+      let j = allowed_action (atom_record (tries p a)) i in
       before Table.tries (omega arith) g
-  good-expression (atom (idle p a)) i h g =
-      let j = allowed-action (atomRecord (idle p a)) i in
+  good_expression (atom (idle p a)) i h g =
+      let j = allowed_action (atom_record (idle p a)) i in
       before Table.idle (omega arith) g
-  good-expression (atom (succeeds a)) i h g =
-      let j = allowed-action (atomRecord (succeeds a)) i in
+  good_expression (atom (succeeds a)) i h g =
+      let j = allowed_action (atom_record (succeeds a)) i in
       before Table.succeeds (omega arith) g
-  good-expression (atom (fails a)) i h g =
-      let j = allowed-action (atomRecord (fails a)) i in
+  good_expression (atom (fails a)) i h g =
+      let j = allowed_action (atom_record (fails a)) i in
       before Table.fails (omega arith) g
-  good-expression (seq l r) {b} {S} i h g =
-      let in_r = inside-expression r (inside Table.seq b) (joinRow b) (omega arith) in
-      let inL = inside-expression l (afterExpression r (inside Table.seq b)) S (omega arith) in
-      let whole = inside-ifEmpty l S b h.begins in
-      let ended = inside-ifEmpty r _ _ inL.end-inside in
-      before Table.seq (omega arith) (good-expression r i.1 (omega arith) (good-expression l i.0 (omega arith) (after Table.seq (omega arith) g)))
-  good-expression (or l r) {b} {S} i h g =
-      let in_r = inside-expression r (inside Table.or b) S h.begins in
-      let inL = inside-expression l (afterExpression r (inside Table.or b)) S (omega arith) in
-      good-expression r i.1 (omega arith) (good-expression l i.0 (omega arith) (after Table.or (omega arith) g))
-  good-expression (star e) {b} i h g =
-      let parts = inside-expression e (inside Table.star b) (joinRow b) (omega arith) in
-      before Table.star (omega arith) (good-expression e i (omega arith) (after Table.star (omega arith) g))
+  good_expression (seq l r) {b} {S} i h g =
+      let in_r = inside_expression r (inside Table.seq b) (join_row b) (omega arith) in
+      let in_l = inside_expression l (after_expression r (inside Table.seq b)) S (omega arith) in
+      let whole = inside-if_empty l S b h.begins in
+      let ended = inside-if_empty r _ _ in_l.end-inside in
+      before Table.seq (omega arith) (good_expression r i.1 (omega arith) (good_expression l i.0 (omega arith) (after Table.seq (omega arith) g)))
+  good_expression (or l r) {b} {S} i h g =
+      let in_r = inside_expression r (inside Table.or b) S h.begins in
+      let in_l = inside_expression l (after_expression r (inside Table.or b)) S (omega arith) in
+      good_expression r i.1 (omega arith) (good_expression l i.0 (omega arith) (after Table.or (omega arith) g))
+  good_expression (star e) {b} i h g =
+      let parts = inside_expression e (inside Table.star b) (join_row b) (omega arith) in
+      before Table.star (omega arith) (good_expression e i (omega arith) (after Table.star (omega arith) g))
 
-  good-window : (m : ℕ) {g e x c : ℕ} {rest : List Row} → (g < c) × (e < c) × (x < c) → afterWindow m c ≤ n
-      → GoodFrom n (afterWindow m c) rest → GoodFrom n c (windowRows m g e x c rest)
-  unfolding windowRows
-  good-window zero h i r = r
-  good-window (suc m) {c = c} h i r =
-      let l = after-window m (c ⊹ periodRows) in
-      first periodRows (omega arith) (good-window m (omega arith) i r)
+  good_window : (m : ℕ) {g e x c : ℕ} {rest : List Row} → (g < c) × (e < c) × (x < c) → after_window m c ≤ n
+      → GoodFrom n (after_window m c) rest → GoodFrom n c (window_rows m g e x c rest)
+  unfolding window_rows
+  good_window zero h i r = r
+  good_window (suc m) {c = c} h i r =
+      let l = after_window_lem m (c ⊹ period_rows) in
+      first period_rows (omega arith) (good_window m (omega arith) i r)
 
-  good-clause : (c : Clause) {b S K : ℕ} {rest : List Row} → InRange c → InPlace n b S K (afterClause c b)
-      → GoodFrom n (afterClause c b) rest → GoodFrom n b (clauseRows c b S K rest)
-  unfolding InRange afterClause outputsOf clauseRows
-  good-clause (literal (duty (only p)) a) i h g =
-      let j = allowed-action (literalRecord (duty (only p)) a) i in
+  good_clause : (c : Clause) {b S K : ℕ} {rest : List Row} → InRange c → InPlace n b S K (after_clause c b)
+      → GoodFrom n (after_clause c b) rest → GoodFrom n b (clause_rows c b S K rest)
+  unfolding InRange after_clause outputs_of clause_rows
+  good_clause (literal (duty (only p)) a) i h g =
+      let j = allowed_action (literal_record (duty (only p)) a) i in
       before Table.duty (omega arith) g
-  good-clause (literal (duty bothParties) a) i h g =
-      let j = allowed-action (literalRecord (duty bothParties) a) i in
+  good_clause (literal (duty both_parties) a) i h g =
+      let j = allowed_action (literal_record (duty both_parties) a) i in
       before Table.duty (omega arith) g
-  good-clause (literal (ban p) a) i h g =
-      let j = allowed-action (literalRecord (ban p) a) i in
+  good_clause (literal (ban p) a) i h g =
+      let j = allowed_action (literal_record (ban p) a) i in
       before Table.ban (omega arith) g
-  good-clause (literal (power p) a) i h g =
-      let j = allowed-action (literalRecord (power p) a) i in
+  good_clause (literal (power p) a) i h g =
+      let j = allowed_action (literal_record (power p) a) i in
       before Table.power (omega arith) g
-  good-clause (deadline p a d) {b} i h g =
-      let j = allowed-action (deadlineRecord p a d) i in
-      let l = after-window (d - 1) (inside Table.deadline b) in
-      let earlier = inside-window (d - 1) 1 never_row (inside Table.deadline b) (omega arith) (omega arith) in
-      let missed = inside-window (d - 1) 2 (b ⊹ 5) (inside Table.deadline b) (omega arith) (omega arith) in
-      before Table.deadline (omega arith) (good-window (d - 1) (omega arith) (omega arith) (after Table.deadline (omega arith) g))
-  good-clause (both l r) {b} i h g =
-      inside-two l r (inside Table.both b) (omega arith) (λ in_r inL.
-      before Table.both (omega arith) (good-clause r i.1 (omega arith) (good-clause l i.0 (omega arith) (after Table.both (omega arith) g))))
-  good-clause (then l r) {b} i h g =
-      inside-two l r (inside Table.then b) (omega arith) (λ in_r inL.
-      before Table.then (omega arith) (good-clause r i.1 (omega arith) (good-clause l i.0 (omega arith) (after Table.then (omega arith) g))))
-  good-clause (repair l r) {b} i h g =
-      inside-two l r (inside Table.repair b) (omega arith) (λ in_r inL.
-      before Table.repair (omega arith) (good-clause r i.1 (omega arith) (good-clause l i.0 (omega arith) (after Table.repair (omega arith) g))))
-  good-clause (repeat c) {b} i h g =
-      let parts = inside-clause c (inside Table.repeat b) (omega arith) in
-      before Table.repeat (omega arith) (good-clause c i (omega arith) g)
-  good-clause (when e c) {b} {S} i h g =
-      let in_r = inside-clause c (inside Table.when b) (omega arith) in
-      let inL = inside-expression e (afterClause c (inside Table.when b)) S (omega arith) in
-      before Table.when (omega arith) (good-clause c i.1 (omega arith) (good-expression e i.0 (omega arith) (after Table.when (omega arith) g)))
-  good-clause (until c e) {b} {S} i h g =
-      let in_r = inside-expression e (inside Table.until b) (b ⊹ 5) (omega arith) in
-      let inL = inside-clause c (afterExpression e (inside Table.until b)) (omega arith) in
+  good_clause (deadline p a d) {b} i h g =
+      let j = allowed_action (deadline_record p a d) i in
+      let l = after_window_lem (d - 1) (inside Table.deadline b) in
+      let earlier = inside_window (d - 1) 1 never_row (inside Table.deadline b) (omega arith) (omega arith) in
+      let missed = inside_window (d - 1) 2 (b ⊹ 5) (inside Table.deadline b) (omega arith) (omega arith) in
+      before Table.deadline (omega arith) (good_window (d - 1) (omega arith) (omega arith) (after Table.deadline (omega arith) g))
+  good_clause (both l r) {b} i h g =
+      inside_two l r (inside Table.both b) (omega arith) (λ in_r in_l.
+      before Table.both (omega arith) (good_clause r i.1 (omega arith) (good_clause l i.0 (omega arith) (after Table.both (omega arith) g))))
+  good_clause (then l r) {b} i h g =
+      inside_two l r (inside Table.then b) (omega arith) (λ in_r in_l.
+      before Table.then (omega arith) (good_clause r i.1 (omega arith) (good_clause l i.0 (omega arith) (after Table.then (omega arith) g))))
+  good_clause (repair l r) {b} i h g =
+      inside_two l r (inside Table.repair b) (omega arith) (λ in_r in_l.
+      before Table.repair (omega arith) (good_clause r i.1 (omega arith) (good_clause l i.0 (omega arith) (after Table.repair (omega arith) g))))
+  good_clause (repeat c) {b} i h g =
+      let parts = inside_clause c (inside Table.repeat b) (omega arith) in
+      before Table.repeat (omega arith) (good_clause c i (omega arith) g)
+  good_clause (when e c) {b} {S} i h g =
+      let in_r = inside_clause c (inside Table.when b) (omega arith) in
+      let in_l = inside_expression e (after_clause c (inside Table.when b)) S (omega arith) in
+      before Table.when (omega arith) (good_clause c i.1 (omega arith) (good_expression e i.0 (omega arith) (after Table.when (omega arith) g)))
+  good_clause (until c e) {b} {S} i h g =
+      let in_r = inside_expression e (inside Table.until b) (b ⊹ 5) (omega arith) in
+      let in_l = inside_clause c (after_expression e (inside Table.until b)) (omega arith) in
       before Table.until (omega arith)
-      (good-expression e {rest = clauseRows c (afterExpression e (inside Table.until b)) S (b ⊹ 2) _} i.1 (omega arith)
-      (good-clause c i.0 (omega arith) (after Table.until (omega arith) g)))
+      (good_expression e {rest = clause_rows c (after_expression e (inside Table.until b)) S (b ⊹ 2) _} i.1 (omega arith)
+      (good_clause c i.0 (omega arith) (after Table.until (omega arith) g)))
 
 -- ---- the image
 
 module _ (c : Clause) (i : InRange c) where
-  good-rows : GoodFrom (length (rowsFor c)) 0 (rowsFor c)
-  unfolding rowsFor
-  good-rows =
-      let l = length-rowsFor c in
-      let a = after-clause c fixedRows in
-      first fixedRows (omega arith) (good-clause _ c i (omega arith) end)
+  good_rows : GoodFrom (length (rows_for c)) 0 (rows_for c)
+  unfolding rows_for
+  good_rows =
+      let l = length-rows_for c in
+      let a = after_clause_lem c fixed_rows in
+      first fixed_rows (omega arith) (good_clause _ c i (omega arith) end)
 
-  each-good : (k : ℕ) → k < length (rowsFor c) → GoodAt (length (rowsFor c)) k (get_or (rowsFor c) k never)
-  each-good k h = rw zero-add at (good-at good-rows k h)
+  each_good : (k : ℕ) → k < length (rows_for c) → GoodAt (length (rows_for c)) k (get_or (rows_for c) k never)
+  each_good k h = rw zero-add at (good_at good_rows k h)
 
-  pub writable : records c ≤ maxRecords → Writable (image c)
+  pub writable : records c ≤ max_records → Writable (image c)
   unfolding image
   writable h =
-      let l = length-rowsFor c in
-      let m = rows-max c in
+      let l = length-rows_for c in
+      let m = rows_max c in
       let d = windows-max c i in
-      let a = after-clause c fixedRows in
-      let o = inside-clause c fixedRows (omega arith) in
+      let a = after_clause_lem c fixed_rows in
+      let o = inside_clause c fixed_rows (omega arith) in
       record {
-        some-rows = omega arith;
-        few-rows = omega arith;
-        fits = λ k j. good-fits (length (rowsFor c)) k j (omega arith) (get_or (rowsFor c) k never) (each-good k j);
-        names = λ k j. good-names (length (rowsFor c)) k (get_or (rowsFor c) k never) (each-good k j);
-        small-S = omega arith;
-        small-V1 = omega arith;
-        small-V2 = omega arith;
+        some_rows = omega arith;
+        few_rows = omega arith;
+        fits = λ k j. good_fits (length (rows_for c)) k j (omega arith) (get_or (rows_for c) k never) (each_good k j);
+        names = λ k j. good_names (length (rows_for c)) k (get_or (rows_for c) k never) (each_good k j);
+        small_S = omega arith;
+        small_V1 = omega arith;
+        small_V2 = omega arith;
       }

@@ -10,9 +10,9 @@ use borrow.Author.Tests.{le-ltb}
 use lib.Dec.{eqb, ltb}
 use lib.ListN.{length, take, length-append}
 use lib.Seq.{take-append_seam}
-use Rattle.records.proofs.Cases.{lt-or-le}
+use Rattle.records.proofs.Cases.{lt_or_le}
 use Rattle.periods.specs.Periods.{Period}
-use Rattle.contract.proofs.Readings.{Between, happenedBy}
+use Rattle.contract.proofs.Readings.{Between, happened_by}
 
 -- f is a period of the list at which something happens: none so far, or one that stays when the list grows
 pub record Once (f : List Period → Option ℕ) : Type 0 where
@@ -55,7 +55,7 @@ module _ {f : List Period → Option ℕ} (o : Once f) where
     where
       go : (r : Option ℕ) → f w ≡ r → Between (length w) r → Grown (length w) r (f (w ++ (p ∷ [])))
       go none e b = ⊎_elim (λ i. rw i waiting) (λ i. rw i happening) (o.only_now w p e)
-      go (some k) e b = rw (o.stays w p k e) (⊎_elim (λ l. past l) last (lt-or-le k (length w)))
+      go (some k) e b = rw (o.stays w p k e) (⊎_elim (λ l. past l) last (lt_or_le k (length w)))
         where
           last : length w ≤ k → Grown (length w) (some k) (some k)
           last l = let same : length w ≡ k = omega arith in subst (λ (j : ℕ). Grown (length w) (some j) (some j)) same just
@@ -64,12 +64,12 @@ module _ {f : List Period → Option ℕ} (o : Once f) where
   none_yet = between_none (f []) (o.between [])
 
   -- nothing is past in the first period
-  pub first-period : (p : Period) → (f (p ∷ []) ≡ none) ⊎ (f (p ∷ []) ≡ some 1)
-  first-period p = o.only_now [] p none_yet
+  pub first_period_lem : (p : Period) → (f (p ∷ []) ≡ none) ⊎ (f (p ∷ []) ≡ some 1)
+  first_period_lem p = o.only_now [] p none_yet
 
 -- ---- by the beginnings of a list
 
-still : (n : ℕ) (r : Option ℕ) (k : ℕ) → happenedBy n r ≡ some k → r ≡ some k
+still : (n : ℕ) (r : Option ℕ) (k : ℕ) → happened_by n r ≡ some k → r ≡ some k
 still n none k e = absurd (none-ne-some k e)
 still n (some j) k e = go (ltb n j) e
   where
@@ -77,12 +77,12 @@ still n (some j) k e = go (ltb n j) e
     go true e = absurd (none-ne-some k e)
     go false e = e
 
-newly : (n : ℕ) (r : Option ℕ) → Between (suc n) r → happenedBy n r ≡ none → (r ≡ none) ⊎ (r ≡ some (suc n))
+newly : (n : ℕ) (r : Option ℕ) → Between (suc n) r → happened_by n r ≡ none → (r ≡ none) ⊎ (r ≡ some (suc n))
 newly n none b e = inl refl
-newly n (some k) b e = ⊎_elim (λ l. inr (ap some (omega arith))) (λ l. absurd (some-ne-none k (rw (le-ltb n k l) at e))) (lt-or-le n k)
+newly n (some k) b e = ⊎_elim (λ l. inr (ap some (omega arith))) (λ l. absurd (some-ne-none k (rw (le-ltb n k l) at e))) (lt_or_le n k)
 
 -- something happens once if the first n periods show what of the whole list has happened by period n
-pub once_by : (f : List Period → Option ℕ) → ((n : ℕ) (w : List Period) → f (take n w) ≡ happenedBy n (f w)) → ((w : List Period) → Between (length w) (f w))
+pub once_by : (f : List Period → Option ℕ) → ((n : ℕ) (w : List Period) → f (take n w) ≡ happened_by n (f w)) → ((w : List Period) → Between (length w) (f w))
     → Once f
 once_by f beginnings bounded =
     record {
@@ -91,5 +91,5 @@ once_by f beginnings bounded =
       only_now = λ w p e. newly (length w) (f (w ++ (p ∷ []))) (rw (length-snoc w p) at (bounded (w ++ (p ∷ [])))) (sym (before w p) ∙ e);
     }
   where
-    before : (w : List Period) (p : Period) → f w ≡ happenedBy (length w) (f (w ++ (p ∷ [])))
+    before : (w : List Period) (p : Period) → f w ≡ happened_by (length w) (f (w ++ (p ∷ [])))
     before w p = rw (take-append_seam w (p ∷ [])) at (beginnings (length w) (w ++ (p ∷ [])))

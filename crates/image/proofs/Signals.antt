@@ -6,8 +6,8 @@ use mathlib.Core.List.{List, [], ◌∷◌}
 use mathlib.Core.Path.{◌≡◌, refl}
 use Rattle.periods.specs.Periods.{Party, party1, party2, other, Period, tries, succeeds}
 use Rattle.layout.specs.Rows.{Row, never, initial, attempt, negation, conjunction, disjunction, previous}
-use Rattle.contract.specs.Expressions.{Atom, holds, Expression, atom, seq, or, star, holdsEmpty}
-use Rattle.contract.specs.Meaning.{Parties, only, bothParties, Literal, duty, Clause, literal, deadline, both, then, repair, repeat, when, until, Decision, undecided, satisfied, violated, literalDecision, testedFirst}
+use Rattle.contract.specs.Expressions.{Atom, holds, Expression, atom, seq, or, star, holds_empty}
+use Rattle.contract.specs.Meaning.{Parties, only, both_parties, Literal, duty, Clause, literal, deadline, both, then, repair, repeat, when, until, Decision, undecided, satisfied, violated, literal_decision, tested_first}
 
 -- A signal has a value in each period: given the period and those before it, the latest first.
 abbrev pub Signal : Type 0
@@ -21,19 +21,19 @@ at x (p ∷ h) = x p h
 -- ---- rows
 
 -- no period was before
-abbrev pub isFirst : List Period → Bool
-isFirst [] = true
-isFirst (p ∷ h) = false
+abbrev pub is_first : List Period → Bool
+is_first [] = true
+is_first (p ∷ h) = false
 
 -- a row's value by the signals of the rows it names
-abbrev pub rowSignal : (ℕ → Signal) → Row → Signal
-rowSignal v never p h = false
-rowSignal v initial p h = isFirst h
-rowSignal v (attempt q a) p h = tries p q a
-rowSignal v (negation x) p h = not (v x p h)
-rowSignal v (conjunction x y) p h = v x p h && v y p h
-rowSignal v (disjunction x y) p h = v x p h || v y p h
-rowSignal v (previous x) p h = at (v x) h
+abbrev pub row_signal : (ℕ → Signal) → Row → Signal
+row_signal v never p h = false
+row_signal v initial p h = is_first h
+row_signal v (attempt q a) p h = tries p q a
+row_signal v (negation x) p h = not (v x p h)
+row_signal v (conjunction x y) p h = v x p h && v y p h
+row_signal v (disjunction x y) p h = v x p h || v y p h
+row_signal v (previous x) p h = at (v x) h
 
 -- two signals that are the same in every period
 infixl 10 ◌≐◌
@@ -41,14 +41,14 @@ abbrev pub ◌≐◌ : Signal → Signal → Type 0
 x ≐ y = (p : Period) (h : List Period) → x p h ≡ y p h
 
 -- an equation with `or` holds at the end of a history too
-pub at-or : (x y z : Signal) → (x ≐ λ p h. y p h || z p h) → (h : List Period) → at x h ≡ (at y h || at z h)
-at-or x y z e [] = refl
-at-or x y z e (p ∷ h) = e p h
+pub at_or : (x y z : Signal) → (x ≐ λ p h. y p h || z p h) → (h : List Period) → at x h ≡ (at y h || at z h)
+at_or x y z e [] = refl
+at_or x y z e (p ∷ h) = e p h
 
 -- the signals of the rows from row b on are those that the rows give
 abbrev pub Obeys : (ℕ → Signal) → ℕ → List Row → Type 0
 Obeys v b [] = Unit {0}
-Obeys v b (r ∷ rs) = (v b ≐ rowSignal v r) × Obeys v (suc b) rs
+Obeys v b (r ∷ rs) = (v b ≐ row_signal v r) × Obeys v (suc b) rs
 
 -- ---- what a decision says in the period in which it falls
 
@@ -56,41 +56,41 @@ pub data Report : Type 0 where
   nothing met : Report
   broken : Parties → Report
 
-abbrev pub isMet : Report → Bool
-isMet nothing = false
-isMet met = true
-isMet (broken b) = false
+abbrev pub is_met : Report → Bool
+is_met nothing = false
+is_met met = true
+is_met (broken b) = false
 
 abbrev pub blames : Party → Parties → Bool
 blames party1 (only party1) = true
 blames party1 (only party2) = false
 blames party2 (only party1) = false
 blames party2 (only party2) = true
-blames p bothParties = true
+blames p both_parties = true
 
-abbrev pub isBroken : Party → Report → Bool
-isBroken q nothing = false
-isBroken q met = false
-isBroken q (broken b) = blames q b
+abbrev pub is_broken : Party → Report → Bool
+is_broken q nothing = false
+is_broken q met = false
+is_broken q (broken b) = blames q b
 
 -- the kind of a decision, whatever its period
-abbrev pub reportOf : Decision → Report
-reportOf undecided = nothing
-reportOf (satisfied k) = met
-reportOf (violated k b) = broken b
+abbrev pub report_of : Decision → Report
+report_of undecided = nothing
+report_of (satisfied k) = met
+report_of (violated k b) = broken b
 
 -- what a literal says by whether it begins to read now, and by the two parties' attempts
-abbrev pub literalReport : Literal → (starts first second : Bool) → Report
-literalReport l s t u = cond s (reportOf (literalDecision l t u)) nothing
+abbrev pub literal_report : Literal → (starts first second : Bool) → Report
+literal_report l s t u = cond s (report_of (literal_decision l t u)) nothing
 
 -- three values say a report
 pub record Says (sat one two : Bool) (s : Report) : Type 0 where
-  pub sat-is : sat ≡ isMet s
-  pub one-is : one ≡ isBroken party1 s
-  pub two_is : two ≡ isBroken party2 s
+  pub sat_is : sat ≡ is_met s
+  pub one_is : one ≡ is_broken party1 s
+  pub two_is : two ≡ is_broken party2 s
 
-pub exactly : (s : Report) → Says (isMet s) (isBroken party1 s) (isBroken party2 s) s
-exactly s = record { sat-is = refl; one-is = refl; two_is = refl }
+pub exactly : (s : Report) → Says (is_met s) (is_broken party1 s) (is_broken party2 s) s
+exactly s = record { sat_is = refl; one_is = refl; two_is = refl }
 
 -- ---- the equations of each kind's block
 
@@ -125,93 +125,93 @@ pub data Window (a : ℕ) (K : Signal) : ℕ → (missed earlier last : Signal) 
       → Window a K (suc n) missed earlier last
 
 -- what a deadline says by whether it waits now, whether it is missed in the last period of its window, and by the two parties' attempts
-abbrev pub deadlineReport : Party → (action : ℕ) → (waits last : Bool) → Period → Report
-deadlineReport q a w z p = literalReport (duty (only q)) (cond (succeeds p a) w z) (tries p q a) (tries p (other q) a)
+abbrev pub deadline_report : Party → (action : ℕ) → (waits last : Bool) → Period → Report
+deadline_report q a w z p = literal_report (duty (only q)) (cond (succeeds p a) w z) (tries p q a) (tries p (other q) a)
 
 -- S where the expression holds the empty list
-abbrev pub whereEmpty : Expression → Signal → Signal
-whereEmpty e x p h = holdsEmpty e && x p h
+abbrev pub where_empty : Expression → Signal → Signal
+where_empty e x p h = holds_empty e && x p h
 
 -- the signals of an expression's block: begins to read, goes on; a list of the set ends, one that has begun may go on
 pub data WiredExpression : Expression → (S K end live : Signal) → Type 0 where
-  wired-atom : {a : Atom} {S K end live : Signal}
+  wired_atom : {a : Atom} {S K end live : Signal}
       → (end ≐ λ p h. S p h && holds a p)
       → (live ≐ λ p h. false)
       → WiredExpression (atom a) S K end live
-  wired-seq : {l r : Expression} {S K start end_l liveL endR liveR end live : Signal}
-      → WiredExpression l S K end_l liveL
-      → WiredExpression r start K endR liveR
-      → JoinsOn end_l (whereEmpty l S) K start
-      → (end ≐ λ p h. endR p h || whereEmpty r end_l p h)
-      → (live ≐ λ p h. liveL p h || liveR p h || end_l p h)
+  wired_seq : {l r : Expression} {S K start end_l live_l end_r live_r end live : Signal}
+      → WiredExpression l S K end_l live_l
+      → WiredExpression r start K end_r live_r
+      → JoinsOn end_l (where_empty l S) K start
+      → (end ≐ λ p h. end_r p h || where_empty r end_l p h)
+      → (live ≐ λ p h. live_l p h || live_r p h || end_l p h)
       → WiredExpression (seq l r) S K end live
-  wired-or : {l r : Expression} {S K end_l liveL endR liveR end live : Signal}
-      → WiredExpression l S K end_l liveL
-      → WiredExpression r S K endR liveR
-      → (end ≐ λ p h. end_l p h || endR p h)
-      → (live ≐ λ p h. liveL p h || liveR p h)
+  wired_or : {l r : Expression} {S K end_l live_l end_r live_r end live : Signal}
+      → WiredExpression l S K end_l live_l
+      → WiredExpression r S K end_r live_r
+      → (end ≐ λ p h. end_l p h || end_r p h)
+      → (live ≐ λ p h. live_l p h || live_r p h)
       → WiredExpression (or l r) S K end live
-  wired-star : {e : Expression} {S K start end liveE live : Signal}
-      → WiredExpression e start K end liveE
+  wired_star : {e : Expression} {S K start end live_e live : Signal}
+      → WiredExpression e start K end live_e
       → JoinsOn end S K start
-      → (live ≐ λ p h. liveE p h || end p h)
+      → (live ≐ λ p h. live_e p h || end p h)
       → WiredExpression (star e) S K end live
 
 -- the signals of a clause's block: begins to read, goes on; satisfied now, violated now with party 1, with party 2 to blame
 pub data WiredClause : Clause → (S K sat one two : Signal) → Type 0 where
-  wired-literal : {l : Literal} {a : ℕ} {S K sat one two : Signal}
+  wired_literal : {l : Literal} {a : ℕ} {S K sat one two : Signal}
       → ((p : Period) (h : List Period)
-      → Says (sat p h) (one p h) (two p h) (literalReport l (S p h) (tries p (testedFirst l) a) (tries p (other (testedFirst l)) a)))
+      → Says (sat p h) (one p h) (two p h) (literal_report l (S p h) (tries p (tested_first l) a) (tries p (other (tested_first l)) a)))
       → WiredClause (literal l a) S K sat one two
-  wired-deadline : {q : Party} {a d : ℕ} {S K missed earlier last sat one two : Signal}
+  wired_deadline : {q : Party} {a d : ℕ} {S K missed earlier last sat one two : Signal}
       → (missed ≐ λ p h. S p h && not (succeeds p a))
       → Window a K (d - 1) missed earlier last
       → ((p : Period) (h : List Period)
-      → Says (sat p h) (one p h) (two p h) (deadlineReport q a (S p h || K p h && earlier p h) (last p h) p))
+      → Says (sat p h) (one p h) (two p h) (deadline_report q a (S p h || K p h && earlier p h) (last p h) p))
       → WiredClause (deadline q a d) S K sat one two
-  wired-both : {l r : Clause} {S K go done satL oneL twoL satR oneR twoR metL metR sat one two : Signal}
+  wired_both : {l r : Clause} {S K go done sat_l one_l two_l sat_r one_r two_r met_l met_r sat one two : Signal}
       → UntilDone done K go
-      → WiredClause l S go satL oneL twoL
-      → WiredClause r S go satR oneR twoR
-      → Remembers satL go metL
-      → Remembers satR go metR
-      → (sat ≐ λ p h. metL p h && metR p h)
-      → (one ≐ λ p h. oneL p h || oneR p h)
-      → (two ≐ λ p h. twoL p h || twoR p h)
+      → WiredClause l S go sat_l one_l two_l
+      → WiredClause r S go sat_r one_r two_r
+      → Remembers sat_l go met_l
+      → Remembers sat_r go met_r
+      → (sat ≐ λ p h. met_l p h && met_r p h)
+      → (one ≐ λ p h. one_l p h || one_r p h)
+      → (two ≐ λ p h. two_l p h || two_r p h)
       → (done ≐ λ p h. sat p h || (one p h || two p h))
       → WiredClause (both l r) S K sat one two
-  wired-then : {l r : Clause} {S K start go satL oneL twoL satR oneR twoR one two : Signal}
-      → WiredClause l S K satL oneL twoL
-      → HandsOver satL K start go
-      → WiredClause r start go satR oneR twoR
-      → (one ≐ λ p h. oneL p h || oneR p h)
-      → (two ≐ λ p h. twoL p h || twoR p h)
-      → WiredClause (then l r) S K satR one two
-  wired-repair : {l r : Clause} {S K fired start go satL oneL twoL satR oneR twoR sat : Signal}
-      → WiredClause l S K satL oneL twoL
-      → (fired ≐ λ p h. oneL p h || twoL p h)
+  wired_then : {l r : Clause} {S K start go sat_l one_l two_l sat_r one_r two_r one two : Signal}
+      → WiredClause l S K sat_l one_l two_l
+      → HandsOver sat_l K start go
+      → WiredClause r start go sat_r one_r two_r
+      → (one ≐ λ p h. one_l p h || one_r p h)
+      → (two ≐ λ p h. two_l p h || two_r p h)
+      → WiredClause (then l r) S K sat_r one two
+  wired_repair : {l r : Clause} {S K fired start go sat_l one_l two_l sat_r one_r two_r sat : Signal}
+      → WiredClause l S K sat_l one_l two_l
+      → (fired ≐ λ p h. one_l p h || two_l p h)
       → HandsOver fired K start go
-      → WiredClause r start go satR oneR twoR
-      → (sat ≐ λ p h. satL p h || satR p h)
-      → WiredClause (repair l r) S K sat oneR twoR
-  wired-repeat : {c : Clause} {S K again start go satC one two sat : Signal}
-      → HandsOver satC K again go
+      → WiredClause r start go sat_r one_r two_r
+      → (sat ≐ λ p h. sat_l p h || sat_r p h)
+      → WiredClause (repair l r) S K sat one_r two_r
+  wired_repeat : {c : Clause} {S K again start go sat_c one two sat : Signal}
+      → HandsOver sat_c K again go
       → (start ≐ λ p h. S p h || again p h)
-      → WiredClause c start go satC one two
+      → WiredClause c start go sat_c one two
       → (sat ≐ λ p h. false)
       → WiredClause (repeat c) S K sat one two
-  wired-when : {e : Expression} {c : Clause} {S K start go end live reading satC one two sat : Signal}
+  wired_when : {e : Expression} {c : Clause} {S K start go end live reading sat_c one two sat : Signal}
       → WiredExpression e S go end live
       → HandsOver end K start go
-      → WiredClause c start go satC one two
+      → WiredClause c start go sat_c one two
       → (reading ≐ λ p h. S p h || (go p h && at live h))
-      → (sat ≐ λ p h. satC p h || (reading p h && not (end p h || live p h)))
+      → (sat ≐ λ p h. sat_c p h || (reading p h && not (end p h || live p h)))
       → WiredClause (when e c) S K sat one two
-  wired-until : {c : Clause} {e : Expression} {S K go done reads end live satC one two sat : Signal}
+  wired_until : {c : Clause} {e : Expression} {S K go done reads end live sat_c one two sat : Signal}
       → UntilDone done K go
       → Remembers S go reads
       → WiredExpression e reads go end live
-      → WiredClause c S go satC one two
-      → (sat ≐ λ p h. satC p h || (end p h && not (one p h || two p h)))
+      → WiredClause c S go sat_c one two
+      → (sat ≐ λ p h. sat_c p h || (end p h && not (one p h || two p h)))
       → (done ≐ λ p h. sat p h || (one p h || two p h))
       → WiredClause (until c e) S K sat one two

@@ -12,92 +12,92 @@ use borrow.Author.Tests.{lt-leb, le-leb}
 use lib.Dec.{leb}
 use lib.ListN.{length}
 use lib.Seq.{take_all, take-length}
-use Rattle.records.proofs.Cases.{lt-or-le}
+use Rattle.records.proofs.Cases.{lt_or_le}
 use Rattle.periods.specs.Periods.{party1, party2, Period}
-use Rattle.contract.specs.Expressions.{any, holds, Expression, atom, star, Holds, member, holdsEmpty}
+use Rattle.contract.specs.Expressions.{any, holds, Expression, atom, star, Holds, member, holds_empty}
 use Rattle.contract.specs.Readings.{ends, acceptance}
-use Rattle.contract.specs.Meaning.{Clause, until, Decision, undecided, satisfied, violated, untilMeaning, meaning, EmptyFree}
-use Rattle.contract.proofs.Expressions.{empty-iff}
-use Rattle.contract.proofs.Stretches.{ends-iff, acceptance-iff, unaccepted-iff, afterAny, member-after-any}
-use Rattle.contract.proofs.Meaning.{Within, decision-within}
-use Rattle.image.proofs.Signals.{Signal, at, ◌≐◌, nothing, met, broken, isMet, isBroken, reportOf, Says, exactly, UntilDone, JoinsOn, Remembers, whereEmpty, WiredExpression, wired-atom, wired-seq, wired-star}
+use Rattle.contract.specs.Meaning.{Clause, until, Decision, undecided, satisfied, violated, until_meaning, meaning, EmptyFree}
+use Rattle.contract.proofs.Expressions.{empty_iff}
+use Rattle.contract.proofs.Stretches.{ends_iff, acceptance_iff, unaccepted_iff, after_any, member_after_any}
+use Rattle.contract.proofs.Meaning.{Within, decision_within}
+use Rattle.image.proofs.Signals.{Signal, at, ◌≐◌, nothing, met, broken, is_met, is_broken, report_of, Says, exactly, UntilDone, JoinsOn, Remembers, where_empty, WiredExpression, wired_atom, wired_seq, wired_star}
 use Rattle.image.proofs.Once.{is_some}
 use Rattle.image.proofs.Threads.{thread}
-use Rattle.image.proofs.Reports.{decidedAt, saidBy, NotBefore, timely, someone-blamed}
+use Rattle.image.proofs.Reports.{decided_at, said_by, NotBefore, timely, someone_blamed}
 use Rattle.image.proofs.Behaviour.{Behaves}
-use Rattle.image.proofs.Expressions.{heldBy, ReadsAlone}
+use Rattle.image.proofs.Expressions.{held_by, ReadsAlone}
 use Rattle.image.proofs.Stopping.{Unfinished, stops}
 
 -- `reads`, in which e begins, is the end of a list of `star any` as well
-pub wired-after-any : {e : Expression} {S go reads end live : Signal} → ¬ Holds e [] → Remembers S go reads → WiredExpression e reads go end live
-    → WiredExpression (afterAny e) S go end (λ p h. reads p h || live p h || reads p h)
-unfolding holds holdsEmpty
-wired-after-any {e} {S} {go} {reads} {end} g r w = wired-seq {end = end} every w again only-there (λ p h. refl)
+pub wired_after_any : {e : Expression} {S go reads end live : Signal} → ¬ Holds e [] → Remembers S go reads → WiredExpression e reads go end live
+    → WiredExpression (after_any e) S go end (λ p h. reads p h || live p h || reads p h)
+unfolding holds holds_empty
+wired_after_any {e} {S} {go} {reads} {end} g r w = wired_seq {end = end} every w again only_there (λ p h. refl)
   where
     again : JoinsOn reads S go reads
     again = record { starts = r.stays }
 
     every : WiredExpression (star (atom any)) S go reads reads
-    every = wired-star {liveE = λ p h. false} (wired-atom (λ p h. sym (and-true (reads p h))) (λ p h. refl)) again (λ p h. refl)
+    every = wired_star {live_e = λ p h. false} (wired_atom (λ p h. sym (and-true (reads p h))) (λ p h. refl)) again (λ p h. refl)
 
     -- e doesn't hold the empty list
-    only-there : end ≐ λ p h. end p h || whereEmpty e reads p h
-    only-there p h = rw ((not-eq-not {b = false}).0 (λ t. g ((empty-iff e).0 t)), or-false (end p h))
+    only_there : end ≐ λ p h. end p h || where_empty e reads p h
+    only_there p h = rw ((not-eq-not {b = false}).0 (λ t. g ((empty_iff e).0 t)), or-false (end p h))
 
 -- an expression that was not accepted before the last period of a list is accepted there if some stretch to it is in the set
-accepted-there : (e : Expression) → ¬ Holds e [] → (w : List Period) → NotBefore (length w) (acceptance e w) → member (afterAny e) w ≡ is_some (acceptance e w)
-accepted-there e g w h = rw (member-after-any e g w) (go (acceptance e w) refl h)
+accepted_there : (e : Expression) → ¬ Holds e [] → (w : List Period) → NotBefore (length w) (acceptance e w) → member (after_any e) w ≡ is_some (acceptance e w)
+accepted_there e g w h = rw (member_after_any e g w) (go (acceptance e w) refl h)
   where
     go : (a : Option ℕ) → acceptance e w ≡ a → NotBefore (length w) a → ends e w ≡ is_some a
     go none i h =
         let n = le_refl (length w) in
-        (not-eq-not {b = false}).0 (λ t. (unaccepted-iff e w).0 i (length w) n ((ends-iff e w (length w) n).0 (rw (take-length w) t)))
-    go (some k) i h = let a = (acceptance-iff e w k).0 i in rw (take_all k w h) at ((ends-iff e w k a.within).1 a.held)
+        (not-eq-not {b = false}).0 (λ t. (unaccepted_iff e w).0 i (length w) n ((ends_iff e w (length w) n).0 (rw (take-length w) t)))
+    go (some k) i h = let a = (acceptance_iff e w k).0 i in rw (take_all k w h) at ((ends_iff e w k a.within).1 a.held)
 
 -- of a decision in period j and an acceptance in period k, the one that counts is the earlier
-neither-before : (n j k : ℕ) (d : Decision) → decidedAt d ≡ some j → NotBefore n (decidedAt (cond (leb j k) d (satisfied k))) → (n ≤ j) × (n ≤ k)
-neither-before n j k d e h = go (lt-or-le k j)
+neither_before : (n j k : ℕ) (d : Decision) → decided_at d ≡ some j → NotBefore n (decided_at (cond (leb j k) d (satisfied k))) → (n ≤ j) × (n ≤ k)
+neither_before n j k d e h = go (lt_or_le k j)
   where
     go : (k < j) ⊎ (j ≤ k) → (n ≤ j) × (n ≤ k)
     go (inl l) = let i : n ≤ k = rw (lt-leb j k l) at h in omega arith
     go (inr l) = let i : n ≤ j = rw (le-leb j k l, e) at h in omega arith
 
 -- where the whole has decided nothing before period n, the clause has not and the expression was not accepted before
-until-parts : (n : ℕ) (d : Decision) (a : Option ℕ) → NotBefore n (decidedAt (untilMeaning d a)) → NotBefore n (decidedAt d) × NotBefore n a
-until-parts n d none h = (h, tt)
-until-parts n undecided (some k) h = (tt, h)
-until-parts n (satisfied j) (some k) h = neither-before n j k (satisfied j) refl h
-until-parts n (violated j b) (some k) h = neither-before n j k (violated j b) refl h
+until_parts : (n : ℕ) (d : Decision) (a : Option ℕ) → NotBefore n (decided_at (until_meaning d a)) → NotBefore n (decided_at d) × NotBefore n a
+until_parts n d none h = (h, tt)
+until_parts n undecided (some k) h = (tt, h)
+until_parts n (satisfied j) (some k) h = neither_before n j k (satisfied j) refl h
+until_parts n (violated j b) (some k) h = neither_before n j k (violated j b) refl h
 
-until-report : (n : ℕ) (d : Decision) (a : Option ℕ) → Within n d → NotBefore n a
-    → Says (isMet (reportOf d) || (is_some a && not (isBroken party1 (reportOf d) || isBroken party2 (reportOf d))))
-    (isBroken party1 (reportOf d)) (isBroken party2 (reportOf d)) (reportOf (untilMeaning d a))
-until-report n d none p h = rw (or-false (isMet (reportOf d))) (exactly (reportOf d))
-until-report n undecided (some k) p h = exactly met
-until-report n (satisfied j) (some k) p h = rw (le-leb j k (omega arith)) (exactly met)
-until-report n (violated j b) (some k) p h = rw (le-leb j k (omega arith), someone-blamed b) (exactly (broken b))
+until_report : (n : ℕ) (d : Decision) (a : Option ℕ) → Within n d → NotBefore n a
+    → Says (is_met (report_of d) || (is_some a && not (is_broken party1 (report_of d) || is_broken party2 (report_of d))))
+    (is_broken party1 (report_of d)) (is_broken party2 (report_of d)) (report_of (until_meaning d a))
+until_report n d none p h = rw (or-false (is_met (report_of d))) (exactly (report_of d))
+until_report n undecided (some k) p h = exactly met
+until_report n (satisfied j) (some k) p h = rw (le-leb j k (omega arith)) (exactly met)
+until_report n (violated j b) (some k) p h = rw (le-leb j k (omega arith), someone_blamed b) (exactly (broken b))
 
-until-said : (c : Clause) (e : Expression) → EmptyFree (until c e) → (v : Option (List Period)) → Unfinished (until c e) v
-    → Says (isMet (saidBy c v) || (heldBy (afterAny e) v && not (isBroken party1 (saidBy c v) || isBroken party2 (saidBy c v))))
-    (isBroken party1 (saidBy c v)) (isBroken party2 (saidBy c v)) (saidBy (until c e) v)
+until_said : (c : Clause) (e : Expression) → EmptyFree (until c e) → (v : Option (List Period)) → Unfinished (until c e) v
+    → Says (is_met (said_by c v) || (held_by (after_any e) v && not (is_broken party1 (said_by c v) || is_broken party2 (said_by c v))))
+    (is_broken party1 (said_by c v)) (is_broken party2 (said_by c v)) (said_by (until c e) v)
 unfolding meaning EmptyFree
-until-said c e g none u = exactly nothing
-until-said c e g (some w) u =
+until_said c e g none u = exactly nothing
+until_said c e g (some w) u =
     let n = length w in
-    let p = decision-within c g.0 w in
-    let o = until-parts n (meaning c w) (acceptance e w) u in
+    let p = decision_within c g.0 w in
+    let o = until_parts n (meaning c w) (acceptance e w) u in
     rw (
       timely n (meaning c w) p o.0,
-      accepted-there e g.1 w o.1,
-      timely n (untilMeaning (meaning c w) (acceptance e w)) (decision-within (until c e) g w) u,
-    ) (until-report n (meaning c w) (acceptance e w) p o.1)
+      accepted_there e g.1 w o.1,
+      timely n (until_meaning (meaning c w) (acceptance e w)) (decision_within (until c e) g w) u,
+    ) (until_report n (meaning c w) (acceptance e w) p o.1)
 
-pub behaves-until : {c : Clause} {e : Expression} {S K go done end live satC one two sat : Signal}
-    → EmptyFree (until c e) → UntilDone done K go → ReadsAlone (afterAny e) S go end live → Behaves c S go satC one two
-    → (sat ≐ λ p h. satC p h || (end p h && not (one p h || two p h)))
+pub behaves_until : {c : Clause} {e : Expression} {S K go done end live sat_c one two sat : Signal}
+    → EmptyFree (until c e) → UntilDone done K go → ReadsAlone (after_any e) S go end live → Behaves c S go sat_c one two
+    → (sat ≐ λ p h. sat_c p h || (end p h && not (one p h || two p h)))
     → (done ≐ λ p h. sat p h || (one p h || two p h))
     → Behaves (until c e) S K sat one two
-behaves-until {c} {e} {S} {go = go} g u reader b sat-is done-is =
+behaves_until {c} {e} {S} {go = go} g u reader b sat_is done-is =
     stops g u done-is λ p h o.
     let s = b.says (p ∷ h) in
-    rw (sat-is p h, reader.ends (p ∷ h), s.sat-is, s.one-is, s.two_is) (until-said c e g (thread S go (p ∷ h)) o)
+    rw (sat_is p h, reader.ends (p ∷ h), s.sat_is, s.one_is, s.two_is) (until_said c e g (thread S go (p ∷ h)) o)

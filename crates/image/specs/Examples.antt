@@ -4,23 +4,23 @@
 -- (document 02, "Stop reading once it is decided").
 use Rattle.std.specs.Prelude.{ℕ, ◌+◌, List, [], ◌∷◌, ◌++◌, map, ◌≡◌, length, take, drop, replicate}
 use Rattle.records.specs.Examples.{area}
-use Rattle.records.specs.Verdicts.{Verdict, «open», met, met-after, broken, broken-after}
+use Rattle.records.specs.Verdicts.{Verdict, «open», met, met_after, broken, broken_after}
 use Rattle.periods.specs.Periods.{party1, party2, Period}
-use Rattle.periods.specs.Examples.{otherRecord}
-use Rattle.layout.specs.Images.{Image, rowCount}
+use Rattle.periods.specs.Examples.{other_record}
+use Rattle.layout.specs.Images.{Image, row_count}
 use Rattle.layout.specs.Examples.{row, end}
 use Rattle.states.specs.States.{State, state_of}
 use Rattle.states.specs.Verdicts.{verdict}
-use Rattle.machine.specs.Machine.{afterPeriod}
+use Rattle.machine.specs.Machine.{after_period}
 use Rattle.calls.specs.Calls.{begin, step, decide}
-use Rattle.calls.specs.Examples.{reply, decideReply}
+use Rattle.calls.specs.Examples.{reply, decide_reply}
 use Rattle.contract.specs.Expressions.{any, tries, idle, succeeds, fails, atom, seq, or, star}
 use Rattle.contract.specs.Meaning.{only, Clause, Decision, undecided, satisfied, violated, deadline, both, then, repair, repeat, when, until}
-use Rattle.contract.specs.Examples.{a, b, duty, joint, ban, power, a/a, a/-, -/a, -/-, ab/a, b/a, b/b, b/-, tries-a, tries-b, endless}
-use Rattle.grammar.specs.Examples.{six, sixWith, joined}
-use Rattle.image.specs.Limits.{allowedFor, bufferFor}
-use Rattle.image.specs.Images.{image, imageFor}
-use Rattle.image.specs.Monitors.{recordsFor}
+use Rattle.contract.specs.Examples.{a, b, duty, joint, ban, power, a/a, a/-, -/a, -/-, ab/a, b/a, b/b, b/-, tries_a, tries_b, endless}
+use Rattle.grammar.specs.Examples.{six, six_with, joined}
+use Rattle.image.specs.Limits.{allowed_for, buffer_for}
+use Rattle.image.specs.Images.{image, image_for}
+use Rattle.image.specs.Monitors.{records_for}
 
 -- verdict, blame and decision period
 abbrev pub Line : Type 0
@@ -30,7 +30,7 @@ Line = Verdict × ℕ × ℕ
 unfoldable pub lines_from : Image → State → List Period → List Line
 lines_from m s [] = []
 lines_from m s (x ∷ w) =
-    let t = afterPeriod m x s in
+    let t = after_period m x s in
     (verdict t, t.blame, t.decision) ∷ lines_from m t w
 
 -- on the image of a clause, begun with zeros
@@ -41,13 +41,13 @@ lines c w = lines_from (image c) (state_of (replicate (10 + length (image c).row
 
 pub record KindVectors : Type 0 where
   -- both violated in one period: the blames are united
-  pub powers-and-duties : lines (both (power party1 a) (duty party1 b)) (a/- ∷ []) ≡ (broken, 3, 1) ∷ []
+  pub powers_and_duties : lines (both (power party1 a) (duty party1 b)) (a/- ∷ []) ≡ (broken, 3, 1) ∷ []
   -- accepted in period 2, by the second of the two that may follow; party 1 is barred from b in period 3
   pub accepted-second :
       lines (when (seq (atom (idle party1 b)) (or (atom (tries party2 b)) (atom (succeeds a)))) (ban party1 b)) (a/- ∷ a/a ∷ b/b ∷ [])
       ≡ («open», 0, 0) ∷ («open», 0, 0) ∷ (broken, 1, 3) ∷ []
   -- a succeeds, so the expression is rejected
-  pub rejected-fails : lines (when (atom (fails a)) (duty party2 a)) (a/a ∷ []) ≡ (met, 0, 1) ∷ []
+  pub rejected_fails : lines (when (atom (fails a)) (duty party2 a)) (a/a ∷ []) ≡ (met, 0, 1) ∷ []
   -- accepted in the first odd period in which party 1 tries a
   pub accepted-odd :
       lines (when (seq (star (seq (atom any) (atom any))) (atom (tries party1 a))) (ban party1 b)) (-/- ∷ a/- ∷ a/- ∷ b/b ∷ [])
@@ -57,15 +57,15 @@ pub record KindVectors : Type 0 where
 
 pub record StudentVectors : Type 0 where
   -- party 2's later breach in the other half adds no blame (blame 3 in period 2)
-  pub no-later-blame :
+  pub no_later_blame :
       lines (both (duty party1 a) (then (ban party2 b) (duty party2 b))) (-/a ∷ b/- ∷ [])
-      ≡ (broken, 1, 1) ∷ (broken-after, 1, 1) ∷ []
+      ≡ (broken, 1, 1) ∷ (broken_after, 1, 1) ∷ []
   -- the half that bars b in period 2 dies with the whole in period 1, so the repair is not begun again in period 3 (broken there, blame 1)
   pub no-living-half :
       lines (repeat (repair (both (ban party1 a) (then (ban party1 b) (ban party2 b))) (then (ban party1 a) (ban party1 b)))) (a/a ∷ b/b ∷ a/a ∷ [])
       ≡ («open», 0, 0) ∷ («open», 0, 0) ∷ («open», 0, 0) ∷ []
   -- the clause that owes a in period 2 dies with the `until` that finished in period 1 (broken in 2, blame 2)
-  pub no-living-clause :
+  pub no_living_clause :
       lines (repeat (then (until (then (ban party1 a) (duty party2 a)) (atom (tries party1 b))) (ban party1 b))) (b/- ∷ -/- ∷ [])
       ≡ («open», 0, 0) ∷ («open», 0, 0) ∷ []
   -- party 1 owes b only from period 2 on (broken in 1, blame 1)
@@ -76,7 +76,7 @@ pub record StudentVectors : Type 0 where
       lines (repair (duty party1 a) (duty party1 b)) (-/- ∷ b/b ∷ [])
       ≡ («open», 0, 0) ∷ (met, 0, 2) ∷ []
   -- the violation in the accepting period counts, so it is repaired from period 2 on (met in 1)
-  pub violation-first :
+  pub violation_first :
       lines (repair (until (duty party1 a) (atom (tries party1 b))) (duty party2 a)) (b/a ∷ a/- ∷ [])
       ≡ («open», 0, 0) ∷ (broken, 2, 2) ∷ []
 
@@ -91,10 +91,10 @@ pub record DeadlineVectors : Type 0 where
       lines (deadline party2 a 3) (a/- ∷ -/- ∷ -/a ∷ [])
       ≡ («open», 0, 0) ∷ («open», 0, 0) ∷ (broken, 1, 3) ∷ []
   -- both try in no period before the last
-  pub met-in-last : lines (deadline party1 a 3) (a/- ∷ -/a ∷ a/a ∷ []) ≡ («open», 0, 0) ∷ («open», 0, 0) ∷ (met, 0, 3) ∷ []
+  pub met_in_last : lines (deadline party1 a 3) (a/- ∷ -/a ∷ a/a ∷ []) ≡ («open», 0, 0) ∷ («open», 0, 0) ∷ (met, 0, 3) ∷ []
   -- the least window and the greatest
-  pub window-of-1 : lines (deadline party1 a 1) (a/- ∷ []) ≡ (broken, 2, 1) ∷ []
-  pub window-of-15 : lines (deadline party2 a 15) (replicate 15 a/-) ≡ replicate 14 («open», 0, 0) ++ ((broken, 2, 15) ∷ [])
+  pub window_of_1 : lines (deadline party1 a 1) (a/- ∷ []) ≡ (broken, 2, 1) ∷ []
+  pub window_of_15 : lines (deadline party2 a 15) (replicate 15 a/-) ≡ replicate 14 («open», 0, 0) ++ ((broken, 2, 15) ∷ [])
   -- met in period 2, it is not missed in period 3, in which the other half goes on (broken there, blame 1)
   pub no-life-after-success :
       lines (both (deadline party1 a 3) (repeat (ban party1 b))) (-/- ∷ a/a ∷ -/- ∷ [])
@@ -118,125 +118,125 @@ pub record JointVectors : Type 0 where
   -- begun anew in each period, and told once (blame 3 from period 3 on)
   pub joint-repeated :
       lines (repeat (joint a)) (a/a ∷ a/- ∷ -/a ∷ [])
-      ≡ («open», 0, 0) ∷ (broken, 2, 2) ∷ (broken-after, 2, 2) ∷ []
+      ≡ («open», 0, 0) ∷ (broken, 2, 2) ∷ (broken_after, 2, 2) ∷ []
   -- united with the other half's blame, and repaired by a clause whose blame alone counts (blame 3 in 2)
-  pub joint-united : lines (both (power party1 b) (joint a)) (b/a ∷ []) ≡ (broken, 3, 1) ∷ []
-  pub joint-repaired : lines (repair (joint a) (duty party2 b)) (-/- ∷ -/- ∷ []) ≡ («open», 0, 0) ∷ (broken, 2, 2) ∷ []
+  pub joint_united : lines (both (power party1 b) (joint a)) (b/a ∷ []) ≡ (broken, 3, 1) ∷ []
+  pub joint_repaired : lines (repair (joint a) (duty party2 b)) (-/- ∷ -/- ∷ []) ≡ («open», 0, 0) ∷ (broken, 2, 2) ∷ []
   -- it says nothing before it begins to read in period 2 (broken in 1)
-  pub joint-begun-later : lines (then (ban party1 a) (joint a)) (-/- ∷ -/- ∷ []) ≡ («open», 0, 0) ∷ (broken, 3, 2) ∷ []
+  pub joint_begun_later : lines (then (ban party1 a) (joint a)) (-/- ∷ -/- ∷ []) ≡ («open», 0, 0) ∷ (broken, 3, 2) ∷ []
 
 -- ---- endings; what a wrong block would give stands in brackets
 
 pub record EndingVectors : Type 0 where
   -- accepted in period 2 (open there, from period 1 alone)
-  pub notice-in-2 : lines (until (repeat (duty party1 a)) tries-b) (a/a ∷ ab/a ∷ []) ≡ («open», 0, 0) ∷ (met, 0, 2) ∷ []
+  pub notice_in_2 : lines (until (repeat (duty party1 a)) tries_b) (a/a ∷ ab/a ∷ []) ≡ («open», 0, 0) ∷ (met, 0, 2) ∷ []
   -- the violation in the accepting period counts, so it is repaired from period 3 on (met in 2)
-  pub violated-at-acceptance :
-      lines (repair (until (repeat (duty party1 a)) tries-b) (duty party2 a)) (a/a ∷ b/a ∷ a/- ∷ [])
+  pub violated_at_acceptance :
+      lines (repair (until (repeat (duty party1 a)) tries_b) (duty party2 a)) (a/a ∷ b/a ∷ a/- ∷ [])
       ≡ («open», 0, 0) ∷ («open», 0, 0) ∷ (broken, 2, 3) ∷ []
   -- of two stretches that overlap the later one completes (open in 4)
-  pub later-completes :
-      lines (until endless (seq tries-a (seq tries-a tries-b))) (a/- ∷ a/- ∷ a/- ∷ b/- ∷ [])
+  pub later_completes :
+      lines (until endless (seq tries_a (seq tries_a tries_b))) (a/- ∷ a/- ∷ a/- ∷ b/- ∷ [])
       ≡ («open», 0, 0) ∷ («open», 0, 0) ∷ («open», 0, 0) ∷ (met, 0, 4) ∷ []
   -- the stretch from period 2 ends before that from period 1 (met in 4)
   pub ends-before-first :
-      lines (until endless (or (seq tries-a (seq (atom any) (seq (atom any) tries-b))) (seq tries-b tries-b))) (a/- ∷ b/- ∷ b/- ∷ b/- ∷ [])
-      ≡ («open», 0, 0) ∷ («open», 0, 0) ∷ (met, 0, 3) ∷ (met-after, 0, 3) ∷ []
+      lines (until endless (or (seq tries_a (seq (atom any) (seq (atom any) tries_b))) (seq tries_b tries_b))) (a/- ∷ b/- ∷ b/- ∷ b/- ∷ [])
+      ≡ («open», 0, 0) ∷ («open», 0, 0) ∷ (met, 0, 3) ∷ (met_after, 0, 3) ∷ []
   -- the stretch of periods 2 and 3 began in the last round, so b is owed in period 4 (broken there)
   pub not-of-last-round :
-      lines (repeat (until (then (duty party1 a) (duty party1 b)) (seq tries-b tries-a))) (a/a ∷ b/b ∷ a/a ∷ b/b ∷ [])
+      lines (repeat (until (then (duty party1 a) (duty party1 b)) (seq tries_b tries_a))) (a/a ∷ b/b ∷ a/a ∷ b/b ∷ [])
       ≡ replicate 4 («open», 0, 0)
   -- begun in period 3, it counts nothing that was tried in period 2: alone (met in 2), or as the beginning of a stretch (met in 3)
   pub nothing-before-begun :
-      lines (then (then (duty party1 a) (duty party1 a)) (until endless tries-b)) (a/a ∷ ab/a ∷ -/- ∷ b/- ∷ [])
+      lines (then (then (duty party1 a) (duty party1 a)) (until endless tries_b)) (a/a ∷ ab/a ∷ -/- ∷ b/- ∷ [])
       ≡ («open», 0, 0) ∷ («open», 0, 0) ∷ («open», 0, 0) ∷ (met, 0, 4) ∷ []
   pub not-from-before-begun :
-      lines (then (then (duty party1 a) (duty party1 a)) (until endless (seq tries-b tries-b))) (a/a ∷ ab/a ∷ b/- ∷ b/- ∷ [])
+      lines (then (then (duty party1 a) (duty party1 a)) (until endless (seq tries_b tries_b))) (a/a ∷ ab/a ∷ b/- ∷ b/- ∷ [])
       ≡ («open», 0, 0) ∷ («open», 0, 0) ∷ («open», 0, 0) ∷ (met, 0, 4) ∷ []
   -- accepted in period 1, it ends there with its expression: the stretch of periods 1 and 2 does not begin the right of `then` again (broken in 3)
   pub no-living-expression :
-      lines (then (until endless (or tries-b (seq tries-b tries-a))) (then (ban party1 b) (duty party1 b))) (b/- ∷ a/- ∷ b/b ∷ [])
+      lines (then (until endless (or tries_b (seq tries_b tries_a))) (then (ban party1 b) (duty party1 b))) (b/- ∷ a/- ∷ b/b ∷ [])
       ≡ («open», 0, 0) ∷ («open», 0, 0) ∷ (met, 0, 3) ∷ []
 
 -- ---- the contract and the periods of "Watch", byte for byte: its image, begin, and a step call for each period
 
-abbrev pub watchedBytes : List ℕ
-watchedBytes =
+abbrev pub watched_bytes : List ℕ
+watched_bytes =
     0x54 ∷ 0x43 ∷ 0x01 ∷ 0x01 ∷ 0x00 ∷ 0x00
     ∷ 0x54 ∷ 0x43 ∷ 0x01 ∷ 0x01 ∷ 0x01 ∷ 0x00
     ∷ 0x54 ∷ 0x43 ∷ 0x06 ∷ 0x00 ∷ 0x00 ∷ 0x00
     ∷ 0x54 ∷ 0x43 ∷ 0x07 ∷ 0x00 ∷ 0x00 ∷ 0x00 ∷ []
 
-abbrev pub watchedRecords : List (List ℕ)
-watchedRecords =
+abbrev pub watched_records : List (List ℕ)
+watched_records =
     (0x54 ∷ 0x50 ∷ 0x01 ∷ 0x00 ∷ 0x01 ∷ 0x00 ∷ [])
     ∷ (0x54 ∷ 0x50 ∷ 0x00 ∷ 0x00 ∷ 0x00 ∷ 0x00 ∷ [])
     ∷ (0x54 ∷ 0x50 ∷ 0x02 ∷ 0x00 ∷ 0x00 ∷ 0x00 ∷ [])
     ∷ (0x54 ∷ 0x50 ∷ 0x01 ∷ 0x00 ∷ 0x01 ∷ 0x00 ∷ []) ∷ []
 
 -- the same attempts in wide records
-abbrev pub watchedWide : List (List ℕ)
-watchedWide =
+abbrev pub watched_wide : List (List ℕ)
+watched_wide =
     (0x54 ∷ 0x51 ∷ 0x01 ∷ 0x00 ∷ 0x00 ∷ 0x00 ∷ 0x01 ∷ 0x00 ∷ 0x00 ∷ 0x00 ∷ [])
     ∷ (0x54 ∷ 0x51 ∷ 0x00 ∷ 0x00 ∷ 0x00 ∷ 0x00 ∷ 0x00 ∷ 0x00 ∷ 0x00 ∷ 0x00 ∷ [])
     ∷ (0x54 ∷ 0x51 ∷ 0x02 ∷ 0x00 ∷ 0x00 ∷ 0x00 ∷ 0x00 ∷ 0x00 ∷ 0x00 ∷ 0x00 ∷ [])
     ∷ (0x54 ∷ 0x51 ∷ 0x01 ∷ 0x00 ∷ 0x00 ∷ 0x00 ∷ 0x01 ∷ 0x00 ∷ 0x00 ∷ 0x00 ∷ []) ∷ []
 
 -- the replies of one step call after another
-unfoldable pub repliesFrom : (image state : List ℕ) → (records : List (List ℕ)) → List (List ℕ)
-repliesFrom image state [] = []
-repliesFrom image state (r ∷ rs) =
+unfoldable pub replies_from : (image state : List ℕ) → (records : List (List ℕ)) → List (List ℕ)
+replies_from image state [] = []
+replies_from image state (r ∷ rs) =
     let after = step image state r (area 24) in
-    after.reply ∷ repliesFrom image after.buffers rs
+    after.reply ∷ replies_from image after.buffers rs
 
 -- on an image, from begin on
-unfoldable pub repliesOn : (image : List ℕ) → (records : List (List ℕ)) → List (List ℕ)
-repliesOn image rs = repliesFrom image (begin image (area (10 + rowCount image)) (area 16)).buffers rs
+unfoldable pub replies_on : (image : List ℕ) → (records : List (List ℕ)) → List (List ℕ)
+replies_on image rs = replies_from image (begin image (area (10 + row_count image)) (area 16)).buffers rs
 
 unfoldable pub replies : (contract : List ℕ) → (records : List (List ℕ)) → List (List ℕ)
-replies contract rs = repliesOn (imageFor contract) rs
+replies contract rs = replies_on (image_for contract) rs
 
 -- decide's replies on the first records, 2 of them, 3 and all, and on all with a wrong mark in the last one
-unfoldable pub decidedReplies : (contract : List ℕ) → (records : List (List ℕ)) → List (List ℕ)
-decidedReplies contract rs =
-    map (λ (trace : List ℕ). (decide (imageFor contract) trace (area 32)).reply)
-    (joined (take 2 rs) ∷ joined (take 3 rs) ∷ joined rs ∷ (joined (take 3 rs) ++ otherRecord) ∷ [])
+unfoldable pub decided_replies : (contract : List ℕ) → (records : List (List ℕ)) → List (List ℕ)
+decided_replies contract rs =
+    map (λ (trace : List ℕ). (decide (image_for contract) trace (area 32)).reply)
+    (joined (take 2 rs) ∷ joined (take 3 rs) ∷ joined rs ∷ (joined (take 3 rs) ++ other_record) ∷ [])
 
 pub record WatchVector : Type 0 where
   -- number, verdict, place, blame, decision period
   pub replied :
-      replies watchedBytes watchedRecords
+      replies watched_bytes watched_records
       ≡ reply 0 0 0 0 0 ∷ reply 0 0 0 0 0 ∷ reply 0 2 0 2 3 ∷ reply 0 4 0 2 3 ∷ []
   -- in wide records, and in narrow ones and then wide ones
   pub replied-wide :
-      map (replies watchedBytes) (watchedWide ∷ (take 2 watchedRecords ++ drop 2 watchedWide) ∷ [])
+      map (replies watched_bytes) (watched_wide ∷ (take 2 watched_records ++ drop 2 watched_wide) ∷ [])
       ≡ replicate 2 (reply 0 0 0 0 0 ∷ reply 0 0 0 0 0 ∷ reply 0 2 0 2 3 ∷ reply 0 4 0 2 3 ∷ [])
   -- number, outcome, place, blame, decision period, records read
-  pub decided : decidedReplies watchedBytes watchedRecords ≡ decideReply 0 0 0 0 0 2 ∷ replicate 3 (decideReply 0 2 0 2 3 3)
-  pub decided-wide : (decide (imageFor watchedBytes) (joined watchedWide) (area 32)).reply ≡ decideReply 0 2 0 2 3 3
+  pub decided : decided_replies watched_bytes watched_records ≡ decide_reply 0 0 0 0 0 2 ∷ replicate 3 (decide_reply 0 2 0 2 3 3)
+  pub decided_wide : (decide (image_for watched_bytes) (joined watched_wide) (area 32)).reply ≡ decide_reply 0 2 0 2 3 3
   -- a duty of action 31: both parties try it; all that a narrow record can try
-  pub upper-action : map (replies (six 1 1 31)) (((0x54 ∷ 0x51 ∷ 0 ∷ 0 ∷ 0 ∷ 0x80 ∷ 0 ∷ 0 ∷ 0 ∷ 0x80 ∷ []) ∷ []) ∷ ((0x54 ∷ 0x50 ∷ replicate 4 0xff) ∷ []) ∷ [])
+  pub upper_action : map (replies (six 1 1 31)) (((0x54 ∷ 0x51 ∷ 0 ∷ 0 ∷ 0 ∷ 0x80 ∷ 0 ∷ 0 ∷ 0 ∷ 0x80 ∷ []) ∷ []) ∷ ((0x54 ∷ 0x50 ∷ replicate 4 0xff) ∷ []) ∷ [])
       ≡ (reply 0 1 0 0 1 ∷ []) ∷ (reply 0 2 0 1 1 ∷ []) ∷ []
 
 -- "the decision period, or the trace's record count when undecided", of 5 records
 pub record DecisionVectors : Type 0 where
-  pub records : map (λ (d : Decision). recordsFor d 5) (undecided ∷ satisfied 3 ∷ violated 4 (only party1) ∷ []) ≡ 5 ∷ 3 ∷ 4 ∷ []
+  pub records : map (λ (d : Decision). records_for d 5) (undecided ∷ satisfied 3 ∷ violated 4 (only party1) ∷ []) ≡ 5 ∷ 3 ∷ 4 ∷ []
 
 -- ---- an image that was compiled before endings could begin in any period: it goes on as it is
 
 -- until (repeat (duty 1 a), tries 1 b), and a/a, ab/a, -/-
-abbrev pub noticeBytes : List ℕ
-noticeBytes = joined (six 1 1 0 ∷ six 7 0 0 ∷ six 17 1 1 ∷ six 9 0 0 ∷ [])
+abbrev pub notice_bytes : List ℕ
+notice_bytes = joined (six 1 1 0 ∷ six 7 0 0 ∷ six 17 1 1 ∷ six 9 0 0 ∷ [])
 
-abbrev pub noticeRecords : List (List ℕ)
-noticeRecords =
+abbrev pub notice_records : List (List ℕ)
+notice_records =
     (0x54 ∷ 0x50 ∷ 0x01 ∷ 0x00 ∷ 0x01 ∷ 0x00 ∷ [])
     ∷ (0x54 ∷ 0x50 ∷ 0x03 ∷ 0x00 ∷ 0x01 ∷ 0x00 ∷ [])
     ∷ (0x54 ∷ 0x50 ∷ 0x00 ∷ 0x00 ∷ 0x00 ∷ 0x00 ∷ []) ∷ []
 
 -- the image that was compiled of it then: the expression's rows start with the `until` alone
-abbrev pub earlierImage : List ℕ
-earlierImage =
+abbrev pub earlier_image : List ℕ
+earlier_image =
     joined
     (row 0 0 0 ∷ row 1 0 0 ∷ row 3 1 0
     ∷ row 6 25 0 ∷ row 3 3 0 ∷ row 4 2 4
@@ -248,18 +248,18 @@ earlierImage =
 
 pub record EarlierVectors : Type 0 where
   -- as it answered: not accepted in period 1, it never is, and party 1 breaks the duty in period 3
-  pub earlier-answers : repliesOn earlierImage noticeRecords ≡ reply 0 0 0 0 0 ∷ reply 0 0 0 0 0 ∷ reply 0 2 0 1 3 ∷ []
-  pub earlier-decided : (decide earlierImage (joined noticeRecords) (area 32)).reply ≡ decideReply 0 2 0 1 3 3
+  pub earlier_answers : replies_on earlier_image notice_records ≡ reply 0 0 0 0 0 ∷ reply 0 0 0 0 0 ∷ reply 0 2 0 1 3 ∷ []
+  pub earlier_decided : (decide earlier_image (joined notice_records) (area 32)).reply ≡ decide_reply 0 2 0 1 3 3
   -- the image that is compiled now: met in period 2
-  pub answers-now : replies noticeBytes noticeRecords ≡ reply 0 0 0 0 0 ∷ reply 0 1 0 0 2 ∷ reply 0 3 0 0 2 ∷ []
-  pub decided-now : (decide (imageFor noticeBytes) (joined noticeRecords) (area 32)).reply ≡ decideReply 0 1 0 0 2 2
+  pub answers_now : replies notice_bytes notice_records ≡ reply 0 0 0 0 0 ∷ reply 0 1 0 0 2 ∷ reply 0 3 0 0 2 ∷ []
+  pub decided_now : (decide (image_for notice_bytes) (joined notice_records) (area 32)).reply ≡ decide_reply 0 1 0 0 2 2
 
 -- ---- the rows of deadlines, of joint duties and of `until`, and the room for rows
 
 pub record RowVectors : Type 0 where
   -- kind and fields of each row: the fixed rows, the deadline's six before its window's rows and six after them
   pub rows-of-window-1 :
-      imageFor (sixWith 10 1 0 1)
+      image_for (six_with 10 1 0 1)
       ≡ joined
       (row 0 0 0 ∷ row 1 0 0 ∷ row 3 1 0
       ∷ row 2 1 0 ∷ row 2 2 0 ∷ row 4 3 4 ∷ row 3 5 0 ∷ row 4 2 6 ∷ row 4 1 6
@@ -267,7 +267,7 @@ pub record RowVectors : Type 0 where
       ∷ end 11 13 14 ∷ [])
   -- of party 2, with three rows for each of periods 2 and 3
   pub rows-of-window-3 :
-      imageFor (sixWith 10 2 1 3)
+      image_for (six_with 10 2 1 3)
       ≡ joined
       (row 0 0 0 ∷ row 1 0 0 ∷ row 3 1 0
       ∷ row 2 2 1 ∷ row 2 1 1 ∷ row 4 3 4 ∷ row 3 5 0 ∷ row 4 2 6 ∷ row 4 1 6
@@ -277,21 +277,21 @@ pub record RowVectors : Type 0 where
       ∷ end 17 20 19 ∷ [])
   -- as many as party 1's duty has, of which the last differs: `row 4 1 9` for `row 4 5 9`
   pub rows-of-joint :
-      imageFor (six 1 3 2)
+      image_for (six 1 3 2)
       ≡ joined
       (row 0 0 0 ∷ row 1 0 0 ∷ row 3 1 0
       ∷ row 2 1 2 ∷ row 2 2 2 ∷ row 4 1 3 ∷ row 4 5 4 ∷ row 3 3 0 ∷ row 4 1 7 ∷ row 3 4 0 ∷ row 4 1 9
       ∷ end 6 8 10 ∷ [])
   -- party 2's duty, which tests party 2 first
   pub rows-of-duty-2 :
-      imageFor (six 1 2 2)
+      image_for (six 1 2 2)
       ≡ joined
       (row 0 0 0 ∷ row 1 0 0 ∷ row 3 1 0
       ∷ row 2 2 2 ∷ row 2 1 2 ∷ row 4 1 3 ∷ row 4 5 4 ∷ row 3 3 0 ∷ row 4 1 7 ∷ row 3 4 0 ∷ row 4 5 9
       ∷ end 6 10 8 ∷ [])
   -- rows 6 to 8 tell that the `until` reads, and the expression's rows 9 and 10 start with row 8 for row 1
   pub rows-of-until :
-      imageFor noticeBytes
+      image_for notice_bytes
       ≡ joined
       (row 0 0 0 ∷ row 1 0 0 ∷ row 3 1 0
       ∷ row 6 28 0 ∷ row 3 3 0 ∷ row 4 2 4 ∷ row 6 8 0 ∷ row 4 5 6 ∷ row 5 7 1
@@ -300,15 +300,15 @@ pub record RowVectors : Type 0 where
       ∷ row 2 1 0 ∷ row 2 2 0 ∷ row 4 15 16 ∷ row 4 18 17 ∷ row 3 16 0 ∷ row 4 15 20 ∷ row 3 17 0 ∷ row 4 18 22
       ∷ row 5 21 23 ∷ row 3 24 0 ∷ row 4 10 25 ∷ row 5 0 26 ∷ row 5 27 24
       ∷ end 27 21 23 ∷ [])
-  pub row_counts : map (λ (d : ℕ). rowCount (imageFor (sixWith 10 1 0 d))) (1 ∷ 2 ∷ 3 ∷ 15 ∷ []) ≡ 15 ∷ 18 ∷ 21 ∷ 57 ∷ []
+  pub row_counts : map (λ (d : ℕ). row_count (image_for (six_with 10 1 0 d))) (1 ∷ 2 ∷ 3 ∷ 15 ∷ []) ≡ 15 ∷ 18 ∷ 21 ∷ 57 ∷ []
   -- the most that 64 records have: 32 deadlines of 15 periods each, 31 times `both`, and `repeat`
   pub most-rows :
-      rowCount (imageFor (joined (replicate 32 (sixWith 10 1 0 15) ++ replicate 31 (six 4 0 0) ++ (six 7 0 0 ∷ [])))) ≡ 2170
+      row_count (image_for (joined (replicate 32 (six_with 10 1 0 15) ++ replicate 31 (six 4 0 0) ++ (six 7 0 0 ∷ [])))) ≡ 2170
 
 -- without windows, and with a window of 1 period or 64 of 15
 pub record RoomVectors : Type 0 where
   -- "1 to 2,112 rows"; "5,952 rows"
-  pub rows-for-64 : map allowedFor (joined (replicate 64 (six 1 1 0)) ∷ joined (replicate 64 (sixWith 10 1 0 15)) ∷ []) ≡ 2112 ∷ 5952 ∷ []
+  pub rows_for_64 : map allowed_for (joined (replicate 64 (six 1 1 0)) ∷ joined (replicate 64 (six_with 10 1 0 15)) ∷ []) ≡ 2112 ∷ 5952 ∷ []
   -- "A buffer of 776 bytes takes one record"; 8 × (32 + 65 + 4)
-  pub bytes-for-1 : map bufferFor (six 1 1 0 ∷ sixWith 10 1 0 1 ∷ []) ≡ 776 ∷ 808 ∷ []
-  pub bytes-for-64 : map bufferFor (joined (replicate 64 (six 1 1 0)) ∷ joined (replicate 64 (sixWith 10 1 0 15)) ∷ []) ≡ 16904 ∷ 47624 ∷ []
+  pub bytes_for_1 : map buffer_for (six 1 1 0 ∷ six_with 10 1 0 1 ∷ []) ≡ 776 ∷ 808 ∷ []
+  pub bytes_for_64 : map buffer_for (joined (replicate 64 (six 1 1 0)) ∷ joined (replicate 64 (six_with 10 1 0 15)) ∷ []) ≡ 16904 ∷ 47624 ∷ []

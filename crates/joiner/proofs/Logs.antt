@@ -9,60 +9,60 @@ use mathlib.Core.Path.{◌≡◌, refl}
 use borrow.Author.Tests.{lt-ltb, le-ltb, eq-eqb, ne_eqb}
 use lib.Dec.{eqb, ltb}
 use lib.ListN.{length}
-use Rattle.records.proofs.Cases.{lt-or-le}
-use Rattle.records.proofs.Searches.{all_pass, failing-is}
-use Rattle.joiner.specs.Logs.{logRecords, numberAt, attemptsAt, rises, recordWith, hasPeriod, attemptsIn, lastNumber}
+use Rattle.records.proofs.Cases.{lt_or_le}
+use Rattle.records.proofs.Searches.{all_pass, failing_is}
+use Rattle.joiner.specs.Logs.{log_records, number_at, attempts_at, rises, record_with, has_period, attempts_in, last_number}
 
 -- no more records than bytes
-pub few-records : (log : List ℕ) → logRecords log ≤ length log
-unfolding logRecords
-few-records log = omega arith
+pub few_records : (log : List ℕ) → log_records log ≤ length log
+unfolding log_records
+few_records log = omega arith
 
 -- the first record has none before it
-pub rises-first : (log : List ℕ) (k : ℕ) → k ≡ 0 → rises log k ≡ true
+pub rises_first : (log : List ℕ) (k : ℕ) → k ≡ 0 → rises log k ≡ true
 unfolding rises
-rises-first log k e = rw e
+rises_first log k e = rw e
 
-pub rises-later : (log : List ℕ) (k : ℕ) → ¬ (k ≡ 0) → rises log k ≡ ltb (numberAt log (k - 1)) (numberAt log k)
+pub rises-later : (log : List ℕ) (k : ℕ) → ¬ (k ≡ 0) → rises log k ≡ ltb (number_at log (k - 1)) (number_at log k)
 unfolding rises
 rises-later log zero h = absurd (h refl)
 rises-later log (suc k) h = let e : suc k - 1 ≡ k = omega arith in rw e
 
 -- what 14 and 15 show of the numbers of a log that passes them
 pub record RisingLog (log : List ℕ) : Type 0 where
-  pub from-1 : (k : ℕ) → k < logRecords log → 0 < numberAt log k
-  pub rising : (k : ℕ) → suc k < logRecords log → numberAt log k < numberAt log (suc k)
+  pub from_1 : (k : ℕ) → k < log_records log → 0 < number_at log k
+  pub rising : (k : ℕ) → suc k < log_records log → number_at log k < number_at log (suc k)
 
 -- a period that the log lacks
-pub lacks : (log : List ℕ) (p : ℕ) → ((k : ℕ) → k < logRecords log → ¬ (numberAt log k ≡ p)) → attemptsIn log p ≡ 0
-unfolding attemptsIn hasPeriod recordWith
+pub lacks : (log : List ℕ) (p : ℕ) → ((k : ℕ) → k < log_records log → ¬ (number_at log k ≡ p)) → attempts_in log p ≡ 0
+unfolding attempts_in has_period record_with
 lacks log p h =
-    let n = logRecords log in
-    rw (all_pass (λ (k : ℕ). not (eqb (numberAt log k) p)) n (λ i l. rw (ne_eqb (numberAt log i) p (h i l))), le-ltb n n (omega arith))
+    let n = log_records log in
+    rw (all_pass (λ (k : ℕ). not (eqb (number_at log k) p)) n (λ i l. rw (ne_eqb (number_at log i) p (h i l))), le-ltb n n (omega arith))
 
 module _ (log : List ℕ) (g : RisingLog log) where
   -- each number is above all before it
-  pub above : (i k : ℕ) → i < k → k < logRecords log → numberAt log i < numberAt log k
+  pub above : (i k : ℕ) → i < k → k < log_records log → number_at log i < number_at log k
   above i zero h l = absurd (omega arith)
   above i (suc k) h l =
       let r = g.rising k l in
-      ⊎_elim (λ (j : i < k). let a = above i k j (omega arith) in omega arith) (λ (j : k ≤ i). let e : i ≡ k = omega arith in rw e r) (lt-or-le i k)
+      ⊎_elim (λ (j : i < k). let a = above i k j (omega arith) in omega arith) (λ (j : k ≤ i). let e : i ≡ k = omega arith in rw e r) (lt_or_le i k)
 
   -- a period that the log has: record k's number is no other's
-  pub has : (k : ℕ) → k < logRecords log → attemptsIn log (numberAt log k) ≡ attemptsAt log k
-  unfolding attemptsIn hasPeriod recordWith
+  pub has : (k : ℕ) → k < log_records log → attempts_in log (number_at log k) ≡ attempts_at log k
+  unfolding attempts_in has_period record_with
   has k l =
-      let n = logRecords log in
-      let p = numberAt log k in
+      let n = log_records log in
+      let p = number_at log k in
       let found =
-      failing-is (λ (i : ℕ). not (eqb (numberAt log i) p)) n k l (λ i j. rw (ne_eqb (numberAt log i) p (λ e. let a = above i k j l in omega arith)))
+      failing_is (λ (i : ℕ). not (eqb (number_at log i) p)) n k l (λ i j. rw (ne_eqb (number_at log i) p (λ e. let a = above i k j l in omega arith)))
       (rw (eq-eqb p p refl)) in
       rw (found, lt-ltb k n l)
 
   -- and the last is not below any, so that no record is left out of the trace
-  pub reaches : (k : ℕ) → k < logRecords log → numberAt log k ≤ lastNumber log
-  unfolding lastNumber
+  pub reaches : (k : ℕ) → k < log_records log → number_at log k ≤ last_number log
+  unfolding last_number
   reaches k l =
-      let n = logRecords log in
+      let n = log_records log in
       rw (ne_eqb n 0 (λ e. omega arith))
-      (⊎_elim (λ (h : k < n - 1). let a = above k (n - 1) h (omega arith) in omega arith) (λ (h : n - 1 ≤ k). let e : k ≡ n - 1 = omega arith in rw e (omega arith)) (lt-or-le k (n - 1)))
+      (⊎_elim (λ (h : k < n - 1). let a = above k (n - 1) h (omega arith) in omega arith) (λ (h : n - 1 ≤ k). let e : k ≡ n - 1 = omega arith in rw e (omega arith)) (lt_or_le k (n - 1)))

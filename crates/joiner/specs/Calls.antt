@@ -3,10 +3,10 @@
 use Rattle.std.specs.Prelude.{ℕ, List}
 use Rattle.std.proofs.lemmas.List.Edits.{sets}
 use Rattle.records.specs.Replies.{alone, After, call}
-use Rattle.joiner.specs.Joined.{joinedCount, joinedTrace}
-use Rattle.joiner.specs.Refusals.{joinTest}
+use Rattle.joiner.specs.Joined.{joined_count, joined_trace}
+use Rattle.joiner.specs.Refusals.{join_test}
 
 -- "the call gives its record count, and bytes past it keep their values"
 unfoldable pub join : (log1 log2 trace reply : List ℕ) → After (List ℕ)
 join log1 log2 trace reply =
-    call (joinTest log1 log2 trace) (alone (joinedCount log1 log2)) trace (sets trace 0 (joinedTrace log1 log2)) reply
+    call (join_test log1 log2 trace) (alone (joined_count log1 log2)) trace (sets trace 0 (joined_trace log1 log2)) reply

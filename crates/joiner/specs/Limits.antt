@@ -2,16 +2,16 @@
 use Rattle.std.specs.Prelude.{ℕ}
 
 -- "A log record is 8 bytes"
-abbrev pub logRecordBytes : ℕ
-logRecordBytes = 8
+abbrev pub log_record_bytes : ℕ
+log_record_bytes = 8
 
 -- "a log of bad length (over 65,535 records too)"
-abbrev pub maxLogRecords : ℕ
-maxLogRecords = 65535
+abbrev pub max_log_records : ℕ
+max_log_records = 65535
 
 -- "with 65,536 added for log 2": the places of each log's first record
-abbrev pub log1Place : ℕ
-log1Place = 0
+abbrev pub log1_place : ℕ
+log1_place = 0
 
-abbrev pub log2Place : ℕ
-log2Place = 65536
+abbrev pub log2_place : ℕ
+log2_place = 65536

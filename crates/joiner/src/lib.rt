@@ -3,13 +3,13 @@ ghost use Rattle.std.specs.Prelude.{◌≡◌, ◌+◌, ◌*◌, ◌^◌, ◌<�
 ghost use Rattle.std.proofs.lemmas.List.Edits.{sets};
 ghost use Rattle.records.specs.declared.Test.TheVariants.{Passed};
 ghost use Rattle.records.specs.Fields.{bytes};
-ghost use Rattle.records.specs.Refusals.{firstFailing};
+ghost use Rattle.records.specs.Refusals.{first_failing};
 ghost use Rattle.records.specs.Replies.{Gives};
-ghost use Rattle.joiner.specs.Limits.{logRecordBytes, log2Place};
-ghost use Rattle.joiner.specs.Logs.{logRecords, numberAt, attemptsAt, goodRecord, rises, lastNumber};
-ghost use Rattle.joiner.specs.Joined.{joinedCount, joinedTrace};
-ghost use Rattle.joiner.specs.Refusals.{lengthTest, logTest, orderTest, logsTest, joinTest};
-ghost use Rattle.joiner.specs.Merging.{is_of, attemptsNext, recordNext};
+ghost use Rattle.joiner.specs.Limits.{log_record_bytes, log2_place};
+ghost use Rattle.joiner.specs.Logs.{log_records, number_at, attempts_at, good_record, rises, last_number};
+ghost use Rattle.joiner.specs.Joined.{joined_count, joined_trace};
+ghost use Rattle.joiner.specs.Refusals.{length_test, log_test, order_test, logs_test, join_test};
+ghost use Rattle.joiner.specs.Merging.{is_of, attempts_next, record_next};
 ghost use Rattle.joiner.specs.Calls.{join};
 
 use periods::Form;
@@ -32,46 +32,46 @@ const LOG_2_PLACE: usize = 65536;
 
 // How many there are.
 fn log_records(log: &[u8]) -> usize
-    ensures { result ≡ logRecords log.now }
+    ensures { result ≡ log_records log.now }
 {
     log.len() / LOG_RECORD_BYTES
 }
 
 // Where record k starts.
 fn record_start(log: &[u8], k: usize) -> usize
-    requires { k < logRecords log.now }
-    ensures { (result ≡ logRecordBytes * k) × (result + logRecordBytes ≤ length log.now) }
+    requires { k < log_records log.now }
+    ensures { (result ≡ log_record_bytes * k) × (result + log_record_bytes ≤ length log.now) }
 {
     LOG_RECORD_BYTES * k
 }
 
 // The period number of record k.
 fn number_at(log: &[u8], k: usize) -> u32
-    requires { k < logRecords log.now }
-    ensures { (result ≡ numberAt log.now k) × (result < 256 ^ 2) }
+    requires { k < log_records log.now }
+    ensures { (result ≡ number_at log.now k) × (result < 256 ^ 2) }
 {
     records::get2(log, record_start(log, k) + 2)
 }
 
 // Its attempts.
 fn attempts_at(log: &[u8], k: usize) -> u32
-    requires { k < logRecords log.now }
-    ensures { result ≡ attemptsAt log.now k }
+    requires { k < log_records log.now }
+    ensures { result ≡ attempts_at log.now k }
 {
     records::get4(log, record_start(log, k) + 4)
 }
 
 // Whether record k has the mark, and a number from 1.
 fn good_record(log: &[u8], k: usize) -> bool
-    requires { k < logRecords log.now }
-    ensures { result ≡ goodRecord log.now k }
+    requires { k < log_records log.now }
+    ensures { result ≡ good_record log.now k }
 {
     records::marked(log, record_start(log, k), records::LOG_MARK) && number_at(log, k) != 0
 }
 
 // Whether its number is above that of the record before it.
 fn rises(log: &[u8], k: usize) -> bool
-    requires { k < logRecords log.now }
+    requires { k < log_records log.now }
     ensures { result ≡ rises log.now k }
 {
     if k == 0 {
@@ -82,7 +82,7 @@ fn rises(log: &[u8], k: usize) -> bool
 
 // The last number, 0 where there is no record.
 fn last_number(log: &[u8]) -> u32
-    ensures { (result ≡ lastNumber log.now) × (result < 256 ^ 2) }
+    ensures { (result ≡ last_number log.now) × (result < 256 ^ 2) }
 {
     let n = log_records(log);
     if n == 0 {
@@ -93,7 +93,7 @@ fn last_number(log: &[u8]) -> u32
 
 // How many records the trace has: the greater of the two last numbers.
 fn joined_count(log1: &[u8], log2: &[u8]) -> u32
-    ensures { (result ≡ joinedCount log1.now log2.now) × (result < 256 ^ 2) }
+    ensures { (result ≡ joined_count log1.now log2.now) × (result < 256 ^ 2) }
 {
     let one = last_number(log1);
     let two = last_number(log2);
@@ -104,7 +104,7 @@ fn joined_count(log1: &[u8], log2: &[u8]) -> u32
 
 // The first record without the mark or with number 0; as many as there are where each is good.
 fn first_bad(log: &[u8]) -> usize
-    ensures { result ≡ firstFailing (goodRecord log.now) 0 (logRecords log.now) }
+    ensures { result ≡ first_failing (good_record log.now) 0 (log_records log.now) }
 {
     let n = log_records(log);
     let mut k = 0;
@@ -116,7 +116,7 @@ fn first_bad(log: &[u8]) -> usize
 
 // The first record whose number is not above the one before it; as many as there are where each is.
 fn first_out_of_order(log: &[u8]) -> usize
-    ensures { result ≡ firstFailing (rises log.now) 0 (logRecords log.now) }
+    ensures { result ≡ first_failing (rises log.now) 0 (log_records log.now) }
 {
     let n = log_records(log);
     let mut k = 0;
@@ -128,7 +128,7 @@ fn first_out_of_order(log: &[u8]) -> usize
 
 // 14 of a log's length.
 fn length_test(log: &[u8]) -> Test
-    ensures { result ≡ lengthTest log.now }
+    ensures { result ≡ length_test log.now }
 {
     if log.len() % LOG_RECORD_BYTES != 0 {
         return Test::Refused(Fault::BadLog, 0);
@@ -141,8 +141,8 @@ fn length_test(log: &[u8]) -> Test
 
 // 14 of a log, whose first record has place `first`: its length, then its records.
 fn log_test(log: &[u8], first: usize) -> Test
-    requires { first ≤ log2Place }
-    ensures { result ≡ logTest log.now first }
+    requires { first ≤ log2_place }
+    ensures { result ≡ log_test log.now first }
 {
     let t = length_test(log);
     let Test::Passed = t else {
@@ -157,8 +157,8 @@ fn log_test(log: &[u8], first: usize) -> Test
 
 // 15 of a log.
 fn order_test(log: &[u8], first: usize) -> Test
-    requires { first ≤ log2Place }
-    ensures { result ≡ orderTest log.now first }
+    requires { first ≤ log2_place }
+    ensures { result ≡ order_test log.now first }
 {
     let bad = first_out_of_order(log);
     if bad != log_records(log) {
@@ -169,7 +169,7 @@ fn order_test(log: &[u8], first: usize) -> Test
 
 // 14 of both logs, then 15 of both.
 fn logs_test(log1: &[u8], log2: &[u8]) -> Test
-    ensures { result ≡ logsTest log1.now log2.now }
+    ensures { result ≡ logs_test log1.now log2.now }
 {
     let t = log_test(log1, LOG_1_PLACE);
     let Test::Passed = t else {
@@ -188,7 +188,7 @@ fn logs_test(log1: &[u8], log2: &[u8]) -> Test
 
 // Then 16.
 fn join_test(log1: &[u8], log2: &[u8], trace: &[u8]) -> Test
-    ensures { result ≡ joinTest log1.now log2.now trace.now }
+    ensures { result ≡ join_test log1.now log2.now trace.now }
 {
     let t = logs_test(log1, log2);
     let Test::Passed = t else {
@@ -213,8 +213,8 @@ fn is_of(log: &[u8], k: usize, period: u32) -> bool
 // is of a later period or there is none. Gives the record at which the log stands then.
 fn put_attempts(log: &[u8], k: usize, period: u32, trace: &mut [u8], at: usize) -> usize
     requires { at + 4 ≤ length trace.old }
-    ensures written { trace.new ≡ sets trace.old at (bytes 4 (attemptsNext log.now k period)) }
-    ensures next { result ≡ recordNext log.now k period }
+    ensures written { trace.new ≡ sets trace.old at (bytes 4 (attempts_next log.now k period)) }
+    ensures next { result ≡ record_next log.now k period }
 {
     if is_of(log, k, period) {
         records::put4(trace, at, attempts_at(log, k));
@@ -226,9 +226,9 @@ fn put_attempts(log: &[u8], k: usize, period: u32, trace: &mut [u8], at: usize) 
 
 // Writes the trace, period by period, from the records i of log 1 and j of log 2 at which the logs stand, and gives its record count.
 fn put_trace(log1: &[u8], log2: &[u8], trace: &mut [u8]) -> u32
-    requires { joinTest log1.now log2.now trace.old ≡ Passed }
-    ensures written { trace.new ≡ sets trace.old 0 (joinedTrace log1.now log2.now) }
-    ensures count { result ≡ joinedCount log1.now log2.now }
+    requires { join_test log1.now log2.now trace.old ≡ Passed }
+    ensures written { trace.new ≡ sets trace.old 0 (joined_trace log1.now log2.now) }
+    ensures count { result ≡ joined_count log1.now log2.now }
 {
     let n = joined_count(log1, log2);
     let mut p = 0;

@@ -2,32 +2,32 @@
 use mathlib.Core.Path.{refl}
 use Rattle.records.specs.Fields.{value, bytes, field}
 use Rattle.records.specs.Marks.{marked}
-use Rattle.records.specs.Refusals.{firstFailing}
+use Rattle.records.specs.Refusals.{first_failing}
 use Rattle.layout.specs.Rows.{encode, row_of, decode}
-use Rattle.layout.specs.Images.{rowsBytes, endBytes, imageBytes, rowCount, rows_of, image_of, goodImageLength, goodRowAt, goodEnd}
-use Rattle.layout.specs.Refusals.{imageTest}
+use Rattle.layout.specs.Images.{rows_bytes, end_bytes, image_bytes, row_count, rows_of, image_of, good_image_length, good_row_at, good_end}
+use Rattle.layout.specs.Refusals.{image_test}
 use Rattle.layout.specs.Examples.{ImageVectors}
 
-pub image-vectors : ImageVectors
+pub image_vectors : ImageVectors
 unfolding
-    value bytes field marked firstFailing encode row_of decode rowsBytes endBytes imageBytes rowCount rows_of image_of
-    goodImageLength goodRowAt goodEnd imageTest
-image-vectors =
+    value bytes field marked first_failing encode row_of decode rows_bytes end_bytes image_bytes row_count rows_of image_of
+    good_image_length good_row_at good_end image_test
+image_vectors =
     record {
       encoded = refl;
       decoded = refl;
-      image-bytes = refl;
-      image-read = refl;
-      rows-of-32 = refl;
+      image_bytes_lem = refl;
+      image_read = refl;
+      rows_of_32 = refl;
       lengths = refl;
       longest = refl;
-      one-row = refl;
-      one-row-end = refl;
-      row-0-of-kind-3 = refl;
-      good-rows = refl;
-      higher-row = refl;
+      one_row = refl;
+      one_row_end = refl;
+      row_0_of_kind_3 = refl;
+      good_rows = refl;
+      higher_row = refl;
       bad-marks = refl;
-      bad-attempts = refl;
+      bad_attempts = refl;
       bad-names = refl;
       unused-fields = refl;
       ends = refl;

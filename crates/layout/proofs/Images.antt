@@ -13,197 +13,197 @@ use lib.ListN.{length, get_or, length-append, get_or-append}
 use lib.Seq.{get_or_at}
 use borrow.Author.Tests.{eq-eqb, ne_eqb, le-leb, lt-leb, eqb-true, leb-true, ltb-true}
 use Rattle.records.specs.Fields.{field}
-use Rattle.records.specs.Marks.{rowMark, marked}
+use Rattle.records.specs.Marks.{row_mark, marked}
 use Rattle.records.specs.declared.Fault.{Fault}
 use Rattle.records.specs.declared.Fault.TheVariants.{BadImage}
 use Rattle.records.specs.declared.Test.TheVariants.{Passed}
-use Rattle.records.specs.Refusals.{require, first_of, firstFailing}
-use Rattle.records.proofs.Cases.{lt-or-le}
-use Rattle.records.proofs.Searches.{all_pass, all-passed}
-use Rattle.records.proofs.Refusals.{first-passed, require-passed, onlyFor, only-require, only-first}
-use Rattle.layout.specs.Limits.{rowBytes, maxRows}
-use Rattle.layout.specs.Rows.{Row, never, row_of, decode, namesRows, goodRow}
-use Rattle.layout.specs.Images.{rowCount, rows_of, image_of, goodImageLength, goodRowAt, goodEnd}
-use Rattle.layout.specs.Refusals.{imageTest}
-use Rattle.layout.proofs.Rows.{cond-some, names-any}
+use Rattle.records.specs.Refusals.{require, first_of, first_failing}
+use Rattle.records.proofs.Cases.{lt_or_le}
+use Rattle.records.proofs.Searches.{all_pass, all_passed}
+use Rattle.records.proofs.Refusals.{first_passed, require-passed, only_for, only_require, only_first}
+use Rattle.layout.specs.Limits.{row_bytes, max_rows}
+use Rattle.layout.specs.Rows.{Row, never, row_of, decode, names_rows, good_row}
+use Rattle.layout.specs.Images.{row_count, rows_of, image_of, good_image_length, good_row_at, good_end}
+use Rattle.layout.specs.Refusals.{image_test}
+use Rattle.layout.proofs.Rows.{cond_some, names_any}
 
 -- ---- the length
 
 module _ (l : List ℕ) where
-  pub uneven : (length l % rowBytes ≡ 0 → ⊥) → goodImageLength l ≡ false
-  unfolding goodImageLength
-  uneven h = rw (ne_eqb (length l % rowBytes) 0 h)
+  pub uneven : (length l % row_bytes ≡ 0 → ⊥) → good_image_length l ≡ false
+  unfolding good_image_length
+  uneven h = rw (ne_eqb (length l % row_bytes) 0 h)
 
-  pub too_short : length l < rowBytes * 2 → goodImageLength l ≡ false
-  unfolding goodImageLength
-  too_short h = rw (lt-leb (rowBytes * 2) (length l) h, and-false)
+  pub too_short : length l < row_bytes * 2 → good_image_length l ≡ false
+  unfolding good_image_length
+  too_short h = rw (lt-leb (row_bytes * 2) (length l) h, and-false)
 
-  pub too_long : rowBytes * (maxRows + 1) < length l → goodImageLength l ≡ false
-  unfolding goodImageLength
-  too_long h = rw (lt-leb (length l) (rowBytes * (maxRows + 1)) h, and-false)
+  pub too_long : row_bytes * (max_rows + 1) < length l → good_image_length l ≡ false
+  unfolding good_image_length
+  too_long h = rw (lt-leb (length l) (row_bytes * (max_rows + 1)) h, and-false)
 
-  pub right-length : length l % rowBytes ≡ 0 → rowBytes * 2 ≤ length l → length l ≤ rowBytes * (maxRows + 1) → goodImageLength l ≡ true
-  unfolding goodImageLength
-  right-length e h i = rw (eq-eqb (length l % rowBytes) 0 e, le-leb (rowBytes * 2) (length l) h, le-leb (length l) (rowBytes * (maxRows + 1)) i)
+  pub right_length : length l % row_bytes ≡ 0 → row_bytes * 2 ≤ length l → length l ≤ row_bytes * (max_rows + 1) → good_image_length l ≡ true
+  unfolding good_image_length
+  right_length e h i = rw (eq-eqb (length l % row_bytes) 0 e, le-leb (row_bytes * 2) (length l) h, le-leb (length l) (row_bytes * (max_rows + 1)) i)
 
-  length-facts : goodImageLength l ≡ true → (length l % rowBytes ≡ 0) × (rowBytes * 2 ≤ length l) × (length l ≤ rowBytes * (maxRows + 1))
-  unfolding goodImageLength
-  length-facts e =
+  length_facts : good_image_length l ≡ true → (length l % row_bytes ≡ 0) × (row_bytes * 2 ≤ length l) × (length l ≤ row_bytes * (max_rows + 1))
+  unfolding good_image_length
+  length_facts e =
       let w = simp and-eq-true_iff at e in
-      (eqb-true (length l % rowBytes) 0 w.0.0, leb-true (rowBytes * 2) (length l) w.0.1, leb-true (length l) (rowBytes * (maxRows + 1)) w.1)
+      (eqb-true (length l % row_bytes) 0 w.0.0, leb-true (row_bytes * 2) (length l) w.0.1, leb-true (length l) (row_bytes * (max_rows + 1)) w.1)
 
 -- ---- bytes that are an image
 
 pub record GoodImage (l : List ℕ) : Type 0 where
-  pub count : length l ≡ rowBytes * (rowCount l + 1)
-  pub some-rows : 1 ≤ rowCount l
-  pub few-rows : rowCount l ≤ maxRows
-  pub each : (k : ℕ) → k < rowCount l → goodRowAt l (rowCount l) k ≡ true
-  pub ends : goodEnd l (rowCount l) ≡ true
+  pub count : length l ≡ row_bytes * (row_count l + 1)
+  pub some_rows : 1 ≤ row_count l
+  pub few_rows : row_count l ≤ max_rows
+  pub each : (k : ℕ) → k < row_count l → good_row_at l (row_count l) k ≡ true
+  pub ends : good_end l (row_count l) ≡ true
 
 -- the row count of a right length
-module _ (l : List ℕ) (n : ℕ) (e : length l ≡ rowBytes * (n + 1)) where
-  pub rowCount-of : rowCount l ≡ n
-  unfolding rowCount
-  rowCount-of = omega arith
+module _ (l : List ℕ) (n : ℕ) (e : length l ≡ row_bytes * (n + 1)) where
+  pub row_count_of : row_count l ≡ n
+  unfolding row_count
+  row_count_of = omega arith
 
-  counted-length : 1 ≤ n → n ≤ maxRows → goodImageLength l ≡ true
-  counted-length h i = right-length l (omega arith) (omega arith) (omega arith)
+  counted-length : 1 ≤ n → n ≤ max_rows → good_image_length l ≡ true
+  counted-length h i = right_length l (omega arith) (omega arith) (omega arith)
 
-rowCount-facts : (l : List ℕ) → goodImageLength l ≡ true → (length l ≡ rowBytes * (rowCount l + 1)) × (1 ≤ rowCount l) × (rowCount l ≤ maxRows)
-unfolding rowCount
-rowCount-facts l e =
-    let f = length-facts l e in
+row_count_facts : (l : List ℕ) → good_image_length l ≡ true → (length l ≡ row_bytes * (row_count l + 1)) × (1 ≤ row_count l) × (row_count l ≤ max_rows)
+unfolding row_count
+row_count_facts l e =
+    let f = length_facts l e in
     (omega arith, omega arith, omega arith)
 
-pub passed-good : (l : List ℕ) → imageTest l ≡ Passed → GoodImage l
-unfolding imageTest
-passed-good l e =
-    let n = rowCount l in
-    let bad = firstFailing (goodRowAt l n) 0 n in
-    let u = first-passed (require (goodImageLength l) BadImage 0) _ e in
-    let v = first-passed (require (eqb bad n) BadImage bad) _ u.1 in
-    let f = rowCount-facts l (require-passed (goodImageLength l) BadImage 0 u.0) in
+pub passed_good : (l : List ℕ) → image_test l ≡ Passed → GoodImage l
+unfolding image_test
+passed_good l e =
+    let n = row_count l in
+    let bad = first_failing (good_row_at l n) 0 n in
+    let u = first_passed (require (good_image_length l) BadImage 0) _ e in
+    let v = first_passed (require (eqb bad n) BadImage bad) _ u.1 in
+    let f = row_count_facts l (require-passed (good_image_length l) BadImage 0 u.0) in
     let b = eqb-true bad n (require-passed (eqb bad n) BadImage bad v.0) in
     record {
       count = f.0;
-      some-rows = f.1;
-      few-rows = f.2;
-      each = all-passed (goodRowAt l n) n b;
-      ends = require-passed (goodEnd l n) BadImage n v.1;
+      some_rows = f.1;
+      few_rows = f.2;
+      each = all_passed (good_row_at l n) n b;
+      ends = require-passed (good_end l n) BadImage n v.1;
     }
 
-pub good-passed : (l : List ℕ) → GoodImage l → imageTest l ≡ Passed
-unfolding imageTest
-good-passed l g =
-    let n = rowCount l in
-    rw (counted-length l n g.count g.some-rows g.few-rows, eq-eqb (firstFailing (goodRowAt l n) 0 n) n (all_pass (goodRowAt l n) n g.each), g.ends)
+pub good_passed : (l : List ℕ) → GoodImage l → image_test l ≡ Passed
+unfolding image_test
+good_passed l g =
+    let n = row_count l in
+    rw (counted-length l n g.count g.some_rows g.few_rows, eq-eqb (first_failing (good_row_at l n) 0 n) n (all_pass (good_row_at l n) n g.each), g.ends)
 
 -- ---- the rows that bytes hold
 
-pub length-rowsOf : (l : List ℕ) (n : ℕ) → length (rows_of l n) ≡ n
+pub length-rows_of : (l : List ℕ) (n : ℕ) → length (rows_of l n) ≡ n
 unfolding rows_of
-length-rowsOf l zero = refl
-length-rowsOf l (suc n) = rw (length-append, length-rowsOf l n, add-one)
+length-rows_of l zero = refl
+length-rows_of l (suc n) = rw (length-append, length-rows_of l n, add-one)
 
-pub getD-rowsOf : (l : List ℕ) (n k : ℕ) → k < n → get_or (rows_of l n) k never ≡ Option.get_or (decode l (rowBytes * k)) never
+pub get_or-rows_of : (l : List ℕ) (n k : ℕ) → k < n → get_or (rows_of l n) k never ≡ Option.get_or (decode l (row_bytes * k)) never
 unfolding rows_of
-getD-rowsOf l zero k h = absurd (omega arith)
-getD-rowsOf l (suc n) k h =
-    let last : Row = Option.get_or (decode l (rowBytes * n)) never in
+get_or-rows_of l zero k h = absurd (omega arith)
+get_or-rows_of l (suc n) k h =
+    let last : Row = Option.get_or (decode l (row_bytes * n)) never in
     ⊎_elim
-    (λ i. get_or-append (rows_of l n) (last ∷ []) never k (rw length-rowsOf i) ∙ getD-rowsOf l n k i)
-    (λ i. let s : k ≡ n = omega arith in rw s (get_or_at (rows_of l n) last [] never n (length-rowsOf l n)))
-    (lt-or-le k n)
+    (λ i. get_or-append (rows_of l n) (last ∷ []) never k (rw length-rows_of i) ∙ get_or-rows_of l n k i)
+    (λ i. let s : k ≡ n = omega arith in rw s (get_or_at (rows_of l n) last [] never n (length-rows_of l n)))
+    (lt_or_le k n)
 
 -- ---- the rows of an image, and those that decide
 
 -- row k is the one that its bytes hold, and names rows of the image
 pub record GoodRow (l : List ℕ) (k : ℕ) (r : Row) : Type 0 where
-  pub is : decode l (rowBytes * k) ≡ some r
-  pub names : namesRows k (rowCount l) r ≡ true
+  pub is : decode l (row_bytes * k) ≡ some r
+  pub names : names_rows k (row_count l) r ≡ true
 
-good-some : (k n : ℕ) (o : Option Row) → goodRow k n o ≡ true
-    → (o ≡ some (Option.get_or o never)) × (namesRows k n (Option.get_or o never) ≡ true)
-good-some k n none e = absurd (false≢true e)
-good-some k n (some r) e = (refl, e)
+good_some : (k n : ℕ) (o : Option Row) → good_row k n o ≡ true
+    → (o ≡ some (Option.get_or o never)) × (names_rows k n (Option.get_or o never) ≡ true)
+good_some k n none e = absurd (false≢true e)
+good_some k n (some r) e = (refl, e)
 
 module _ (l : List ℕ) (g : GoodImage l) where
-  pub good-row : (k : ℕ) → k < rowCount l → GoodRow l k (get_or (image_of l).rows k never)
-  unfolding image_of goodRowAt
-  good-row k h =
-      let w = good-some k (rowCount l) (decode l (rowBytes * k)) (g.each k h) in
-      rw (getD-rowsOf l (rowCount l) k h) record { is = w.0; names = w.1 }
+  pub good_row_lem : (k : ℕ) → k < row_count l → GoodRow l k (get_or (image_of l).rows k never)
+  unfolding image_of good_row_at
+  good_row_lem k h =
+      let w = good_some k (row_count l) (decode l (row_bytes * k)) (g.each k h) in
+      rw (get_or-rows_of l (row_count l) k h) record { is = w.0; names = w.1 }
 
-  end-facts : ((image_of l).S < rowCount l) × ((image_of l).V1 < rowCount l) × ((image_of l).V2 < rowCount l)
-  unfolding image_of goodEnd
-  end-facts =
-      let n = rowCount l in
-      let at = rowBytes * n in
+  end_facts : ((image_of l).S < row_count l) × ((image_of l).V1 < row_count l) × ((image_of l).V2 < row_count l)
+  unfolding image_of good_end
+  end_facts =
+      let n = row_count l in
+      let at = row_bytes * n in
       let e = simp and-eq-true_iff at g.ends in
       (ltb-true (field l (at + 2) 2) n e.0.0.1, ltb-true (field l (at + 4) 2) n e.0.1, ltb-true (field l (at + 6) 2) n e.1)
 
-  pub good-S : (image_of l).S < rowCount l
-  good-S = end-facts.0
+  pub good_S : (image_of l).S < row_count l
+  good_S = end_facts.0
 
-  pub good-V1 : (image_of l).V1 < rowCount l
-  good-V1 = end-facts.1
+  pub good_V1 : (image_of l).V1 < row_count l
+  good_V1 = end_facts.1
 
-  pub good-V2 : (image_of l).V2 < rowCount l
-  good-V2 = end-facts.2
+  pub good_V2 : (image_of l).V2 < row_count l
+  good_V2 = end_facts.2
 
 -- ---- the bytes of a good image's rows
 
-module _ (l : List ℕ) (h : imageTest l ≡ Passed) (k : ℕ) (i : k < rowCount l) where
-  pub row_fits : rowBytes * k + rowBytes ≤ length l
-  row_fits = let g = passed-good l h in omega arith
+module _ (l : List ℕ) (h : image_test l ≡ Passed) (k : ℕ) (i : k < row_count l) where
+  pub row_fits : row_bytes * k + row_bytes ≤ length l
+  row_fits = let g = passed_good l h in omega arith
 
   -- what the bytes of row k hold
-  pub row-held : row_of (get_or l (rowBytes * k + 2) 0) (field l (rowBytes * k + 4) 2) (field l (rowBytes * k + 6) 2)
+  pub row_held : row_of (get_or l (row_bytes * k + 2) 0) (field l (row_bytes * k + 4) 2) (field l (row_bytes * k + 6) 2)
       ≡ some (get_or (image_of l).rows k never)
   unfolding decode
-  row-held =
-      let at = rowBytes * k in
-      (cond-some (marked l at rowMark && eqb (get_or l (at + 3) 0) 0) (row_of (get_or l (at + 2) 0) (field l (at + 4) 2) (field l (at + 6) 2))
-      (get_or (image_of l).rows k never) (good-row l (passed-good l h) k i).is).1
+  row_held =
+      let at = row_bytes * k in
+      (cond_some (marked l at row_mark && eqb (get_or l (at + 3) 0) 0) (row_of (get_or l (at + 2) 0) (field l (at + 4) 2) (field l (at + 6) 2))
+      (get_or (image_of l).rows k never) (good_row_lem l (passed_good l h) k i).is).1
 
-  pub row-good : goodRow (rowCount l) (rowCount l)
-      (row_of (get_or l (rowBytes * k + 2) 0) (field l (rowBytes * k + 4) 2) (field l (rowBytes * k + 6) 2)) ≡ true
-  row-good = rw row-held (names-any k (rowCount l) (get_or (image_of l).rows k never) (omega arith) (good-row l (passed-good l h) k i).names)
+  pub row_good : good_row (row_count l) (row_count l)
+      (row_of (get_or l (row_bytes * k + 2) 0) (field l (row_bytes * k + 4) 2) (field l (row_bytes * k + 6) 2)) ≡ true
+  row_good = rw row_held (names_any k (row_count l) (get_or (image_of l).rows k never) (omega arith) (good_row_lem l (passed_good l h) k i).names)
 
 -- ---- the end record of a good image, which is its last
 
-module _ (l : List ℕ) (h : imageTest l ≡ Passed) where
-  pub end_fits : rowBytes ≤ length l
-  end_fits = let g = passed-good l h in omega arith
+module _ (l : List ℕ) (h : image_test l ≡ Passed) where
+  pub end_fits : row_bytes ≤ length l
+  end_fits = let g = passed_good l h in omega arith
 
-  end-at : length l - rowBytes ≡ rowBytes * rowCount l
-  end-at = let g = passed-good l h in omega arith
+  end_at : length l - row_bytes ≡ row_bytes * row_count l
+  end_at = let g = passed_good l h in omega arith
 
-  pub end-S : field l (length l - rowBytes + 2) 2 ≡ (image_of l).S
+  pub end-S : field l (length l - row_bytes + 2) 2 ≡ (image_of l).S
   unfolding image_of
-  end-S = rw end-at
+  end-S = rw end_at
 
-  pub end-V1 : field l (length l - rowBytes + 4) 2 ≡ (image_of l).V1
+  pub end-V1 : field l (length l - row_bytes + 4) 2 ≡ (image_of l).V1
   unfolding image_of
-  end-V1 = rw end-at
+  end-V1 = rw end_at
 
-  pub end-V2 : field l (length l - rowBytes + 6) 2 ≡ (image_of l).V2
+  pub end-V2 : field l (length l - row_bytes + 6) 2 ≡ (image_of l).V2
   unfolding image_of
-  end-V2 = rw end-at
+  end-V2 = rw end_at
 
 -- ---- refusal 9
 
 -- no test of this crate gives another fault
-abbrev pub imageFaults : List Fault
-imageFaults = BadImage ∷ []
+abbrev pub image_faults : List Fault
+image_faults = BadImage ∷ []
 
-pub image-only : (l : List ℕ) → onlyFor imageFaults (imageTest l) ≡ true
-unfolding imageTest
-image-only l =
-    let n = rowCount l in
-    let bad = firstFailing (goodRowAt l n) 0 n in
+pub image_only : (l : List ℕ) → only_for image_faults (image_test l) ≡ true
+unfolding image_test
+image_only l =
+    let n = row_count l in
+    let bad = first_failing (good_row_at l n) 0 n in
     let rows = require (eqb bad n) BadImage bad in
-    let end = require (goodEnd l n) BadImage n in
-    only-first imageFaults (require (goodImageLength l) BadImage 0) (first_of rows end) (only-require imageFaults BadImage refl (goodImageLength l) 0)
-    (only-first imageFaults rows end (only-require imageFaults BadImage refl (eqb bad n) bad) (only-require imageFaults BadImage refl (goodEnd l n) n))
+    let end = require (good_end l n) BadImage n in
+    only_first image_faults (require (good_image_length l) BadImage 0) (first_of rows end) (only_require image_faults BadImage refl (good_image_length l) 0)
+    (only_first image_faults rows end (only_require image_faults BadImage refl (eqb bad n) bad) (only_require image_faults BadImage refl (good_end l n) n))

@@ -2,9 +2,9 @@
 use Rattle.std.specs.Prelude.{ℕ}
 
 -- the bytes of a row, and of an end record
-abbrev pub rowBytes : ℕ
-rowBytes = 8
+abbrev pub row_bytes : ℕ
+row_bytes = 8
 
 -- "an image may have 5,952 rows"
-abbrev pub maxRows : ℕ
-maxRows = 5952
+abbrev pub max_rows : ℕ
+max_rows = 5952

@@ -2,14 +2,14 @@
 use Rattle.std.specs.Prelude.{ℕ, List, eqb}
 use Rattle.records.specs.declared.Fault.TheVariants.{BadImage}
 use Rattle.records.specs.declared.Test.{Test}
-use Rattle.records.specs.Refusals.{require, first_of, firstFailing}
-use Rattle.layout.specs.Images.{rowCount, goodImageLength, goodRowAt, goodEnd}
+use Rattle.records.specs.Refusals.{require, first_of, first_failing}
+use Rattle.layout.specs.Images.{row_count, good_image_length, good_row_at, good_end}
 
 -- 9: the length, at 0; then the first bad row; then the end record, at the row count
-unfoldable pub imageTest : List ℕ → Test
-imageTest image =
-    let n = rowCount image in
-    let bad = firstFailing (goodRowAt image n) 0 n in
-    first_of (require (goodImageLength image) BadImage 0)
+unfoldable pub image_test : List ℕ → Test
+image_test image =
+    let n = row_count image in
+    let bad = first_failing (good_row_at image n) 0 n in
+    first_of (require (good_image_length image) BadImage 0)
     (first_of (require (eqb bad n) BadImage bad)
-    (require (goodEnd image n) BadImage n))
+    (require (good_end image n) BadImage n))

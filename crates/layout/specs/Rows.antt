@@ -2,9 +2,9 @@
 use Rattle.std.specs.Prelude.{ℕ, ◌+◌, ◌^◌, ◌<◌, Bool, true, false, ◌&&◌, cond, List, ◌∷◌, ◌++◌, eqb, ltb, get_or}
 use Rattle.std.proofs.Math.Option.{Option, none, some}
 use Rattle.records.specs.Fields.{bytes, field}
-use Rattle.records.specs.Marks.{rowMark, marked}
+use Rattle.records.specs.Marks.{row_mark, marked}
 use Rattle.periods.specs.Limits.{actions}
-use Rattle.periods.specs.Periods.{Party, partyNumber, partyOf}
+use Rattle.periods.specs.Periods.{Party, party_number, party_of}
 
 -- kinds 0 to 6: false; true in period 1 only; a party tries an action; not x; x and y; x or y; the value that row x had in the
 -- period before
@@ -28,29 +28,29 @@ kind (conjunction x y) = 4
 kind (disjunction x y) = 5
 kind (previous x) = 6
 
-abbrev pub fieldX : Row → ℕ
-fieldX never = 0
-fieldX initial = 0
-fieldX (attempt p a) = partyNumber p
-fieldX (negation x) = x
-fieldX (conjunction x y) = x
-fieldX (disjunction x y) = x
-fieldX (previous x) = x
+abbrev pub field_x : Row → ℕ
+field_x never = 0
+field_x initial = 0
+field_x (attempt p a) = party_number p
+field_x (negation x) = x
+field_x (conjunction x y) = x
+field_x (disjunction x y) = x
+field_x (previous x) = x
 
-abbrev pub fieldY : Row → ℕ
-fieldY never = 0
-fieldY initial = 0
-fieldY (attempt p a) = a
-fieldY (negation x) = 0
-fieldY (conjunction x y) = y
-fieldY (disjunction x y) = y
-fieldY (previous x) = 0
+abbrev pub field_y : Row → ℕ
+field_y never = 0
+field_y initial = 0
+field_y (attempt p a) = a
+field_y (negation x) = 0
+field_y (conjunction x y) = y
+field_y (disjunction x y) = y
+field_y (previous x) = 0
 
-abbrev pub rowRecord : (kind x y : ℕ) → List ℕ
-rowRecord k x y = rowMark ++ (k ∷ 0 ∷ (bytes 2 x ++ bytes 2 y))
+abbrev pub row_record : (kind x y : ℕ) → List ℕ
+row_record k x y = row_mark ++ (k ∷ 0 ∷ (bytes 2 x ++ bytes 2 y))
 
 unfoldable pub encode : Row → List ℕ
-encode r = rowRecord (kind r) (fieldX r) (fieldY r)
+encode r = row_record (kind r) (field_x r) (field_y r)
 
 -- the fields fit a row's bytes: an action is one of those that there are, a row's number fits two bytes
 abbrev pub Fits : Row → Type 0
@@ -64,16 +64,16 @@ Fits (previous x) = x < 256 ^ 2
 
 -- ---- the row that eight bytes hold, if they hold one
 
-abbrev pub attemptOf : Option Party → ℕ → Option Row
-attemptOf none a = none
-attemptOf (some p) a = cond (ltb a actions) (some (attempt p a)) none
+abbrev pub attempt_of : Option Party → ℕ → Option Row
+attempt_of none a = none
+attempt_of (some p) a = cond (ltb a actions) (some (attempt p a)) none
 
 -- by the kind and the fields x and y
 unfoldable pub row_of : ℕ → ℕ → ℕ → Option Row
 row_of k x y =
     cond (eqb k 0) (cond (eqb x 0 && eqb y 0) (some never) none)
     (cond (eqb k 1) (cond (eqb x 0 && eqb y 0) (some initial) none)
-    (cond (eqb k 2) (attemptOf (partyOf x) y)
+    (cond (eqb k 2) (attempt_of (party_of x) y)
     (cond (eqb k 3) (cond (eqb y 0) (some (negation x)) none)
     (cond (eqb k 4) (some (conjunction x y))
     (cond (eqb k 5) (some (disjunction x y))
@@ -83,19 +83,19 @@ row_of k x y =
 -- the row in the eight bytes from byte `at` on
 unfoldable pub decode : List ℕ → ℕ → Option Row
 decode l at =
-    cond (marked l at rowMark && eqb (get_or l (at + 3) 0) 0) (row_of (get_or l (at + 2) 0) (field l (at + 4) 2) (field l (at + 6) 2)) none
+    cond (marked l at row_mark && eqb (get_or l (at + 3) 0) 0) (row_of (get_or l (at + 2) 0) (field l (at + 4) 2) (field l (at + 6) 2)) none
 
 -- "In 3 to 5 the fields name lower rows; in 6 any row of the image": of row k of an image of n rows
-abbrev pub namesRows : ℕ → ℕ → Row → Bool
-namesRows k n never = true
-namesRows k n initial = true
-namesRows k n (attempt p a) = true
-namesRows k n (negation x) = ltb x k
-namesRows k n (conjunction x y) = ltb x k && ltb y k
-namesRows k n (disjunction x y) = ltb x k && ltb y k
-namesRows k n (previous x) = ltb x n
+abbrev pub names_rows : ℕ → ℕ → Row → Bool
+names_rows k n never = true
+names_rows k n initial = true
+names_rows k n (attempt p a) = true
+names_rows k n (negation x) = ltb x k
+names_rows k n (conjunction x y) = ltb x k && ltb y k
+names_rows k n (disjunction x y) = ltb x k && ltb y k
+names_rows k n (previous x) = ltb x n
 
 -- a good row k of an image of n rows
-abbrev pub goodRow : ℕ → ℕ → Option Row → Bool
-goodRow k n none = false
-goodRow k n (some r) = namesRows k n r
+abbrev pub good_row : ℕ → ℕ → Option Row → Bool
+good_row k n none = false
+good_row k n (some r) = names_rows k n r

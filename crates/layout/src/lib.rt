@@ -1,11 +1,11 @@
 // The image: rows, their bytes, the end record, and refusal 9. Document 01, "Image and row machine".
 ghost use Rattle.std.specs.Prelude.{◌≡◌, ◌+◌, ◌*◌, ◌≤◌, length};
 ghost use Rattle.std.proofs.lemmas.List.Edits.{sets};
-ghost use Rattle.records.specs.Refusals.{firstFailing};
-ghost use Rattle.layout.specs.Limits.{rowBytes};
-ghost use Rattle.layout.specs.Rows.{row_of, goodRow, rowRecord};
-ghost use Rattle.layout.specs.Images.{rowCount, goodRowAt, goodEnd, endRecord};
-ghost use Rattle.layout.specs.Refusals.{imageTest};
+ghost use Rattle.records.specs.Refusals.{first_failing};
+ghost use Rattle.layout.specs.Limits.{row_bytes};
+ghost use Rattle.layout.specs.Rows.{row_of, good_row, row_record};
+ghost use Rattle.layout.specs.Images.{row_count, good_row_at, good_end, end_record};
+ghost use Rattle.layout.specs.Refusals.{image_test};
 
 use records::{Fault, Test};
 
@@ -34,15 +34,15 @@ pub const PREVIOUS: u8 = 6;
 
 // How many rows stand before the end record.
 pub fn row_count(image: &[u8]) -> usize
-    requires { rowBytes ≤ length image.now }
-    ensures { result ≡ rowCount image.now }
+    requires { row_bytes ≤ length image.now }
+    ensures { result ≡ row_count image.now }
 {
     image.len() / ROW_BYTES - 1
 }
 
 // Whether a kind and its fields make a good row k of an image of n rows.
 fn good_row(kind: u8, x: u32, y: u32, k: usize, n: usize) -> bool
-    ensures { result ≡ goodRow k n (row_of kind x y) }
+    ensures { result ≡ good_row k n (row_of kind x y) }
 {
     match kind {
         0..=1 => x == 0 && y == 0,
@@ -56,8 +56,8 @@ fn good_row(kind: u8, x: u32, y: u32, k: usize, n: usize) -> bool
 
 // Whether row k of the image is a good one of n rows.
 fn good_row_at(image: &[u8], n: usize, k: usize) -> bool
-    requires { rowBytes * k + rowBytes ≤ length image.now }
-    ensures { result ≡ goodRowAt image.now n k }
+    requires { row_bytes * k + row_bytes ≤ length image.now }
+    ensures { result ≡ good_row_at image.now n k }
 {
     let at = ROW_BYTES * k;
     if !records::marked(image, at, records::ROW_MARK) {
@@ -77,8 +77,8 @@ fn good_row_at(image: &[u8], n: usize, k: usize) -> bool
 
 // The first bad row of n rows, or n.
 fn first_bad_row(image: &[u8], n: usize) -> usize
-    requires { rowBytes * n ≤ length image.now }
-    ensures { result ≡ firstFailing (goodRowAt image.now n) 0 n }
+    requires { row_bytes * n ≤ length image.now }
+    ensures { result ≡ first_failing (good_row_at image.now n) 0 n }
 {
     let mut k = 0;
     while k < n {
@@ -92,8 +92,8 @@ fn first_bad_row(image: &[u8], n: usize) -> usize
 
 // Whether the end record after n rows names three of them.
 fn good_end(image: &[u8], n: usize) -> bool
-    requires { rowBytes * n + rowBytes ≤ length image.now }
-    ensures { result ≡ goodEnd image.now n }
+    requires { row_bytes * n + row_bytes ≤ length image.now }
+    ensures { result ≡ good_end image.now n }
 {
     let at = ROW_BYTES * n;
     if !records::marked(image, at, records::END_MARK) {
@@ -106,7 +106,7 @@ fn good_end(image: &[u8], n: usize) -> bool
 
 // The image's length, its rows, its end record.
 pub fn image_test(image: &[u8]) -> Test
-    ensures { result ≡ imageTest image.now }
+    ensures { result ≡ image_test image.now }
 {
     let bytes = image.len();
     if bytes % ROW_BYTES != 0 || bytes < 2 * ROW_BYTES || ROW_BYTES * (MAX_ROWS + 1) < bytes {
@@ -127,8 +127,8 @@ pub fn image_test(image: &[u8]) -> Test
 
 // Writes a row.
 pub fn put_row(image: &mut [u8], at: u32, kind: u8, x: u32, y: u32)
-    requires { rowBytes * at + rowBytes ≤ length image.old }
-    ensures { image.new ≡ sets image.old (rowBytes * at) (rowRecord kind x y) }
+    requires { row_bytes * at + row_bytes ≤ length image.old }
+    ensures { image.new ≡ sets image.old (row_bytes * at) (row_record kind x y) }
 {
     let i = ROW_BYTES * at as usize;
     records::put_mark(image, i, records::ROW_MARK);
@@ -140,8 +140,8 @@ pub fn put_row(image: &mut [u8], at: u32, kind: u8, x: u32, y: u32)
 
 // Writes the end record after `rows` rows.
 pub fn put_end(image: &mut [u8], rows: u32, sat: u32, one: u32, two: u32)
-    requires { rowBytes * rows + rowBytes ≤ length image.old }
-    ensures { image.new ≡ sets image.old (rowBytes * rows) (endRecord sat one two) }
+    requires { row_bytes * rows + row_bytes ≤ length image.old }
+    ensures { image.new ≡ sets image.old (row_bytes * rows) (end_record sat one two) }
 {
     let i = ROW_BYTES * rows as usize;
     records::put_mark(image, i, records::END_MARK);

@@ -10,91 +10,91 @@ use lib.ListN.{length, get_or, take, drop, length-drop, length-map, get_or-map}
 use lib.Seq.{sets, get_or-drop}
 use Rattle.records.specs.Fields.{bytes, field}
 use Rattle.records.specs.Holding.{AllBytes}
-use Rattle.records.proofs.Written.{drop-after, getD-before, part-rest}
+use Rattle.records.proofs.Written.{drop_after, get_or_before, part_rest}
 use Rattle.records.proofs.Fields.{length-bytes}
 use Rattle.periods.specs.Periods.{Period}
-use Rattle.layout.specs.Images.{Image, rowCount, image_of}
-use Rattle.layout.proofs.Images.{length-rowsOf}
-use Rattle.states.specs.Limits.{headBytes, maxPeriods}
-use Rattle.states.specs.States.{State, state_of, stateBytes, allAtMost}
+use Rattle.layout.specs.Images.{Image, row_count, image_of}
+use Rattle.layout.proofs.Images.{length-rows_of}
+use Rattle.states.specs.Limits.{head_bytes, max_periods}
+use Rattle.states.specs.States.{State, state_of, state_bytes, all_at_most}
 use Rattle.states.specs.Premises.{Answering}
-use Rattle.states.proofs.Refusals.{state-passed}
+use Rattle.states.proofs.Refusals.{state_passed}
 use Rattle.states.proofs.Soundness.{Sound, decision≤}
-use Rattle.states.proofs.States.{stateBytes-stateOf, read_back, sound-passes, length-stateBytes}
-use Rattle.machine.specs.Machine.{byte_of, isTrue, valuesAfter, outcomeOf, blameOf, computed, counted, afterPeriod, afterPeriods}
-use Rattle.machine.specs.Computing.{firstBits, valuesIn, trimmed, packed, newBits, RowValues, withDecision, decidedBytes, Working, Advanced}
+use Rattle.states.proofs.States.{state_bytes-state_of, read_back, sound_passes, length-state_bytes}
+use Rattle.machine.specs.Machine.{byte_of, is_true, values_after, outcome_of, blame_of, computed, counted, after_period, after_periods}
+use Rattle.machine.specs.Computing.{first_bits, values_in, trimmed, packed, new_bits, RowValues, with_decision, decided_bytes, Working, Advanced}
 use Rattle.machine.specs.Premises.{Ready}
-use Rattle.machine.proofs.Trimming.{length-firstBits, length-trimmed, put_rest, state-sound, plain, trimmed-bytes, trimmed-state}
-use Rattle.machine.proofs.Computing.{firstBits-packed, packed-small}
-use Rattle.machine.proofs.Machine.{isTrue-byteOf, length-valuesAfter, after-undecided, after-decided, sound-afterPeriods, periods-afterPeriods}
+use Rattle.machine.proofs.Trimming.{length-first_bits, length-trimmed, put_rest, state_sound, plain, trimmed-bytes, trimmed_state}
+use Rattle.machine.proofs.Computing.{first_bits-packed, packed_small}
+use Rattle.machine.proofs.Machine.{is_true-byte_of, length-values_after, after_undecided, after_decided, sound-after_periods, periods_after_periods}
 
 -- ---- writes to a state's bytes
 
 module _ (s : State) where
-  put-periods : (n : ℕ) → sets (stateBytes s) 2 (bytes 4 n)
-      ≡ stateBytes (record { outcome = s.outcome; blame = s.blame; periods = n; decision = s.decision; values = s.values })
-  unfolding stateBytes bytes
-  put-periods n = refl
+  put_periods : (n : ℕ) → sets (state_bytes s) 2 (bytes 4 n)
+      ≡ state_bytes (record { outcome = s.outcome; blame = s.blame; periods = n; decision = s.decision; values = s.values })
+  unfolding state_bytes bytes
+  put_periods n = refl
 
-  drop_head : drop headBytes (stateBytes s) ≡ s.values
-  unfolding stateBytes bytes
+  drop_head : drop head_bytes (state_bytes s) ≡ s.values
+  unfolding state_bytes bytes
   drop_head = refl
 
-  put-values : (vs : List ℕ) → take headBytes (stateBytes s) ++ vs
-      ≡ stateBytes (record { outcome = s.outcome; blame = s.blame; periods = s.periods; decision = s.decision; values = vs })
-  unfolding stateBytes bytes
-  put-values vs = refl
+  put_values : (vs : List ℕ) → take head_bytes (state_bytes s) ++ vs
+      ≡ state_bytes (record { outcome = s.outcome; blame = s.blame; periods = s.periods; decision = s.decision; values = vs })
+  unfolding state_bytes bytes
+  put_values vs = refl
 
-  put-decision : (sat v1 v2 : Bool) (n : ℕ) → withDecision sat v1 v2 n (stateBytes s)
-      ≡ stateBytes (record { outcome = outcomeOf sat v1 v2; blame = blameOf v1 v2; periods = s.periods; decision = cond (sat || v1 || v2) n 0; values = s.values })
-  unfolding stateBytes bytes withDecision
-  put-decision sat v1 v2 n = refl
+  put_decision : (sat v1 v2 : Bool) (n : ℕ) → with_decision sat v1 v2 n (state_bytes s)
+      ≡ state_bytes (record { outcome = outcome_of sat v1 v2; blame = blame_of v1 v2; periods = s.periods; decision = cond (sat || v1 || v2) n 0; values = s.values })
+  unfolding state_bytes bytes with_decision
+  put_decision sat v1 v2 n = refl
 
   -- what the rows S, V1 and V2 decide, the row values being in the first bits of the state's
-  put-decided : (m : Image) (new : List Bool) → firstBits s.values ≡ map byte_of new → decidedBytes m s.periods (stateBytes s)
-      ≡ stateBytes (record {
-        outcome = outcomeOf (get_or new m.S false) (get_or new m.V1 false) (get_or new m.V2 false);
-        blame = blameOf (get_or new m.V1 false) (get_or new m.V2 false);
+  put_decided : (m : Image) (new : List Bool) → first_bits s.values ≡ map byte_of new → decided_bytes m s.periods (state_bytes s)
+      ≡ state_bytes (record {
+        outcome = outcome_of (get_or new m.S false) (get_or new m.V1 false) (get_or new m.V2 false);
+        blame = blame_of (get_or new m.V1 false) (get_or new m.V2 false);
         periods = s.periods;
         decision = cond (get_or new m.S false || get_or new m.V1 false || get_or new m.V2 false) s.periods 0;
         values = s.values;
       })
-  unfolding decidedBytes firstBits
-  put-decided m new e =
-      let bit : (j : ℕ) → get_or (stateBytes s) (headBytes + j) 0 % 2 ≡ get_or (firstBits s.values) j 0 =
-      λ j. ap (λ (v : ℕ). v % 2) (sym (get_or-drop headBytes (stateBytes s) j 0) ∙ ap (λ (l : List ℕ). get_or l j 0) drop_head)
+  unfolding decided_bytes first_bits
+  put_decided m new e =
+      let bit : (j : ℕ) → get_or (state_bytes s) (head_bytes + j) 0 % 2 ≡ get_or (first_bits s.values) j 0 =
+      λ j. ap (λ (v : ℕ). v % 2) (sym (get_or-drop head_bytes (state_bytes s) j 0) ∙ ap (λ (l : List ℕ). get_or l j 0) drop_head)
       ∙ sym (get_or-map (λ (v : ℕ). v % 2) s.values j 0) in
-      let at : (j : ℕ) → isTrue (get_or (stateBytes s) (headBytes + j) 0 % 2) ≡ get_or new j false =
-      λ j. ap isTrue (bit j ∙ ap (λ (l : List ℕ). get_or l j 0) e ∙ get_or-map byte_of new j false) ∙ isTrue-byteOf (get_or new j false) in
-      rw (at m.S, at m.V1, at m.V2) (put-decision (get_or new m.S false) (get_or new m.V1 false) (get_or new m.V2 false) s.periods)
+      let at : (j : ℕ) → is_true (get_or (state_bytes s) (head_bytes + j) 0 % 2) ≡ get_or new j false =
+      λ j. ap is_true (bit j ∙ ap (λ (l : List ℕ). get_or l j 0) e ∙ get_or-map byte_of new j false) ∙ is_true-byte_of (get_or new j false) in
+      rw (at m.S, at m.V1, at m.V2) (put_decision (get_or new m.S false) (get_or new m.V1 false) (get_or new m.V2 false) s.periods)
 
 -- ---- a period
 
-pub length-rows : (image : List ℕ) → length (image_of image).rows ≡ rowCount image
+pub length-rows : (image : List ℕ) → length (image_of image).rows ≡ row_count image
 unfolding image_of
-length-rows image = length-rowsOf image (rowCount image)
+length-rows image = length-rows_of image (row_count image)
 
-new-bits : (image : List ℕ) (p : Period) (s : State) → newBits image p (eqb s.periods 0) s.values ≡ valuesAfter (image_of image) p s
-unfolding newBits valuesAfter image_of
-new-bits image p s = rw length-rowsOf
+new_bits_lem : (image : List ℕ) (p : Period) (s : State) → new_bits image p (eqb s.periods 0) s.values ≡ values_after (image_of image) p s
+unfolding new_bits values_after image_of
+new_bits_lem image p s = rw length-rows_of
 
-length-valuesIn : (l : List ℕ) → length (valuesIn l) ≡ length l
-unfolding valuesIn
-length-valuesIn l = length-map (firstBits l) isTrue ∙ length-firstBits l
+length-values_in : (l : List ℕ) → length (values_in l) ≡ length l
+unfolding values_in
+length-values_in l = length-map (first_bits l) is_true ∙ length-first_bits l
 
 module _ (image l : List ℕ) (w : Working image l 1) where
-  pub working-long : length l ≡ headBytes + rowCount image
-  working-long = sym (length-trimmed l) ∙ (state-passed (rowCount image) (trimmed l) w.ready.sound).0
+  pub working_long : length l ≡ head_bytes + row_count image
+  working_long = sym (length-trimmed l) ∙ (state_passed (row_count image) (trimmed l) w.ready.sound).0
 
-  pub working-state : state_of (trimmed l) ≡ plain (state_of l)
-  working-state = trimmed-state l (rw working-long (omega arith))
+  pub working_state : state_of (trimmed l) ≡ plain (state_of l)
+  working_state = trimmed_state l (rw working_long (omega arith))
 
-  room : (state_of l).periods + 1 ≤ maxPeriods
-  room = rw working-state at w.ready.room
+  room : (state_of l).periods + 1 ≤ max_periods
+  room = rw working_state at w.ready.room
 
-  pub working-room : field l 2 4 + 1 ≤ maxPeriods
+  pub working_room : field l 2 4 + 1 ≤ max_periods
   unfolding state_of
-  working-room = room
+  working_room = room
 
   module _ (n : ℕ) where
     -- the bytes with the count raised, and the rows' part of them
@@ -102,121 +102,121 @@ module _ (image l : List ℕ) (w : Working image l 1) where
     raised = sets l 2 (bytes 4 n)
 
     abbrev rows : List ℕ
-    rows = take (length raised - headBytes) (drop headBytes raised)
+    rows = take (length raised - head_bytes) (drop head_bytes raised)
 
-    pub raised-outcome : get_or raised 0 0 ≡ (state_of l).outcome
+    pub raised_outcome : get_or raised 0 0 ≡ (state_of l).outcome
     unfolding state_of
-    raised-outcome = getD-before l 2 (bytes 4 n) 0 0 (omega arith)
+    raised_outcome = get_or_before l 2 (bytes 4 n) 0 0 (omega arith)
 
-    raised-rest : drop headBytes raised ≡ drop headBytes l
-    raised-rest = drop-after l 2 (bytes 4 n) headBytes (rw length-bytes (omega arith))
+    raised_rest : drop head_bytes raised ≡ drop head_bytes l
+    raised_rest = drop_after l 2 (bytes 4 n) head_bytes (rw length-bytes (omega arith))
 
-    raised-values : rows ≡ (state_of l).values
+    raised_values : rows ≡ (state_of l).values
     unfolding state_of
-    raised-values = part-rest headBytes raised ∙ raised-rest
+    raised_values = part_rest head_bytes raised ∙ raised_rest
 
-    long-values : length (state_of l).values ≡ rowCount image
+    long_values : length (state_of l).values ≡ row_count image
     unfolding state_of
-    long-values = length-drop headBytes l ∙ rw working-long (omega arith)
+    long_values = length-drop head_bytes l ∙ rw working_long (omega arith)
 
-    small-values : allAtMost 3 (state_of l).values ≡ true
+    small_values : all_at_most 3 (state_of l).values ≡ true
     unfolding state_of
-    small-values = w.small
+    small_values = w.small
 
-    pub row-values : RowValues image rows (eqb (state_of l).periods 0)
-    row-values =
-        let s : Sound (rowCount image) (plain (state_of l)) = rw working-state at (state-sound (rowCount image) (trimmed l) w.ready.sound) in
+    pub row_values : RowValues image rows (eqb (state_of l).periods 0)
+    row_values =
+        let s : Sound (row_count image) (plain (state_of l)) = rw working_state at (state_sound (row_count image) (trimmed l) w.ready.sound) in
         record {
           good = w.ready.good;
-          long = ap length raised-values ∙ long-values;
-          small = rw raised-values small-values;
-          fresh = rw raised-values s.values-sound;
+          long = ap length raised_values ∙ long_values;
+          small = rw raised_values small_values;
+          fresh = rw raised_values s.values_sound;
         }
 
     module _ (a : AllBytes l) (e : n ≡ (state_of l).periods + 1) (p : Period) where
-      counts : raised ≡ stateBytes (counted (state_of l))
+      counts : raised ≡ state_bytes (counted (state_of l))
       unfolding counted
       counts =
           let m = (state_of l).periods + 1 in
-          rw e (ap (λ (b : List ℕ). sets b 2 (bytes 4 m)) (sym (stateBytes-stateOf l a (rw working-long (omega arith)))) ∙ put-periods (state_of l) m)
+          rw e (ap (λ (b : List ℕ). sets b 2 (bytes 4 m)) (sym (state_bytes-state_of l a (rw working_long (omega arith)))) ∙ put_periods (state_of l) m)
 
-      pub period-counted : ¬ ((state_of l).outcome ≡ 0) → Advanced image l p raised
+      pub period_counted : ¬ ((state_of l).outcome ≡ 0) → Advanced image l p raised
       unfolding counted
-      period-counted d =
+      period_counted d =
           record {
-            is = rw (working-state, after-decided (image_of image) p (plain (state_of l)) d) (ap trimmed counts ∙ trimmed-bytes (counted (state_of l)));
-            small = rw raised-rest w.small;
+            is = rw (working_state, after_decided (image_of image) p (plain (state_of l)) d) (ap trimmed counts ∙ trimmed-bytes (counted (state_of l)));
+            small = rw raised_rest w.small;
           }
 
-      pub period-computed : (state_of l).outcome ≡ 0 → (vs : List ℕ)
-          → vs ≡ packed (valuesIn rows) (newBits image p (eqb (state_of l).periods 0) (firstBits rows))
-          → Advanced image l p (decidedBytes (image_of image) n (put_mid headBytes (length raised - headBytes) raised vs))
+      pub period_computed : (state_of l).outcome ≡ 0 → (vs : List ℕ)
+          → vs ≡ packed (values_in rows) (new_bits image p (eqb (state_of l).periods 0) (first_bits rows))
+          → Advanced image l p (decided_bytes (image_of image) n (put_mid head_bytes (length raised - head_bytes) raised vs))
       unfolding computed counted
-      period-computed o vs v =
+      period_computed o vs v =
           let s = state_of l in
           let m = image_of image in
-          let old = valuesIn s.values in
-          let new = valuesAfter m p (plain s) in
-          let q : vs ≡ packed old new = v ∙ rw raised-values (ap (packed old) (new-bits image p (plain s))) in
-          let f : firstBits vs ≡ map byte_of new =
-          rw q (firstBits-packed old new (length-valuesAfter m p (plain s) ∙ length-rows image ∙ sym (length-valuesIn s.values ∙ long-values))) in
+          let old = values_in s.values in
+          let new = values_after m p (plain s) in
+          let q : vs ≡ packed old new = v ∙ rw raised_values (ap (packed old) (new_bits_lem image p (plain s))) in
+          let f : first_bits vs ≡ map byte_of new =
+          rw q (first_bits-packed old new (length-values_after m p (plain s) ∙ length-rows image ∙ sym (length-values_in s.values ∙ long_values))) in
           let t : State = record { outcome = s.outcome; blame = s.blame; periods = s.periods + 1; decision = s.decision; values = vs } in
           let c = computed m new s in
           let u : State = record { outcome = c.outcome; blame = c.blame; periods = c.periods; decision = c.decision; values = vs } in
-          let d : decidedBytes m n (put_mid headBytes (length raised - headBytes) raised vs) ≡ stateBytes u =
-          rw (put_rest headBytes raised vs, counts, put-values (counted s) vs, e) (put-decided t m new f) in
+          let d : decided_bytes m n (put_mid head_bytes (length raised - head_bytes) raised vs) ≡ state_bytes u =
+          rw (put_rest head_bytes raised vs, counts, put_values (counted s) vs, e) (put_decided t m new f) in
           record {
-            is = rw (working-state, after-undecided m p (plain s) o) (ap trimmed d ∙ trimmed-bytes u ∙ rw f refl);
-            small = rw (d, drop_head u, q) (packed-small old new);
+            is = rw (working_state, after_undecided m p (plain s) o) (ap trimmed d ∙ trimmed-bytes u ∙ rw f refl);
+            small = rw (d, drop_head u, q) (packed_small old new);
           }
 
 -- ---- a state that is ready for n periods
 
 module _ (image l : List ℕ) (n : ℕ) (h : Ready image l n) where
-  pub ready-long : length l ≡ headBytes + rowCount image
-  ready-long = (state-passed (rowCount image) l h.sound).0
+  pub ready_long : length l ≡ head_bytes + row_count image
+  ready_long = (state_passed (row_count image) l h.sound).0
 
 -- ---- the states that follow
 
 module _ (image l : List ℕ) (n : ℕ) (h : Ready image l n) (w : List Period) (i : length w ≤ n) where
   abbrev later : State
-  later = afterPeriods (image_of image) (state_of l) w
+  later = after_periods (image_of image) (state_of l) w
 
-  pub later-sound : Sound (rowCount image) later
+  pub later-sound : Sound (row_count image) later
   later-sound =
-      rw length-rows at (sound-afterPeriods (image_of image) (state_of l) w (rw length-rows (state-sound (rowCount image) l h.sound)))
+      rw length-rows at (sound-after_periods (image_of image) (state_of l) w (rw length-rows (state_sound (row_count image) l h.sound)))
 
-  pub later-count : later.periods + (n - length w) ≡ (state_of l).periods + n
-  later-count = rw (periods-afterPeriods (image_of image) (state_of l) w) (omega arith)
+  pub later_count : later.periods + (n - length w) ≡ (state_of l).periods + n
+  later_count = rw (periods_after_periods (image_of image) (state_of l) w) (omega arith)
 
-  pub later-read : state_of (stateBytes later) ≡ later
-  later-read = read_back (rowCount image) later later-sound (omega (arith, later-count, h.room))
+  pub later_read : state_of (state_bytes later) ≡ later
+  later_read = read_back (row_count image) later later-sound (omega (arith, later_count, h.room))
 
-  pub later-long : length (stateBytes later) ≡ length l
-  later-long = length-stateBytes later ∙ rw later-sound.long (sym (ready-long image l n h))
+  pub later_long : length (state_bytes later) ≡ length l
+  later_long = length-state_bytes later ∙ rw later-sound.long (sym (ready_long image l n h))
 
-  pub later-ready : Ready image (stateBytes later) (n - length w)
-  later-ready =
+  pub later_ready : Ready image (state_bytes later) (n - length w)
+  later_ready =
       record {
         good = h.good;
-        sound = sound-passes (rowCount image) later later-sound (omega (arith, later-count, h.room));
-        room = rw (later-read, later-count) h.room;
+        sound = sound_passes (row_count image) later later-sound (omega (arith, later_count, h.room));
+        room = rw (later_read, later_count) h.room;
       }
 
   -- and its answer can be given
-  pub later-answering : Answering (stateBytes later)
-  later-answering =
+  pub later_answering : Answering (state_bytes later)
+  later_answering =
       record {
-        head = omega (arith, later-long, ready-long image l n h);
-        decided-by-now = rw later-read (decision≤ later-sound.head);
+        head = omega (arith, later_long, ready_long image l n h);
+        decided_by_now = rw later_read (decision≤ later-sound.head);
       }
 
 -- the state after one period is read back, and its answer can be given
-pub step-read : (image l : List ℕ) → Ready image l 1 → (p : Period)
-    → state_of (stateBytes (afterPeriod (image_of image) p (state_of l))) ≡ afterPeriod (image_of image) p (state_of l)
-unfolding afterPeriods
-step-read image l h p = later-read image l 1 h (p ∷ []) (omega arith)
+pub step_read : (image l : List ℕ) → Ready image l 1 → (p : Period)
+    → state_of (state_bytes (after_period (image_of image) p (state_of l))) ≡ after_period (image_of image) p (state_of l)
+unfolding after_periods
+step_read image l h p = later_read image l 1 h (p ∷ []) (omega arith)
 
-pub step-answering : (image l : List ℕ) → Ready image l 1 → (p : Period) → Answering (stateBytes (afterPeriod (image_of image) p (state_of l)))
-unfolding afterPeriods
-step-answering image l h p = later-answering image l 1 h (p ∷ []) (omega arith)
+pub step_answering : (image l : List ℕ) → Ready image l 1 → (p : Period) → Answering (state_bytes (after_period (image_of image) p (state_of l)))
+unfolding after_periods
+step_answering image l h p = later_answering image l 1 h (p ∷ []) (omega arith)

@@ -12,43 +12,43 @@ use lib.ListN.{length, get_or, set, take, drop, length-append, length-drop, leng
 use lib.Seq.{take-append-le, take-take, get_or-take, drop_at, length-take-le}
 use Rattle.records.specs.Fields.{value, bytes, field}
 use Rattle.records.specs.declared.Test.TheVariants.{Passed}
-use Rattle.records.proofs.Written.{part-is, part-rest}
-use Rattle.states.specs.Limits.{headBytes}
-use Rattle.states.specs.States.{State, state_of, stateBytes, allAtMost}
-use Rattle.states.specs.Refusals.{stateTest}
-use Rattle.states.proofs.Refusals.{state-passed}
-use Rattle.states.proofs.Values.{allAtMost-mono}
-use Rattle.states.proofs.Soundness.{Sound, sound-facts, values≤}
-use Rattle.machine.specs.Computing.{firstBits, trimmed}
+use Rattle.records.proofs.Written.{part_is, part_rest}
+use Rattle.states.specs.Limits.{head_bytes}
+use Rattle.states.specs.States.{State, state_of, state_bytes, all_at_most}
+use Rattle.states.specs.Refusals.{state_test}
+use Rattle.states.proofs.Refusals.{state_passed}
+use Rattle.states.proofs.Values.{all_at_most-mono}
+use Rattle.states.proofs.Soundness.{Sound, sound_facts, values≤}
+use Rattle.machine.specs.Computing.{first_bits, trimmed}
 
 -- ---- a function put to a list's first k elements, one after the other
 
-abbrev pub mapFirst : (ℕ → ℕ) → ℕ → List ℕ → List ℕ
-mapFirst f zero d = d
-mapFirst f (suc k) [] = []
-mapFirst f (suc k) (v ∷ d) = f v ∷ mapFirst f k d
+abbrev pub map_first : (ℕ → ℕ) → ℕ → List ℕ → List ℕ
+map_first f zero d = d
+map_first f (suc k) [] = []
+map_first f (suc k) (v ∷ d) = f v ∷ map_first f k d
 
 module _ (f : ℕ → ℕ) where
-  pub mapFirst-next : (k : ℕ) (d : List ℕ) → set (mapFirst f k d) k (f (get_or (mapFirst f k d) k 0)) ≡ mapFirst f (suc k) d
-  mapFirst-next zero [] = refl
-  mapFirst-next zero (v ∷ d) = refl
-  mapFirst-next (suc k) [] = refl
-  mapFirst-next (suc k) (v ∷ d) = ap (λ (l : List ℕ). f v ∷ l) (mapFirst-next k d)
+  pub map_first_next : (k : ℕ) (d : List ℕ) → set (map_first f k d) k (f (get_or (map_first f k d) k 0)) ≡ map_first f (suc k) d
+  map_first_next zero [] = refl
+  map_first_next zero (v ∷ d) = refl
+  map_first_next (suc k) [] = refl
+  map_first_next (suc k) (v ∷ d) = ap (λ (l : List ℕ). f v ∷ l) (map_first_next k d)
 
-  pub mapFirst-all : (d : List ℕ) → mapFirst f (length d) d ≡ map f d
-  mapFirst-all [] = refl
-  mapFirst-all (v ∷ d) = ap (λ (l : List ℕ). f v ∷ l) (mapFirst-all d)
+  pub map_first_all : (d : List ℕ) → map_first f (length d) d ≡ map f d
+  map_first_all [] = refl
+  map_first_all (v ∷ d) = ap (λ (l : List ℕ). f v ∷ l) (map_first_all d)
 
 -- ---- the first bits alone
 
-pub length-firstBits : (l : List ℕ) → length (firstBits l) ≡ length l
-unfolding firstBits
-length-firstBits l = length-map l (λ (v : ℕ). v % 2)
+pub length-first_bits : (l : List ℕ) → length (first_bits l) ≡ length l
+unfolding first_bits
+length-first_bits l = length-map l (λ (v : ℕ). v % 2)
 
 pub length-trimmed : (l : List ℕ) → length (trimmed l) ≡ length l
 unfolding trimmed
-length-trimmed l = length-append (take headBytes l) (firstBits (drop headBytes l)) ∙ ap (λ (n : ℕ). length (take headBytes l) + n) (length-firstBits (drop headBytes l))
-    ∙ sym (length-append (take headBytes l) (drop headBytes l)) ∙ ap length (take-append-drop headBytes l)
+length-trimmed l = length-append (take head_bytes l) (first_bits (drop head_bytes l)) ∙ ap (λ (n : ℕ). length (take head_bytes l) + n) (length-first_bits (drop head_bytes l))
+    ∙ sym (length-append (take head_bytes l) (drop head_bytes l)) ∙ ap length (take-append-drop head_bytes l)
 
 -- a part up to the end, put back
 pub put_rest : (n : ℕ) (l vs : List ℕ) → put_mid n (length l - n) l vs ≡ take n l ++ vs
@@ -57,70 +57,70 @@ put_rest n l vs =
     ∙ ap (λ (r : List ℕ). take n l ++ r) (append-nil vs)
 
 -- the rows' part with its first bits alone
-pub trimmed-put : (l vs : List ℕ) → vs ≡ firstBits (take (length l - headBytes) (drop headBytes l)) → put_mid headBytes (length l - headBytes) l vs ≡ trimmed l
+pub trimmed_put : (l vs : List ℕ) → vs ≡ first_bits (take (length l - head_bytes) (drop head_bytes l)) → put_mid head_bytes (length l - head_bytes) l vs ≡ trimmed l
 unfolding trimmed
-trimmed-put l vs e = put_rest headBytes l vs ∙ ap (λ (r : List ℕ). take headBytes l ++ r) (e ∙ ap firstBits (part-rest headBytes l))
+trimmed_put l vs e = put_rest head_bytes l vs ∙ ap (λ (r : List ℕ). take head_bytes l ++ r) (e ∙ ap first_bits (part_rest head_bytes l))
 
 -- ---- a state that passes its test stands for itself
 
-pub state-sound : (n : ℕ) (l : List ℕ) → stateTest n l ≡ Passed → Sound n (state_of l)
+pub state_sound : (n : ℕ) (l : List ℕ) → state_test n l ≡ Passed → Sound n (state_of l)
 unfolding state_of
-state-sound n l h =
-    let b = state-passed n l h in
-    sound-facts n (state_of l) b.1 (length-drop headBytes l ∙ rw b.0 (omega arith))
+state_sound n l h =
+    let b = state_passed n l h in
+    sound_facts n (state_of l) b.1 (length-drop head_bytes l ∙ rw b.0 (omega arith))
 
-firstBits-plain : (l : List ℕ) → allAtMost 1 l ≡ true → firstBits l ≡ l
-unfolding firstBits allAtMost
-firstBits-plain [] h = refl
-firstBits-plain (v ∷ l) h =
-    let b = (and-eq-true_iff (leb v 1) (allAtMost 1 l)).0 h in
+first_bits_plain : (l : List ℕ) → all_at_most 1 l ≡ true → first_bits l ≡ l
+unfolding first_bits all_at_most
+first_bits_plain [] h = refl
+first_bits_plain (v ∷ l) h =
+    let b = (and-eq-true_iff (leb v 1) (all_at_most 1 l)).0 h in
     let k : v < 2 = omega (arith, leb-true v 1 b.0) in
-    rw (mod-eq_of_lt k, firstBits-plain l b.1)
+    rw (mod-eq_of_lt k, first_bits_plain l b.1)
 
-module _ (n : ℕ) (l : List ℕ) (h : stateTest n l ≡ Passed) where
-  values-small : allAtMost 1 (drop headBytes l) ≡ true
+module _ (n : ℕ) (l : List ℕ) (h : state_test n l ≡ Passed) where
+  values_small : all_at_most 1 (drop head_bytes l) ≡ true
   unfolding state_of
-  values-small = values≤ n (state_of l) (state-sound n l h)
+  values_small = values≤ n (state_of l) (state_sound n l h)
 
-  pub trimmed-plain : trimmed l ≡ l
+  pub trimmed_plain : trimmed l ≡ l
   unfolding trimmed
-  trimmed-plain = rw (firstBits-plain (drop headBytes l) values-small) (take-append-drop headBytes l)
+  trimmed_plain = rw (first_bits_plain (drop head_bytes l) values_small) (take-append-drop head_bytes l)
 
-  pub plain-small : allAtMost 3 (drop headBytes l) ≡ true
-  plain-small = allAtMost-mono (drop headBytes l) (omega arith) values-small
+  pub plain_small : all_at_most 3 (drop head_bytes l) ≡ true
+  plain_small = all_at_most-mono (drop head_bytes l) (omega arith) values_small
 
 -- ---- the state that bytes stand for
 
 -- a state with the first bits of its row values alone
 abbrev pub plain : State → State
-plain s = record { outcome = s.outcome; blame = s.blame; periods = s.periods; decision = s.decision; values = firstBits s.values }
+plain s = record { outcome = s.outcome; blame = s.blame; periods = s.periods; decision = s.decision; values = first_bits s.values }
 
-pub trimmed-bytes : (s : State) → trimmed (stateBytes s) ≡ stateBytes (plain s)
-unfolding trimmed stateBytes bytes
+pub trimmed-bytes : (s : State) → trimmed (state_bytes s) ≡ state_bytes (plain s)
+unfolding trimmed state_bytes bytes
 trimmed-bytes s = refl
 
 -- in the head the bytes are as they were
-module _ (l : List ℕ) (h : headBytes ≤ length l) where
+module _ (l : List ℕ) (h : head_bytes ≤ length l) where
   abbrev rest : List ℕ
-  rest = firstBits (drop headBytes l)
+  rest = first_bits (drop head_bytes l)
 
-  head-long : length (take headBytes l) ≡ headBytes
-  head-long = length-take-le headBytes l h
+  head_long : length (take head_bytes l) ≡ head_bytes
+  head_long = length-take-le head_bytes l h
 
-  pub trimmed-at : (i : ℕ) → i < headBytes → get_or (trimmed l) i 0 ≡ get_or l i 0
+  pub trimmed_at : (i : ℕ) → i < head_bytes → get_or (trimmed l) i 0 ≡ get_or l i 0
   unfolding trimmed
-  trimmed-at i k = get_or-append (take headBytes l) rest 0 i (rw head-long k) ∙ get_or-take headBytes l i 0 k
+  trimmed_at i k = get_or-append (take head_bytes l) rest 0 i (rw head_long k) ∙ get_or-take head_bytes l i 0 k
 
-  trimmed-field : (at w : ℕ) → at + w ≤ headBytes → field (trimmed l) at w ≡ field l at w
+  trimmed-field : (at w : ℕ) → at + w ≤ head_bytes → field (trimmed l) at w ≡ field l at w
   unfolding trimmed field
   trimmed-field at w k =
-      ap value (sym (part-is at w (take headBytes l ++ rest))
-      ∙ ap (drop at) (take-append-le (at + w) (take headBytes l) rest (rw head-long k) ∙ take-take (at + w) headBytes l k) ∙ part-is at w l)
+      ap value (sym (part_is at w (take head_bytes l ++ rest))
+      ∙ ap (drop at) (take-append-le (at + w) (take head_bytes l) rest (rw head_long k) ∙ take-take (at + w) head_bytes l k) ∙ part_is at w l)
 
-  trimmed-rest : drop headBytes (trimmed l) ≡ rest
+  trimmed_rest : drop head_bytes (trimmed l) ≡ rest
   unfolding trimmed
-  trimmed-rest = drop_at (take headBytes l) rest headBytes head-long
+  trimmed_rest = drop_at (take head_bytes l) rest head_bytes head_long
 
-  pub trimmed-state : state_of (trimmed l) ≡ plain (state_of l)
+  pub trimmed_state : state_of (trimmed l) ≡ plain (state_of l)
   unfolding state_of
-  trimmed-state = rw (trimmed-at 0 (omega arith), trimmed-at 1 (omega arith), trimmed-field 2 4 (omega arith), trimmed-field 6 4 (omega arith), trimmed-rest)
+  trimmed_state = rw (trimmed_at 0 (omega arith), trimmed_at 1 (omega arith), trimmed-field 2 4 (omega arith), trimmed-field 6 4 (omega arith), trimmed_rest)

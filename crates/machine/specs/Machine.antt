@@ -11,8 +11,8 @@ abbrev pub byte_of : Bool → ℕ
 byte_of false = 0
 byte_of true = 1
 
-abbrev pub isTrue : ℕ → Bool
-isTrue v = eqb v 1
+abbrev pub is_true : ℕ → Bool
+is_true v = eqb v 1
 
 -- A row's value, from whether this is period 1, the period's attempts, the rows' values of the period before and the lower rows'
 -- values of this one.
@@ -26,24 +26,24 @@ value first p old new (disjunction x y) = get_or new x false || get_or new y fal
 value first p old new (previous x) = not first && get_or old x false
 
 -- the values of the first n rows, computed in order
-unfoldable pub newValues : Bool → Period → List Bool → List Row → ℕ → List Bool
-newValues first p old rows zero = []
-newValues first p old rows (suc n) =
-    newValues first p old rows n ++ (value first p old (newValues first p old rows n) (get_or rows n never) ∷ [])
+unfoldable pub new_values : Bool → Period → List Bool → List Row → ℕ → List Bool
+new_values first p old rows zero = []
+new_values first p old rows (suc n) =
+    new_values first p old rows n ++ (value first p old (new_values first p old rows n) (get_or rows n never) ∷ [])
 
 -- every row's value in the period after a state
-unfoldable pub valuesAfter : Image → Period → State → List Bool
-valuesAfter m p s = newValues (eqb s.periods 0) p (map isTrue s.values) m.rows (length m.rows)
+unfoldable pub values_after : Image → Period → State → List Bool
+values_after m p s = new_values (eqb s.periods 0) p (map is_true s.values) m.rows (length m.rows)
 
 -- "decides if S, V1 or V2 is then true: violated if V1 or V2 is, blame 1, 2 or 3 accordingly; otherwise satisfied"
-abbrev pub outcomeOf : Bool → Bool → Bool → ℕ
-outcomeOf s v1 v2 = cond (v1 || v2) 2 (cond s 1 0)
+abbrev pub outcome_of : Bool → Bool → Bool → ℕ
+outcome_of s v1 v2 = cond (v1 || v2) 2 (cond s 1 0)
 
-abbrev pub blameOf : Bool → Bool → ℕ
-blameOf false false = 0
-blameOf true false = 1
-blameOf false true = 2
-blameOf true true = 3
+abbrev pub blame_of : Bool → Bool → ℕ
+blame_of false false = 0
+blame_of true false = 1
+blame_of false true = 2
+blame_of true true = 3
 
 -- a period that finds outcome 0 and gives the rows these values
 unfoldable pub computed : Image → List Bool → State → State
@@ -52,8 +52,8 @@ computed m new s =
     let v1 = get_or new m.V1 false in
     let v2 = get_or new m.V2 false in
     record {
-      outcome = outcomeOf sat v1 v2;
-      blame = blameOf v1 v2;
+      outcome = outcome_of sat v1 v2;
+      blame = blame_of v1 v2;
       periods = s.periods + 1;
       decision = cond (sat || v1 || v2) (s.periods + 1) 0;
       values = map byte_of new;
@@ -68,10 +68,10 @@ abbrev pub undecided : State → Bool
 undecided s = eqb s.outcome 0
 
 -- the state after one period
-unfoldable pub afterPeriod : Image → Period → State → State
-afterPeriod m p s = cond (undecided s) (computed m (valuesAfter m p s) s) (counted s)
+unfoldable pub after_period : Image → Period → State → State
+after_period m p s = cond (undecided s) (computed m (values_after m p s) s) (counted s)
 
 -- the state after a list of periods
-unfoldable pub afterPeriods : Image → State → List Period → State
-afterPeriods m s [] = s
-afterPeriods m s (p ∷ w) = afterPeriods m (afterPeriod m p s) w
+unfoldable pub after_periods : Image → State → List Period → State
+after_periods m s [] = s
+after_periods m s (p ∷ w) = after_periods m (after_period m p s) w

@@ -2,55 +2,55 @@
 use mathlib.Core.Path.{refl}
 use Rattle.records.specs.Fields.{bytes, value, field}
 use Rattle.records.specs.Marks.{marked}
-use Rattle.records.specs.Refusals.{firstFailing}
-use Rattle.periods.specs.Forms.{eitherMark}
-use Rattle.periods.specs.Periods.{bit, tries, succeeds, periodFrom}
-use Rattle.periods.specs.Traces.{wholePeriods, recordAt, firstRecords, periodAt, periodsOf, markedAt, marksTest, formOf, formTest, startTest, traceTest, periodTest}
-use Rattle.periods.specs.Making.{recordOf, recordsOf}
+use Rattle.records.specs.Refusals.{first_failing}
+use Rattle.periods.specs.Forms.{either_mark}
+use Rattle.periods.specs.Periods.{bit, tries, succeeds, period_from}
+use Rattle.periods.specs.Traces.{whole_periods, record_at, first_records, period_at, periods_of, marked_at, marks_test, form_of, form_test, start_test, trace_test, period_test}
+use Rattle.periods.specs.Making.{record_of, records_of}
 use Rattle.periods.specs.Examples.{PeriodVectors}
 
-pub period-vectors : PeriodVectors
+pub period_vectors : PeriodVectors
 unfolding
-    field value bytes marked firstFailing eitherMark formOf bit tries succeeds periodFrom wholePeriods recordAt firstRecords periodAt periodsOf markedAt marksTest
-    recordOf recordsOf formTest startTest traceTest periodTest
-period-vectors =
+    field value bytes marked first_failing either_mark form_of bit tries succeeds period_from whole_periods record_at first_records period_at periods_of marked_at marks_test
+    record_of records_of form_test start_test trace_test period_test
+period_vectors =
     record {
-      actions-32 = refl;
-      party-numbers = refl;
+      actions_32 = refl;
+      party_numbers_lem = refl;
       parties = refl;
-      other-parties = refl;
-      form-marks = refl;
-      mask-bytes = refl;
-      period-bytes = refl;
+      other_parties = refl;
+      form_marks = refl;
+      mask_bytes_lem = refl;
+      period_bytes_lem = refl;
       forms = refl;
-      either-marks = refl;
-      narrow-masks = refl;
-      wide-masks = refl;
-      record-counts = refl;
-      first-records = refl;
-      second-record = refl;
-      narrow-records = refl;
-      wide-records = refl;
-      in-wide = refl;
-      too-narrow = refl;
-      tried-bits = refl;
-      upper-narrow = refl;
-      upper-wide = refl;
-      tried-by-1 = refl;
-      tried-by-2 = refl;
+      either_marks = refl;
+      narrow_masks = refl;
+      wide_masks = refl;
+      record_counts = refl;
+      first_records_lem = refl;
+      second_record = refl;
+      narrow_records = refl;
+      wide_records = refl;
+      in_wide_lem = refl;
+      too_narrow = refl;
+      tried_bits = refl;
+      upper_narrow = refl;
+      upper_wide = refl;
+      tried_by_1 = refl;
+      tried_by_2 = refl;
       succeeded = refl;
-      narrow-steps = refl;
-      wide-steps = refl;
-      other-steps = refl;
-      other-form-steps = refl;
-      narrow-traces = refl;
-      wide-traces = refl;
-      other-traces = refl;
-      five-taken = refl;
+      narrow_steps = refl;
+      wide_steps = refl;
+      other_steps = refl;
+      other_form_steps = refl;
+      narrow_traces = refl;
+      wide_traces = refl;
+      other_traces = refl;
+      five_taken = refl;
       narrow-marks = refl;
-      wide-marks = refl;
+      wide_marks = refl;
       other-forms = refl;
-      length-first = refl;
+      length_first = refl;
       first-tests = refl;
       start-tests = refl;
       first_marks = refl;

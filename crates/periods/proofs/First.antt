@@ -9,99 +9,99 @@ use lib.Seq.{length-take-le, get_or-take, take_all, take-take}
 use Rattle.records.specs.Fields.{field, value}
 use Rattle.records.specs.Marks.{marked}
 use Rattle.records.specs.declared.Test.TheVariants.{Passed}
-use Rattle.records.proofs.Cases.{lt-or-le}
-use Rattle.records.proofs.Written.{part-is}
+use Rattle.records.proofs.Cases.{lt_or_le}
+use Rattle.records.proofs.Written.{part_is}
 use Rattle.periods.specs.declared.Form.{Form}
-use Rattle.periods.specs.Forms.{maskBytes, periodBytes}
-use Rattle.periods.specs.Periods.{periodFrom}
-use Rattle.periods.specs.Traces.{wholePeriods, firstRecords, periodAt, periodsOf, markedAt, formOf, periodRecords, tracePeriods, startTest}
-use Rattle.periods.proofs.Forms.{mark-inside, some-marked, no_bytes, records-inside, next-inside, k-whole, has-whole, either-take, form-take}
-use Rattle.periods.proofs.Traces.{start-mark, start-whole}
+use Rattle.periods.specs.Forms.{mask_bytes, period_bytes}
+use Rattle.periods.specs.Periods.{period_from}
+use Rattle.periods.specs.Traces.{whole_periods, first_records, period_at, periods_of, marked_at, form_of, period_records, trace_periods, start_test}
+use Rattle.periods.proofs.Forms.{mark_inside, some_marked, no_bytes, records-inside, next_inside, k_whole, has_whole, either_take, form_take}
+use Rattle.periods.proofs.Traces.{start_mark, start_whole}
 
 -- a field that stands in a list's first m bytes
 field-take : (m : ℕ) (l : List ℕ) (at w : ℕ) → at + w ≤ m → field (take m l) at w ≡ field l at w
 unfolding field
-field-take m l at w h = ap value (sym (part-is at w (take m l)) ∙ ap (drop at) (take-take (at + w) m l h) ∙ part-is at w l)
+field-take m l at w h = ap value (sym (part_is at w (take m l)) ∙ ap (drop at) (take-take (at + w) m l h) ∙ part_is at w l)
 
 -- ---- as records of one form
 
-module _ (f : Form) (l : List ℕ) (k : ℕ) (h : k ≤ wholePeriods f l) where
+module _ (f : Form) (l : List ℕ) (k : ℕ) (h : k ≤ whole_periods f l) where
   abbrev part : List ℕ
-  part = firstRecords f l k
+  part = first_records f l k
 
-  part_bytes : length part ≡ periodBytes f * k
-  unfolding firstRecords
-  part_bytes = length-take-le (periodBytes f * k) l (records-inside f l k h)
+  part_bytes : length part ≡ period_bytes f * k
+  unfolding first_records
+  part_bytes = length-take-le (period_bytes f * k) l (records-inside f l k h)
 
-  part-marked : (i : ℕ) → i < k → markedAt f part i ≡ markedAt f l i
-  unfolding markedAt marked firstRecords
-  part-marked i j =
-      let n = next-inside f i k j in
-      let m = periodBytes f * k in
-      let r = mark-inside f in
-      rw (get_or-take m l (periodBytes f * i) 0 (omega arith), get_or-take m l (periodBytes f * i + 1) 0 (omega arith))
+  part_marked : (i : ℕ) → i < k → marked_at f part i ≡ marked_at f l i
+  unfolding marked_at marked first_records
+  part_marked i j =
+      let n = next_inside f i k j in
+      let m = period_bytes f * k in
+      let r = mark_inside f in
+      rw (get_or-take m l (period_bytes f * i) 0 (omega arith), get_or-take m l (period_bytes f * i + 1) 0 (omega arith))
 
-  part_at : (i : ℕ) → i < k → periodAt f part i ≡ periodAt f l i
-  unfolding periodAt periodFrom firstRecords
+  part_at : (i : ℕ) → i < k → period_at f part i ≡ period_at f l i
+  unfolding period_at period_from first_records
   part_at i j =
-      let n = next-inside f i k j in
-      let m = periodBytes f * k in
-      let at = periodBytes f * i + 2 in
-      rw (field-take m l at (maskBytes f) (omega arith), field-take m l (at + maskBytes f) (maskBytes f) (omega arith))
+      let n = next_inside f i k j in
+      let m = period_bytes f * k in
+      let at = period_bytes f * i + 2 in
+      rw (field-take m l at (mask_bytes f) (omega arith), field-take m l (at + mask_bytes f) (mask_bytes f) (omega arith))
 
-  part-periods : (j : ℕ) → j ≤ k → periodsOf f part j ≡ periodsOf f l j
-  unfolding periodsOf
-  part-periods zero i = refl
-  part-periods (suc j) i = rw (part-periods j (omega arith), part_at j i)
+  part_periods : (j : ℕ) → j ≤ k → periods_of f part j ≡ periods_of f l j
+  unfolding periods_of
+  part_periods zero i = refl
+  part_periods (suc j) i = rw (part_periods j (omega arith), part_at j i)
 
 -- ---- as a trace
 
-module _ (trace : List ℕ) (k : ℕ) (h : k ≤ periodRecords trace) where
+module _ (trace : List ℕ) (k : ℕ) (h : k ≤ period_records trace) where
   abbrev form : Form
-  form = formOf trace
+  form = form_of trace
 
   abbrev front : List ℕ
-  front = firstRecords form trace k
+  front = first_records form trace k
 
   -- some records have the trace's form
-  first-form : 0 < k → formOf front ≡ form
-  unfolding firstRecords
-  first-form s = form-take (periodBytes form * k) trace (some-marked form k s)
+  first_form : 0 < k → form_of front ≡ form
+  unfolding first_records
+  first_form s = form_take (period_bytes form * k) trace (some_marked form k s)
 
-  pub first-marked : (i : ℕ) → i < k → markedAt (formOf front) front i ≡ markedAt form trace i
-  first-marked i l = rw (first-form (omega arith)) (part-marked form trace k h i l)
+  pub first_marked : (i : ℕ) → i < k → marked_at (form_of front) front i ≡ marked_at form trace i
+  first_marked i l = rw (first_form (omega arith)) (part_marked form trace k h i l)
 
-  pub first-periods : (j : ℕ) → j ≤ k → tracePeriods front j ≡ tracePeriods trace j
-  unfolding periodsOf
-  first-periods zero i = refl
-  first-periods (suc j) i = rw (first-form (omega arith)) (part-periods form trace k h (suc j) i)
+  pub first_periods : (j : ℕ) → j ≤ k → trace_periods front j ≡ trace_periods trace j
+  unfolding periods_of
+  first_periods zero i = refl
+  first_periods (suc j) i = rw (first_form (omega arith)) (part_periods form trace k h (suc j) i)
 
-  first-bytes : length front ≡ periodBytes (formOf front) * k
-  first-bytes =
-      ⊎_elim (λ (s : 0 < k). rw (first-form s) (part_bytes form trace k h))
-      (λ (s : k ≤ 0). part_bytes form trace k h ∙ no_bytes form (formOf front) k s) (lt-or-le 0 k)
+  first_bytes : length front ≡ period_bytes (form_of front) * k
+  first_bytes =
+      ⊎_elim (λ (s : 0 < k). rw (first_form s) (part_bytes form trace k h))
+      (λ (s : k ≤ 0). part_bytes form trace k h ∙ no_bytes form (form_of front) k s) (lt_or_le 0 k)
 
-  pub first_count : periodRecords front ≡ k
-  first_count = (k-whole (formOf front) front k first-bytes).0
+  pub first_count : period_records front ≡ k
+  first_count = (k_whole (form_of front) front k first_bytes).0
 
-  pub first-start : startTest trace ≡ Passed → startTest front ≡ Passed
-  unfolding firstRecords
-  first-start t =
-      start-whole front k first-bytes
-      (λ s. let b = some-marked form k s in
+  pub first_start : start_test trace ≡ Passed → start_test front ≡ Passed
+  unfolding first_records
+  first_start t =
+      start_whole front k first_bytes
+      (λ s. let b = some_marked form k s in
       let i = records-inside form trace k h in
-      either-take (periodBytes form * k) trace b ∙ start-mark trace (omega arith) t)
+      either_take (period_bytes form * k) trace b ∙ start_mark trace (omega arith) t)
 
 -- a trace that starts with the first k records of another has as many
-pub first-long : (t u : List ℕ) (k : ℕ) → k ≤ periodRecords t → firstRecords (formOf u) u k ≡ firstRecords (formOf t) t k → k ≤ periodRecords u
-unfolding firstRecords
-first-long t u k h e =
+pub first_long : (t u : List ℕ) (k : ℕ) → k ≤ period_records t → first_records (form_of u) u k ≡ first_records (form_of t) t k → k ≤ period_records u
+unfolding first_records
+first_long t u k h e =
     ⊎_elim
     (λ (s : 0 < k).
-    let m = periodBytes (formOf u) * k in
-    let o : formOf u ≡ formOf t =
-    sym (form-take m u (some-marked (formOf u) k s)) ∙ ap formOf e ∙ form-take (periodBytes (formOf t) * k) t (some-marked (formOf t) k s) in
-    let long : length (take m u) ≡ m = ap length e ∙ part_bytes (formOf t) t k h ∙ rw o in
-    has-whole (formOf u) u k
-    (⊎_elim (λ (l : length u < m). absurd (let q = sym (ap length (take_all m u (omega arith))) ∙ long in omega arith)) (λ (l : m ≤ length u). l) (lt-or-le (length u) m)))
-    (λ (s : k ≤ 0). omega arith) (lt-or-le 0 k)
+    let m = period_bytes (form_of u) * k in
+    let o : form_of u ≡ form_of t =
+    sym (form_take m u (some_marked (form_of u) k s)) ∙ ap form_of e ∙ form_take (period_bytes (form_of t) * k) t (some_marked (form_of t) k s) in
+    let long : length (take m u) ≡ m = ap length e ∙ part_bytes (form_of t) t k h ∙ rw o in
+    has_whole (form_of u) u k
+    (⊎_elim (λ (l : length u < m). absurd (let q = sym (ap length (take_all m u (omega arith))) ∙ long in omega arith)) (λ (l : m ≤ length u). l) (lt_or_le (length u) m)))
+    (λ (s : k ≤ 0). omega arith) (lt_or_le 0 k)

@@ -9,13 +9,13 @@ use lib.Pow.{pow_pos}
 use Rattle.periods.specs.Periods.{bit}
 
 -- a bit is what a shift and a mask of 1 leave, whatever the mask's type
-pub bit-shift : (mask a : ℕ) → eqb (bit_and (mask / 2 ^ a) 1) 1 ≡ bit mask a
+pub bit_shift : (mask a : ℕ) → eqb (bit_and (mask / 2 ^ a) 1) 1 ≡ bit mask a
 unfolding bit
-bit-shift mask a = rw (and_mask (mask / 2 ^ a) 1)
+bit_shift mask a = rw (and_mask (mask / 2 ^ a) 1)
 
-pub bit-own : (a : ℕ) → bit (2 ^ a) a ≡ true
+pub bit_own : (a : ℕ) → bit (2 ^ a) a ≡ true
 unfolding bit
-bit-own a = rw (div_self (pow_pos a))
+bit_own a = rw (div_self (pow_pos a))
 
 pub bit-zero : (a : ℕ) → bit 0 a ≡ false
 unfolding bit

@@ -10,21 +10,21 @@ use lib.Pow as Pow
 use Rattle.records.specs.Fields.{bytes, field, value}
 use Rattle.records.specs.Marks.{marked}
 use Rattle.records.specs.Holding.{AllBytes}
-use Rattle.records.proofs.Fields.{allBelow-cons, allBytes-bytes, value-bytes}
+use Rattle.records.proofs.Fields.{all_below_cons, all_bytes_bytes, value_bytes}
 use Rattle.records.specs.declared.Test.TheVariants.{Passed}
 use Rattle.periods.specs.declared.Form.TheVariants.{Wide}
-use Rattle.periods.specs.Forms.{eitherMark}
+use Rattle.periods.specs.Forms.{either_mark}
 use Rattle.periods.specs.Limits.{actions}
-use Rattle.periods.specs.Periods.{Party, party1, party2, Period, bit, tries, periodFrom}
-use Rattle.periods.specs.Traces.{periodAt, formOf, formTest, periodIn, periodTest}
-use Rattle.periods.specs.Making.{recordOf}
+use Rattle.periods.specs.Periods.{Party, party1, party2, Period, bit, tries, period_from}
+use Rattle.periods.specs.Traces.{period_at, form_of, form_test, period_in, period_test}
+use Rattle.periods.specs.Making.{record_of}
 
 -- some record holds this period
 pub record Recorded (x : Period) : Type 0 where
-  pub record-bytes : List ℕ
-  pub are-bytes : AllBytes record-bytes
-  pub passes : periodTest record-bytes ≡ Passed
-  pub holds : periodIn record-bytes ≡ x
+  pub record_bytes_lem : List ℕ
+  pub are_bytes : AllBytes record_bytes_lem
+  pub passes : period_test record_bytes_lem ≡ Passed
+  pub holds : period_in record_bytes_lem ≡ x
 
 -- the period without the bits above the last action
 abbrev pub masked : Period → Period
@@ -41,24 +41,24 @@ low_bit mask n a h =
     let i : mask % 2 ^ n / 2 ^ a % 2 ≡ mask / 2 ^ a % 2 = rw (e, Pow.field mask (j + 1) a) (Pow.mod-mod-pow (mask / 2 ^ a) j 1) in
     rw i
 
-pub masked-tries : (x : Period) (p : Party) (a : ℕ) → a < actions → tries (masked x) p a ≡ tries x p a
+pub masked_tries : (x : Period) (p : Party) (a : ℕ) → a < actions → tries (masked x) p a ≡ tries x p a
 unfolding tries
-masked-tries x party1 a h = low_bit x.attempts1 actions a h
-masked-tries x party2 a h = low_bit x.attempts2 actions a h
+masked_tries x party1 a h = low_bit x.attempts1 actions a h
+masked_tries x party2 a h = low_bit x.attempts2 actions a h
 
 -- ---- and a record holds it
 
-bytes-before : (w n : ℕ) (l : List ℕ) → AllBytes l → AllBytes (bytes w n ++ l)
+bytes_before : (w n : ℕ) (l : List ℕ) → AllBytes l → AllBytes (bytes w n ++ l)
 unfolding bytes
-bytes-before zero n l h = h
-bytes-before (suc w) n l h = allBelow-cons (mod-lt n (lit< tt)) (bytes-before w (n / 256) l h)
+bytes_before zero n l h = h
+bytes_before (suc w) n l h = all_below_cons (mod-lt n (lit< tt)) (bytes_before w (n / 256) l h)
 
-pub masked-recorded : (x : Period) → Recorded (masked x)
-unfolding recordOf periodTest formTest eitherMark formOf marked periodAt periodFrom field value bytes
-masked-recorded x =
+pub masked_recorded : (x : Period) → Recorded (masked x)
+unfolding record_of period_test form_test either_mark form_of marked period_at period_from field value bytes
+masked_recorded x =
     record {
-      record-bytes = recordOf Wide x;
-      are-bytes = allBelow-cons (lit< tt) (allBelow-cons (lit< tt) (bytes-before 4 x.attempts1 (bytes 4 x.attempts2) (allBytes-bytes 4 x.attempts2)));
+      record_bytes_lem = record_of Wide x;
+      are_bytes = all_below_cons (lit< tt) (all_below_cons (lit< tt) (bytes_before 4 x.attempts1 (bytes 4 x.attempts2) (all_bytes_bytes 4 x.attempts2)));
       passes = refl;
-      holds = rw (value-bytes 4 x.attempts1, value-bytes 4 x.attempts2);
+      holds = rw (value_bytes 4 x.attempts1, value_bytes 4 x.attempts2);
     }

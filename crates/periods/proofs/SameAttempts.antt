@@ -9,62 +9,62 @@ use Rattle.records.specs.declared.Test.TheVariants.{Passed}
 use Rattle.records.proofs.Fields.{field_lt}
 use Rattle.periods.specs.declared.Form.{Form}
 use Rattle.periods.specs.declared.Form.TheVariants.{Wide}
-use Rattle.periods.specs.Forms.{maskBytes, periodBytes}
-use Rattle.periods.specs.Periods.{periodFrom}
-use Rattle.periods.specs.Traces.{periodAt, periodsOf, formOf, periodRecords, tracePeriods, startTest, periodIn, periodTest}
-use Rattle.periods.specs.Making.{recordOf}
-use Rattle.periods.specs.SameAttempts.{inWide, SameAttempts}
+use Rattle.periods.specs.Forms.{mask_bytes, period_bytes}
+use Rattle.periods.specs.Periods.{period_from}
+use Rattle.periods.specs.Traces.{period_at, periods_of, form_of, period_records, trace_periods, start_test, period_in, period_test}
+use Rattle.periods.specs.Making.{record_of}
+use Rattle.periods.specs.SameAttempts.{in_wide, SameAttempts}
 use Rattle.periods.proofs.Forms.{wider}
-use Rattle.periods.proofs.Traces.{length-periodsOf, periods-split}
-use Rattle.periods.proofs.Making.{Fits, AllFit, allFit-more, made-passes, made_in, wide-count, wide-starts, wide-periods}
+use Rattle.periods.proofs.Traces.{length-periods_of, periods_split}
+use Rattle.periods.proofs.Making.{Fits, AllFit, all_fit_more, made_passes, made_in, wide_count, wide_starts, wide_periods}
 
 -- ---- the first of the same periods
 
 -- the periods of the first records are the first periods
-periods-take : (f : Form) (l : List ℕ) (k n : ℕ) → k ≤ n → take k (periodsOf f l n) ≡ periodsOf f l k
-periods-take f l k n h =
-    let s = periods-split f l k n h in
-    rw s.1 (take_at (periodsOf f l k) s.0 k (length-periodsOf f l k))
+periods_take : (f : Form) (l : List ℕ) (k n : ℕ) → k ≤ n → take k (periods_of f l n) ≡ periods_of f l k
+periods_take f l k n h =
+    let s = periods_split f l k n h in
+    rw s.1 (take_at (periods_of f l k) s.0 k (length-periods_of f l k))
 
 module _ (t u : List ℕ) (s : SameAttempts t u) where
-  pub as_many : periodRecords u ≡ periodRecords t
+  pub as_many : period_records u ≡ period_records t
   as_many =
-      sym (length-periodsOf (formOf u) u (periodRecords u)) ∙ ap length s.periods ∙ length-periodsOf (formOf t) t (periodRecords t)
+      sym (length-periods_of (form_of u) u (period_records u)) ∙ ap length s.periods ∙ length-periods_of (form_of t) t (period_records t)
 
-  pub same-periods : (n : ℕ) → n ≤ periodRecords t → tracePeriods u n ≡ tracePeriods t n
-  same-periods n h =
-      let m : n ≤ periodRecords u = rw as_many h in
-      sym (periods-take (formOf u) u n (periodRecords u) m) ∙ ap (take n) s.periods ∙ periods-take (formOf t) t n (periodRecords t) h
+  pub same_periods : (n : ℕ) → n ≤ period_records t → trace_periods u n ≡ trace_periods t n
+  same_periods n h =
+      let m : n ≤ period_records u = rw as_many h in
+      sym (periods_take (form_of u) u n (period_records u) m) ∙ ap (take n) s.periods ∙ periods_take (form_of t) t n (period_records t) h
 
 -- ---- the wide trace with the same attempts
 
 -- a record's masks fit into those of a wide one
-period-fits : (trace : List ℕ) → AllBytes trace → (k : ℕ) → Fits Wide (periodAt (formOf trace) trace k)
-unfolding periodAt periodFrom
-period-fits trace b k =
-    let f = formOf trace in
+period_fits : (trace : List ℕ) → AllBytes trace → (k : ℕ) → Fits Wide (period_at (form_of trace) trace k)
+unfolding period_at period_from
+period_fits trace b k =
+    let f = form_of trace in
     record {
-      fits1 = wider f (field_lt trace (periodBytes f * k + 2) (maskBytes f) b);
-      fits2 = wider f (field_lt trace (periodBytes f * k + 2 + maskBytes f) (maskBytes f) b);
+      fits1 = wider f (field_lt trace (period_bytes f * k + 2) (mask_bytes f) b);
+      fits2 = wider f (field_lt trace (period_bytes f * k + 2 + mask_bytes f) (mask_bytes f) b);
     }
 
 module _ (trace : List ℕ) (b : AllBytes trace) where
   abbrev form : Form
-  form = formOf trace
+  form = form_of trace
 
   abbrev total : ℕ
-  total = periodRecords trace
+  total = period_records trace
 
-  all_fit : (n : ℕ) → AllFit Wide (periodsOf form trace n)
-  unfolding periodsOf
+  all_fit : (n : ℕ) → AllFit Wide (periods_of form trace n)
+  unfolding periods_of
   all_fit zero = tt
-  all_fit (suc n) = allFit-more Wide (periodsOf form trace n) (periodAt form trace n) (all_fit n) (period-fits trace b n)
+  all_fit (suc n) = all_fit_more Wide (periods_of form trace n) (period_at form trace n) (all_fit n) (period_fits trace b n)
 
-  pub in-wide : startTest trace ≡ Passed → SameAttempts trace (inWide trace)
-  in-wide t =
-      let w = tracePeriods trace total in
-      record { starts = wide-starts w ∙ sym t; periods = rw (wide-count w) (wide-periods w (all_fit total)) }
+  pub in_wide_lem : start_test trace ≡ Passed → SameAttempts trace (in_wide trace)
+  in_wide_lem t =
+      let w = trace_periods trace total in
+      record { starts = wide_starts w ∙ sym t; periods = rw (wide_count w) (wide_periods w (all_fit total)) }
 
 -- the same of a step's one record
-pub record-in-wide : (r : List ℕ) → AllBytes r → (periodTest (recordOf Wide (periodIn r)) ≡ Passed) × (periodIn (recordOf Wide (periodIn r)) ≡ periodIn r)
-record-in-wide r b = (made-passes Wide (periodIn r), made_in Wide (periodIn r) (period-fits r b 0))
+pub record_in_wide : (r : List ℕ) → AllBytes r → (period_test (record_of Wide (period_in r)) ≡ Passed) × (period_in (record_of Wide (period_in r)) ≡ period_in r)
+record_in_wide r b = (made_passes Wide (period_in r), made_in Wide (period_in r) (period_fits r b 0))

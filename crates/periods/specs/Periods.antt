@@ -3,20 +3,20 @@ use Rattle.std.specs.Prelude.{ℕ, ◌+◌, ◌/◌, ◌%◌, ◌^◌, Bool, ◌
 use Rattle.std.proofs.Math.Option.{Option, none, some}
 use Rattle.records.specs.Fields.{field}
 use Rattle.periods.specs.declared.Form.{Form}
-use Rattle.periods.specs.Forms.{maskBytes}
+use Rattle.periods.specs.Forms.{mask_bytes}
 
 -- the two parties to a contract
 pub data Party : Type 0 where
   party1 party2 : Party
 
 -- a party's number in records: 1 or 2
-abbrev pub partyNumber : Party → ℕ
-partyNumber party1 = 1
-partyNumber party2 = 2
+abbrev pub party_number : Party → ℕ
+party_number party1 = 1
+party_number party2 = 2
 
 -- the party of a number in records, if it is one
-abbrev pub partyOf : ℕ → Option Party
-partyOf n = cond (eqb n 1) (some party1) (cond (eqb n 2) (some party2) none)
+abbrev pub party_of : ℕ → Option Party
+party_of n = cond (eqb n 1) (some party1) (cond (eqb n 2) (some party2) none)
 
 -- p is the record's party, q the other
 abbrev pub other : Party → Party
@@ -46,5 +46,5 @@ unfoldable pub succeeds : Period → ℕ → Bool
 succeeds x a = tries x party1 a && tries x party2 a
 
 -- the period that the bytes from byte `at` on hold in a form: party 1's attempts after the mark, then party 2's
-unfoldable pub periodFrom : Form → List ℕ → (at : ℕ) → Period
-periodFrom f l at = record { attempts1 = field l (at + 2) (maskBytes f); attempts2 = field l (at + 2 + maskBytes f) (maskBytes f) }
+unfoldable pub period_from : Form → List ℕ → (at : ℕ) → Period
+period_from f l at = record { attempts1 = field l (at + 2) (mask_bytes f); attempts2 = field l (at + 2 + mask_bytes f) (mask_bytes f) }

@@ -3,12 +3,12 @@
 ghost use Rattle.std.specs.Prelude.{◌≡◌, ◌+◌, ◌*◌, ◌<◌, ◌≤◌, ltb, length};
 ghost use Rattle.records.specs.Holding.{HoldsField};
 ghost use Rattle.records.specs.Marks.{marked};
-ghost use Rattle.records.specs.Refusals.{firstFailing};
+ghost use Rattle.records.specs.Refusals.{first_failing};
 ghost use Rattle.periods.specs.Limits.{actions};
-ghost use Rattle.periods.specs.Forms.{formMark, maskBytes, periodBytes, eitherMark};
-ghost use Rattle.periods.specs.Periods.{Party, partyNumber, bit, tries, periodFrom};
-ghost use Rattle.periods.specs.Computing.{periodOf, HoldsPeriod};
-ghost use Rattle.periods.specs.Traces.{wholePeriods, periodAt, markedAt, marksTest, formOf, periodRecords, formTest, startTest, traceTest, periodTest};
+ghost use Rattle.periods.specs.Forms.{form_mark, mask_bytes, period_bytes, either_mark};
+ghost use Rattle.periods.specs.Periods.{Party, party_number, bit, tries, period_from};
+ghost use Rattle.periods.specs.Computing.{period_of, HoldsPeriod};
+ghost use Rattle.periods.specs.Traces.{whole_periods, period_at, marked_at, marks_test, form_of, period_records, form_test, start_test, trace_test, period_test};
 
 use records::{Fault, Test};
 
@@ -40,7 +40,7 @@ pub fn bit(mask: u32, action: u32) -> bool
 // Whether party `party` tries the action.
 pub fn tried(a: Attempts, party: u32, action: u32) -> bool
     requires { action < actions }
-    ensures { (p : Party) → party ≡ partyNumber p → result ≡ tries (periodOf a) p action }
+    ensures { (p : Party) → party ≡ party_number p → result ≡ tries (period_of a) p action }
 {
     if party == 1 {
         bit(a.one, action)
@@ -65,7 +65,7 @@ const WIDE_BYTES: usize = 10;
 
 // The bytes of one party's attempts.
 fn mask_bytes(form: Form) -> usize
-    ensures { result ≡ maskBytes form }
+    ensures { result ≡ mask_bytes form }
 {
     match form {
         Form::Narrow => 2,
@@ -75,7 +75,7 @@ fn mask_bytes(form: Form) -> usize
 
 // The bytes of a record.
 pub fn period_bytes(form: Form) -> usize
-    ensures { result ≡ periodBytes form }
+    ensures { result ≡ period_bytes form }
 {
     match form {
         Form::Narrow => NARROW_BYTES,
@@ -85,8 +85,8 @@ pub fn period_bytes(form: Form) -> usize
 
 // One party's attempts, from byte `at` on.
 fn read_mask(form: Form, s: &[u8], at: usize) -> u32
-    requires { at + maskBytes form ≤ length s.now }
-    ensures { HoldsField s.now at (maskBytes form) result }
+    requires { at + mask_bytes form ≤ length s.now }
+    ensures { HoldsField s.now at (mask_bytes form) result }
 {
     match form {
         Form::Narrow => records::get2(s, at),
@@ -96,8 +96,8 @@ fn read_mask(form: Form, s: &[u8], at: usize) -> u32
 
 // Both parties' attempts in the record from byte `at` on.
 fn read_from(form: Form, s: &[u8], at: usize) -> Attempts
-    requires { at + periodBytes form ≤ length s.now }
-    ensures { HoldsPeriod (periodFrom form s.now at) result }
+    requires { at + period_bytes form ≤ length s.now }
+    ensures { HoldsPeriod (period_from form s.now at) result }
 {
     Attempts {
         one: read_mask(form, s, at + 2),
@@ -108,7 +108,7 @@ fn read_from(form: Form, s: &[u8], at: usize) -> Attempts
 // Whether the bytes from byte `at` on start with a form's mark.
 fn marked_from(form: Form, s: &[u8], at: usize) -> bool
     requires { at + 2 ≤ length s.now }
-    ensures { result ≡ marked s.now at (formMark form) }
+    ensures { result ≡ marked s.now at (form_mark form) }
 {
     match form {
         Form::Narrow => records::marked(s, at, records::NARROW_MARK),
@@ -119,14 +119,14 @@ fn marked_from(form: Form, s: &[u8], at: usize) -> bool
 // Whether the bytes from byte `at` on start with either form's mark.
 pub fn either_mark(s: &[u8], at: usize) -> bool
     requires { at + 2 ≤ length s.now }
-    ensures { result ≡ eitherMark s.now at }
+    ensures { result ≡ either_mark s.now at }
 {
     marked_from(Form::Narrow, s, at) || marked_from(Form::Wide, s, at)
 }
 
 // The form of a trace's records, or of a step's one record, by the first one's mark.
 pub fn form_of(trace: &[u8]) -> Form
-    ensures { result ≡ formOf trace.now }
+    ensures { result ≡ form_of trace.now }
 {
     if trace.len() >= 2 && marked_from(Form::Wide, trace, 0) {
         Form::Wide
@@ -139,39 +139,39 @@ pub fn form_of(trace: &[u8]) -> Form
 
 // How many whole records the bytes have.
 pub fn whole_periods(form: Form, s: &[u8]) -> usize
-    ensures { result ≡ wholePeriods form s.now }
+    ensures { result ≡ whole_periods form s.now }
 {
     s.len() / period_bytes(form)
 }
 
 // Where record k starts.
 fn record_start(form: Form, s: &[u8], k: usize) -> usize
-    requires { k < wholePeriods form s.now }
-    ensures { (result ≡ periodBytes form * k) × (result + periodBytes form ≤ length s.now) }
+    requires { k < whole_periods form s.now }
+    ensures { (result ≡ period_bytes form * k) × (result + period_bytes form ≤ length s.now) }
 {
     period_bytes(form) * k
 }
 
 // Both parties' attempts in record k.
 pub fn read_period(form: Form, s: &[u8], k: usize) -> Attempts
-    requires { k < wholePeriods form s.now }
-    ensures { HoldsPeriod (periodAt form s.now k) result }
+    requires { k < whole_periods form s.now }
+    ensures { HoldsPeriod (period_at form s.now k) result }
 {
     read_from(form, s, record_start(form, s, k))
 }
 
 // Whether record k has the form's mark.
 pub fn is_marked(form: Form, s: &[u8], k: usize) -> bool
-    requires { k < wholePeriods form s.now }
-    ensures { result ≡ markedAt form s.now k }
+    requires { k < whole_periods form s.now }
+    ensures { result ≡ marked_at form s.now k }
 {
     marked_from(form, s, record_start(form, s, k))
 }
 
 // The first of n records without the form's mark; n where there is none.
 fn first_unmarked(form: Form, s: &[u8], n: usize) -> usize
-    requires { n ≤ wholePeriods form s.now }
-    ensures { result ≡ firstFailing (markedAt form s.now) 0 n }
+    requires { n ≤ whole_periods form s.now }
+    ensures { result ≡ first_failing (marked_at form s.now) 0 n }
 {
     let mut k = 0;
     while k < n && is_marked(form, s, k) {
@@ -182,7 +182,7 @@ fn first_unmarked(form: Form, s: &[u8], n: usize) -> usize
 
 // The marks of all whole records.
 fn marks_test(form: Form, s: &[u8]) -> Test
-    ensures { result ≡ marksTest form s.now (wholePeriods form s.now) }
+    ensures { result ≡ marks_test form s.now (whole_periods form s.now) }
 {
     let n = whole_periods(form, s);
     let bad = first_unmarked(form, s, n);
@@ -196,14 +196,14 @@ fn marks_test(form: Form, s: &[u8]) -> Test
 
 // How many period records a trace has.
 pub fn period_records(trace: &[u8]) -> usize
-    ensures { result ≡ periodRecords trace.now }
+    ensures { result ≡ period_records trace.now }
 {
     whole_periods(form_of(trace), trace)
 }
 
 // The first tests of a trace or a record: no single byte, then the mark.
 fn form_test(trace: &[u8]) -> Test
-    ensures { result ≡ formTest trace.now }
+    ensures { result ≡ form_test trace.now }
 {
     if trace.len() == 0 {
         return Test::Passed;
@@ -219,7 +219,7 @@ fn form_test(trace: &[u8]) -> Test
 
 // A trace before its later marks: the first tests, then a length of whole records.
 pub fn start_test(trace: &[u8]) -> Test
-    ensures { result ≡ startTest trace.now }
+    ensures { result ≡ start_test trace.now }
 {
     let t = form_test(trace);
     let Test::Passed = t else {
@@ -233,7 +233,7 @@ pub fn start_test(trace: &[u8]) -> Test
 
 // A run's trace: the tests before the later marks, then these.
 pub fn trace_test(trace: &[u8]) -> Test
-    ensures { result ≡ traceTest trace.now }
+    ensures { result ≡ trace_test trace.now }
 {
     let t = start_test(trace);
     let Test::Passed = t else {
@@ -244,7 +244,7 @@ pub fn trace_test(trace: &[u8]) -> Test
 
 // A step's record: the first tests, then the length of one record.
 pub fn period_test(period: &[u8]) -> Test
-    ensures { result ≡ periodTest period.now }
+    ensures { result ≡ period_test period.now }
 {
     let t = form_test(period);
     let Test::Passed = t else {

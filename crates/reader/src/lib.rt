@@ -2,10 +2,10 @@
 // windows document 02, "Duties with a deadline"; of a duty's owner document 02, "Duties that both parties own"; of the count of
 // pending operands document 02, "A byte for pending operands".
 ghost use Rattle.std.specs.Prelude.{◌≡◌, cond, [], ◌+◌, ◌-◌, ◌≤◌, ltb, length, get_or};
-ghost use Rattle.grammar.specs.Limits.{maxRecords, recordBytes};
+ghost use Rattle.grammar.specs.Limits.{max_records, record_bytes};
 ghost use Rattle.grammar.specs.Table.{range, within, kind_of};
-ghost use Rattle.grammar.specs.Reader.{next, readRecords, justOne, contractRecords, windowAt, windowsOf, test_of, readTest};
-ghost use Rattle.reader.specs.Codes.{unpackedLine, lookupOf, operandCount, inRanges, expressionCode, sortOf, goodOperands, emptyUnder, completed, step_of, HasRecords};
+ghost use Rattle.grammar.specs.Reader.{next, read_records, just_one, contract_records, window_at, windows_of, test_of, read_test};
+ghost use Rattle.reader.specs.Codes.{unpacked_line, lookup_of, operand_count, in_ranges, expression_code, sort_of, good_operands, empty_under, completed, step_of, HasRecords};
 
 use records::{Fault, Test};
 
@@ -101,7 +101,7 @@ pub struct Entry {
 }
 
 fn unpacked_line(line: u32) -> Entry
-    ensures { result ≡ unpackedLine line }
+    ensures { result ≡ unpacked_line line }
 {
     Entry {
         operands: (line % 4) as u8,
@@ -130,7 +130,7 @@ pub enum Lookup {
 }
 
 fn entry_of(kind: u8) -> Lookup
-    ensures { result ≡ lookupOf (kind_of kind) }
+    ensures { result ≡ lookup_of (kind_of kind) }
 {
     let table = TABLE;
     match kind {
@@ -142,7 +142,7 @@ fn entry_of(kind: u8) -> Lookup
 
 // How many operands a kind has, 0 for a number that is no kind's.
 pub fn operands(kind: u8) -> u8
-    ensures { result ≡ operandCount (kind_of kind) }
+    ensures { result ≡ operand_count (kind_of kind) }
 {
     let found = entry_of(kind);
     match found {
@@ -161,7 +161,7 @@ fn within(f: Range, x: u8) -> bool
 
 // Whether each field is one that the kind allows.
 fn good_fields(e: Entry, party: u8, action: u8, last: u8) -> bool
-    ensures { result ≡ inRanges e record { party = party; action = action; last = last } }
+    ensures { result ≡ in_ranges e record { party = party; action = action; last = last } }
 {
     if !within(e.party, party) {
         return false;
@@ -174,14 +174,14 @@ fn good_fields(e: Entry, party: u8, action: u8, last: u8) -> bool
 
 // The sort of an operand's code.
 fn sort(code: u8) -> u8
-    ensures { result ≡ sortOf code }
+    ensures { result ≡ sort_of code }
 {
     if code == EMPTY { EXPRESSION } else { code }
 }
 
 // Whether the two operands on top are those that a kind asks for.
 fn good_operands(e: Entry, below: u8, top: u8) -> bool
-    ensures { result ≡ goodOperands e.operands e.first e.second below top }
+    ensures { result ≡ good_operands e.operands e.first e.second below top }
 {
     let operands = e.operands;
     match operands {
@@ -193,7 +193,7 @@ fn good_operands(e: Entry, below: u8, top: u8) -> bool
 
 // Whether the expression under `when` or `until` holds the empty list.
 fn empty_under(kind: u8, below: u8, top: u8) -> bool
-    ensures { result ≡ emptyUnder kind below top }
+    ensures { result ≡ empty_under kind below top }
 {
     match kind {
         8 => below == EMPTY,
@@ -204,7 +204,7 @@ fn empty_under(kind: u8, below: u8, top: u8) -> bool
 
 // The code of an expression.
 fn expression(empty: bool) -> u8
-    ensures { result ≡ expressionCode empty }
+    ensures { result ≡ expression_code empty }
 {
     if empty { EMPTY } else { EXPRESSION }
 }
@@ -231,7 +231,7 @@ pub enum Step {
 
 // The tests of the record from byte `at` on, in their order.
 fn read_record(contract: &[u8], at: usize, below: u8, top: u8) -> Step
-    requires { at + recordBytes ≤ length contract.now }
+    requires { at + record_bytes ≤ length contract.now }
     ensures { result ≡ step_of contract.now at below top }
 {
     if !records::marked(contract, at, records::CONTRACT_MARK) {
@@ -258,7 +258,7 @@ fn read_record(contract: &[u8], at: usize, below: u8, top: u8) -> Step
 
 // The code of the pending operand so many places below the top, NONE where there is none.
 fn peek(stack: &[u8; MAX_RECORDS], pending: u8, depth: usize) -> u8
-    requires { pending ≤ maxRecords }
+    requires { pending ≤ max_records }
     ensures { result ≡ cond (ltb depth pending) (get_or stack.now (pending - 1 - depth) 0) 0 }
 {
     if depth < pending as usize {
@@ -271,7 +271,7 @@ fn peek(stack: &[u8; MAX_RECORDS], pending: u8, depth: usize) -> u8
 // The records one after the other. The operands that await their operator are pending; the stack starts with their codes, the top the last.
 fn read_records(contract: &[u8], n: usize) -> Test
     requires { HasRecords contract.now n }
-    ensures { result ≡ test_of (next (readRecords 0 n [] contract.now) (justOne n)) }
+    ensures { result ≡ test_of (next (read_records 0 n [] contract.now) (just_one n)) }
 {
     let mut stack = [NONE; MAX_RECORDS];
     let mut pending: u8 = 0;
@@ -303,7 +303,7 @@ fn read_records(contract: &[u8], n: usize) -> Test
 
 // How many records a contract has.
 pub fn contract_records(contract: &[u8]) -> usize
-    ensures { result ≡ contractRecords contract.now }
+    ensures { result ≡ contract_records contract.now }
 {
     contract.len() / RECORD_BYTES
 }
@@ -313,8 +313,8 @@ const DEADLINE: u8 = 10;
 
 // The window of the record from byte `at` on, 0 where it has none.
 fn window_at(contract: &[u8], at: usize) -> u8
-    requires { at + recordBytes ≤ length contract.now }
-    ensures { result ≡ windowAt contract.now at }
+    requires { at + record_bytes ≤ length contract.now }
+    ensures { result ≡ window_at contract.now at }
 {
     if contract[at + 2] == DEADLINE {
         contract[at + 5]
@@ -326,7 +326,7 @@ fn window_at(contract: &[u8], at: usize) -> u8
 // The sum of all windows of the first n records.
 pub fn windows(contract: &[u8], n: usize) -> usize
     requires { HasRecords contract.now n }
-    ensures { result ≡ windowsOf contract.now n }
+    ensures { result ≡ windows_of contract.now n }
 {
     let mut sum = 0;
     let mut k = 0;
@@ -339,7 +339,7 @@ pub fn windows(contract: &[u8], n: usize) -> usize
 
 // Reads a contract: the first refusal of 1 to 7, if there is one.
 pub fn read(contract: &[u8]) -> Test
-    ensures { result ≡ readTest contract.now }
+    ensures { result ≡ read_test contract.now }
 {
     let bytes = contract.len();
     if bytes == 0 || bytes % RECORD_BYTES != 0 || RECORD_BYTES * MAX_RECORDS < bytes {

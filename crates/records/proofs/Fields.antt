@@ -14,26 +14,26 @@ use Rattle.records.specs.Holding.{AllBelow, AllBytes, HoldsField}
 
 -- ---- lists of bytes
 
-pub allBelow-nil : {m : ℕ} → 0 < m → AllBelow m []
-allBelow-nil h = record { below = λ i. h }
+pub all_below_nil : {m : ℕ} → 0 < m → AllBelow m []
+all_below_nil h = record { below = λ i. h }
 
-pub allBelow-cons : {m b : ℕ} {l : List ℕ} → b < m → AllBelow m l → AllBelow m (b ∷ l)
-allBelow-cons {m} {b} {l} h a = record { below = at }
+pub all_below_cons : {m b : ℕ} {l : List ℕ} → b < m → AllBelow m l → AllBelow m (b ∷ l)
+all_below_cons {m} {b} {l} h a = record { below = at }
   where
     at : (i : ℕ) → get_or (b ∷ l) i 0 < m
     at zero = h
     at (suc i) = a.below i
 
-pub allBytes-tail : {b : ℕ} {l : List ℕ} → AllBytes (b ∷ l) → AllBytes l
-allBytes-tail a = record { below = λ i. a.below (suc i) }
+pub all_bytes_tail : {b : ℕ} {l : List ℕ} → AllBytes (b ∷ l) → AllBytes l
+all_bytes_tail a = record { below = λ i. a.below (suc i) }
 
-pub allBytes-take : (n : ℕ) (l : List ℕ) → AllBytes l → AllBytes (take n l)
-allBytes-take zero l a = allBelow-nil (lit< tt)
-allBytes-take (suc n) [] a = allBelow-nil (lit< tt)
-allBytes-take (suc n) (b ∷ l) a = allBelow-cons (a.below 0) (allBytes-take n l (allBytes-tail a))
+pub all_bytes_take : (n : ℕ) (l : List ℕ) → AllBytes l → AllBytes (take n l)
+all_bytes_take zero l a = all_below_nil (lit< tt)
+all_bytes_take (suc n) [] a = all_below_nil (lit< tt)
+all_bytes_take (suc n) (b ∷ l) a = all_below_cons (a.below 0) (all_bytes_take n l (all_bytes_tail a))
 
-pub allBytes-drop : (n : ℕ) (l : List ℕ) → AllBytes l → AllBytes (drop n l)
-allBytes-drop n l a = record { below = λ i. rw get_or-drop (a.below (n + i)) }
+pub all_bytes_drop : (n : ℕ) (l : List ℕ) → AllBytes l → AllBytes (drop n l)
+all_bytes_drop n l a = record { below = λ i. rw get_or-drop (a.below (n + i)) }
 
 -- ---- the bytes of a number
 
@@ -42,10 +42,10 @@ unfolding bytes
 length-bytes zero n = refl
 length-bytes (suc w) n = ap suc (length-bytes w (n / 256))
 
-pub allBytes-bytes : (w n : ℕ) → AllBytes (bytes w n)
+pub all_bytes_bytes : (w n : ℕ) → AllBytes (bytes w n)
 unfolding bytes
-allBytes-bytes zero n = allBelow-nil (lit< tt)
-allBytes-bytes (suc w) n = allBelow-cons (mod-lt n (lit< tt)) (allBytes-bytes w (n / 256))
+all_bytes_bytes zero n = all_below_nil (lit< tt)
+all_bytes_bytes (suc w) n = all_below_cons (mod-lt n (lit< tt)) (all_bytes_bytes w (n / 256))
 
 -- a field of v + w bytes is one of v bytes and then one of w
 pub bytes-add : (v w n : ℕ) → bytes (v + w) n ≡ bytes v n ++ bytes w (n / 256 ^ v)
@@ -55,34 +55,34 @@ bytes-add (suc v) w n = simp (suc-add, bytes-add v w, div-div-eq-div-mul, pow-su
 
 -- ---- the number that bytes spell
 
-pub value-lt : (bs : List ℕ) → AllBytes bs → value bs < 256 ^ length bs
+pub value_lt : (bs : List ℕ) → AllBytes bs → value bs < 256 ^ length bs
 unfolding value
-value-lt [] a = lit< tt
-value-lt (b ∷ bs) a =
-    rw (pow-suc, add_comm, mul_comm 256 (value bs)) (digits_lt (value-lt bs (allBytes-tail a)) (a.below 0))
+value_lt [] a = lit< tt
+value_lt (b ∷ bs) a =
+    rw (pow-suc, add_comm, mul_comm 256 (value bs)) (digits_lt (value_lt bs (all_bytes_tail a)) (a.below 0))
 
-pub value-bytes : (w n : ℕ) → value (bytes w n) ≡ n % 256 ^ w
+pub value_bytes : (w n : ℕ) → value (bytes w n) ≡ n % 256 ^ w
 unfolding value bytes
-value-bytes zero n = sym (mod-one n)
-value-bytes (suc w) n =
+value_bytes zero n = sym (mod-one n)
+value_bytes (suc w) n =
     let e : n % (256 ^ w * 256) ≡ n / 256 % 256 ^ w * 256 + n % 256 = mod-mul n (one-le-pow w 256 (lit< tt)) (lit< tt) in
-    rw (value-bytes w (n / 256), pow-suc, e) (omega arith)
+    rw (value_bytes w (n / 256), pow-suc, e) (omega arith)
 
-pub value-bytes-lt : (w : ℕ) {n : ℕ} → n < 256 ^ w → value (bytes w n) ≡ n
-value-bytes-lt w {n} h = value-bytes w n ∙ mod-eq_of_lt h
+pub value_bytes_lt : (w : ℕ) {n : ℕ} → n < 256 ^ w → value (bytes w n) ≡ n
+value_bytes_lt w {n} h = value_bytes w n ∙ mod-eq_of_lt h
 
-pub bytes-value : (bs : List ℕ) → AllBytes bs → bytes (length bs) (value bs) ≡ bs
+pub bytes_value : (bs : List ℕ) → AllBytes bs → bytes (length bs) (value bs) ≡ bs
 unfolding value bytes
-bytes-value [] a = refl
-bytes-value (b ∷ bs) a =
+bytes_value [] a = refl
+bytes_value (b ∷ bs) a =
     let h : b < 256 = a.below 0 in
     let p : 0 < 256 = lit< tt in
-    rw (add-mul-mod_self_left, mod-eq_of_lt h, add-mul-div_left, div-eq_of_lt h, zero-add, bytes-value bs (allBytes-tail a))
+    rw (add-mul-mod_self_left, mod-eq_of_lt h, add-mul-div_left, div-eq_of_lt h, zero-add, bytes_value bs (all_bytes_tail a))
 
 -- a number's bytes beyond the width change nothing
 pub bytes-mod : (w n : ℕ) → bytes w (n % 256 ^ w) ≡ bytes w n
 bytes-mod w n =
-    rw (← value-bytes w n) (rw length-bytes at (bytes-value (bytes w n) (allBytes-bytes w n)))
+    rw (← value_bytes w n) (rw length-bytes at (bytes_value (bytes w n) (all_bytes_bytes w n)))
 
 -- ---- the field at a place
 
@@ -111,18 +111,18 @@ pub field_lt : (l : List ℕ) (at w : ℕ) → AllBytes l → field l at w < 256
 unfolding field
 field_lt l at w a =
     let h : length (take w (drop at l)) ≤ w = rw length-take (min-le_left w (length (drop at l))) in
-    lt_of_lt_of_le (value-lt (take w (drop at l)) (allBytes-take w (drop at l) (allBytes-drop at l a))) (pow-le-pow_right (lit< tt) h)
+    lt_of_lt_of_le (value_lt (take w (drop at l)) (all_bytes_take w (drop at l) (all_bytes_drop at l a))) (pow-le-pow_right (lit< tt) h)
 
 pub bytes-field : (l : List ℕ) (at w : ℕ) → AllBytes l → at + w ≤ length l → bytes w (field l at w) ≡ take w (drop at l)
 unfolding field
 bytes-field l at w a h =
     let e : length (take w (drop at l)) ≡ w = length-take-le w (drop at l) (simp length-drop (omega arith)) in
-    rw e at (bytes-value (take w (drop at l)) (allBytes-take w (drop at l) (allBytes-drop at l a)))
+    rw e at (bytes_value (take w (drop at l)) (all_bytes_take w (drop at l) (all_bytes_drop at l a)))
 
 -- ---- what reading a field shows
 
-pub holds-one : {l : List ℕ} {at r : ℕ} → r ≡ get_or l at 0 → r < 256 → HoldsField l at 1 r
-holds-one {l} {at} {r} e h = record { is = rw (field-suc, field-zero) (omega arith); small = h }
+pub holds_one : {l : List ℕ} {at r : ℕ} → r ≡ get_or l at 0 → r < 256 → HoldsField l at 1 r
+holds_one {l} {at} {r} e h = record { is = rw (field-suc, field-zero) (omega arith); small = h }
 
 -- a field of v bytes and the field of w bytes behind it are one of v + w
 pub holds-add : (v w : ℕ) {l : List ℕ} {at a b : ℕ} → HoldsField l at v a → HoldsField l (at + v) w b → HoldsField l at (v + w) (a + 256 ^ v * b)

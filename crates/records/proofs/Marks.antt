@@ -11,13 +11,13 @@ use lib.Dec.{eqb}
 use lib.ListN.{length, take, drop, get_or}
 use lib.Seq.{drop-cons, get_or-drop}
 use borrow.Author.Tests.{eqb-true}
-use Rattle.records.specs.Marks.{contractMark, narrowMark, wideMark, logMark, rowMark, endMark, marked}
+use Rattle.records.specs.Marks.{contract_mark, narrow_mark, wide_mark, log_mark, row_mark, end_mark, marked}
 
 abbrev pub marks : List (List ℕ)
-marks = contractMark ∷ narrowMark ∷ wideMark ∷ logMark ∷ rowMark ∷ endMark ∷ []
+marks = contract_mark ∷ narrow_mark ∷ wide_mark ∷ log_mark ∷ row_mark ∷ end_mark ∷ []
 
 -- they are pairwise different: each matches itself and no other
-pub marks-differ : map (λ (m : List ℕ). map (marked m 0) marks) marks
+pub marks_differ : map (λ (m : List ℕ). map (marked m 0) marks) marks
     ≡ (true ∷ false ∷ false ∷ false ∷ false ∷ false ∷ [])
     ∷ (false ∷ true ∷ false ∷ false ∷ false ∷ false ∷ [])
     ∷ (false ∷ false ∷ true ∷ false ∷ false ∷ false ∷ [])
@@ -26,7 +26,7 @@ pub marks-differ : map (λ (m : List ℕ). map (marked m 0) marks) marks
     ∷ (false ∷ false ∷ false ∷ false ∷ false ∷ true ∷ [])
     ∷ []
 unfolding marked
-marks-differ = refl
+marks_differ = refl
 
 module _ (l : List ℕ) (at : ℕ) (m : List ℕ) (h : marked l at m ≡ true) where
   first : get_or l at 0 ≡ get_or m 0 0
@@ -38,9 +38,9 @@ module _ (l : List ℕ) (at : ℕ) (m : List ℕ) (h : marked l at m ≡ true) w
   second = eqb-true (get_or l (at + 1) 0) (get_or m 1 0) ((and-eq-true_iff (eqb (get_or l at 0) (get_or m 0 0)) _).0 h).1
 
 -- bytes with mark m match a mark n just where m does
-pub same-marked : (l : List ℕ) (at : ℕ) (m n : List ℕ) → marked l at m ≡ true → marked l at n ≡ marked m 0 n
+pub same_marked : (l : List ℕ) (at : ℕ) (m n : List ℕ) → marked l at m ≡ true → marked l at n ≡ marked m 0 n
 unfolding marked
-same-marked l at m n h = rw (first l at m h, second l at m h)
+same_marked l at m n h = rw (first l at m h, second l at m h)
 
 -- a mark in the bytes from a place on
 pub marked-drop : (l : List ℕ) (at : ℕ) (mark : List ℕ) → marked l at mark ≡ marked (drop at l) 0 mark
@@ -48,7 +48,7 @@ unfolding marked
 marked-drop l at mark = simp (get_or-drop, add-zero)
 
 -- its two bytes stand where a mark does
-pub of-marked : (l : List ℕ) (at a b : ℕ) → at + 2 ≤ length l → marked l at (a ∷ b ∷ []) ≡ true → take 2 (drop at l) ≡ a ∷ b ∷ []
-of-marked l at a b k h =
+pub of_marked : (l : List ℕ) (at a b : ℕ) → at + 2 ≤ length l → marked l at (a ∷ b ∷ []) ≡ true → take 2 (drop at l) ≡ a ∷ b ∷ []
+of_marked l at a b k h =
     rw (drop-cons l at 0 (omega arith), drop-cons l (suc at) 0 (omega arith), first l at (a ∷ b ∷ []) h)
     (rw add-one at (ap (λ (x : ℕ). a ∷ x ∷ []) (second l at (a ∷ b ∷ []) h)))

@@ -8,45 +8,45 @@ use Rattle.records.specs.declared.Test.{Test}
 use Rattle.records.specs.declared.Test.TheVariants.{Passed, Refused}
 use Rattle.records.specs.declared.Fault.{Fault}
 use Rattle.records.specs.declared.Fault.TheVariants.{BadLength, BadMark, UnknownKind, BadField, BadOperands, NotOneClause, EmptyList, ShortBuffer, BadImage, BadState, BadPeriod, FullCount, LongInput, BadLog, OutOfOrder, ShortTrace}
-use Rattle.records.specs.Refusals.{faultNumber, number_of, require, first_of, passed}
+use Rattle.records.specs.Refusals.{fault_number, number_of, require, first_of, passed}
 use lib.Dec.{eqb, leb, ltb, lit<}
 use borrow.Author.Tests.{leb-true, ltb-true}
 
 -- ---- tests in their order
 
 -- of two tests that are passed, each is
-pub first-passed : (s u : Test) → first_of s u ≡ Passed → (s ≡ Passed) × (u ≡ Passed)
-first-passed Passed u e = (refl, e)
-first-passed (Refused f p) u e = (e, cc)
+pub first_passed : (s u : Test) → first_of s u ≡ Passed → (s ≡ Passed) × (u ≡ Passed)
+first_passed Passed u e = (refl, e)
+first_passed (Refused f p) u e = (e, cc)
 
 pub passed_first : (t u : Test) → t ≡ Passed → u ≡ Passed → first_of t u ≡ Passed
 passed_first t u h k = rw (h, k)
 
 -- where the first test is refused, the second is not made
-pub first-refused : (t u : Test) → ¬ (t ≡ Passed) → first_of t u ≡ t
-first-refused Passed u h = absurd (h refl)
-first-refused (Refused f k) u h = refl
+pub first_refused : (t u : Test) → ¬ (t ≡ Passed) → first_of t u ≡ t
+first_refused Passed u h = absurd (h refl)
+first_refused (Refused f k) u h = refl
 
 -- a test that is passed and made last adds nothing
-pub first-only : (t : Test) → first_of t Passed ≡ t
-first-only Passed = refl
-first-only (Refused f k) = refl
+pub first_only : (t : Test) → first_of t Passed ≡ t
+first_only Passed = refl
+first_only (Refused f k) = refl
 
 -- a refusal is no passed test
-pub refused-passed : {f : Fault} {p : ℕ} → Refused f p ≡ Passed → ⊥
-refused-passed e = let z : ◌≡◌ {A = ℕ} 0 1 = cc in omega arith
+pub refused_passed : {f : Fault} {p : ℕ} → Refused f p ≡ Passed → ⊥
+refused_passed e = let z : ◌≡◌ {A = ℕ} 0 1 = cc in omega arith
 
-pub is-refused : {s : Test} {f : Fault} {p : ℕ} → s ≡ Refused f p → ¬ (s ≡ Passed)
-is-refused e h = refused-passed (sym e ∙ h)
+pub is_refused : {s : Test} {f : Fault} {p : ℕ} → s ≡ Refused f p → ¬ (s ≡ Passed)
+is_refused e h = refused_passed (sym e ∙ h)
 
 -- a refusal of the first test is what both find
-pub refused-first : (s t u : Test) {f : Fault} {p : ℕ} → s ≡ t → s ≡ Refused f p → s ≡ first_of t u
-refused-first s t u e h = rw (← e) (sym (first-refused s u (is-refused h)))
+pub refused_first : (s t u : Test) {f : Fault} {p : ℕ} → s ≡ t → s ≡ Refused f p → s ≡ first_of t u
+refused_first s t u e h = rw (← e) (sym (first_refused s u (is_refused h)))
 
 -- a test that is passed shows its condition
 pub require-passed : (t : Bool) (f : Fault) (p : ℕ) → require t f p ≡ Passed → t ≡ true
 require-passed true f p e = refl
-require-passed false f p e = absurd (refused-passed e)
+require-passed false f p e = absurd (refused_passed e)
 
 -- ---- the numbers of tests
 
@@ -57,11 +57,11 @@ faults =
     ∷ ShortBuffer ∷ BadImage ∷ BadState ∷ BadPeriod ∷ FullCount ∷ LongInput
     ∷ BadLog ∷ OutOfOrder ∷ ShortTrace ∷ []
 
-pub fault-numbers : map faultNumber faults ≡ 1 ∷ 2 ∷ 3 ∷ 4 ∷ 5 ∷ 6 ∷ 7 ∷ 8 ∷ 9 ∷ 10 ∷ 11 ∷ 12 ∷ 13 ∷ 14 ∷ 15 ∷ 16 ∷ []
-fault-numbers = refl
+pub fault_numbers : map fault_number faults ≡ 1 ∷ 2 ∷ 3 ∷ 4 ∷ 5 ∷ 6 ∷ 7 ∷ 8 ∷ 9 ∷ 10 ∷ 11 ∷ 12 ∷ 13 ∷ 14 ∷ 15 ∷ 16 ∷ []
+fault_numbers = refl
 
 -- a fault's number is 1 or above, and of one byte
-numbered : (f : Fault) → (leb 1 (faultNumber f) && ltb (faultNumber f) 256) ≡ true
+numbered : (f : Fault) → (leb 1 (fault_number f) && ltb (fault_number f) 256) ≡ true
 numbered BadLength = refl
 numbered BadMark = refl
 numbered UnknownKind = refl
@@ -79,15 +79,15 @@ numbered BadLog = refl
 numbered OutOfOrder = refl
 numbered ShortTrace = refl
 
-pub fault-bounds : (f : Fault) → (1 ≤ faultNumber f) × (faultNumber f < 256)
-fault-bounds f =
-    let t = (and-eq-true_iff (leb 1 (faultNumber f)) _).0 (numbered f) in
-    (leb-true 1 (faultNumber f) t.0, ltb-true (faultNumber f) 256 t.1)
+pub fault_bounds : (f : Fault) → (1 ≤ fault_number f) × (fault_number f < 256)
+fault_bounds f =
+    let t = (and-eq-true_iff (leb 1 (fault_number f)) _).0 (numbered f) in
+    (leb-true 1 (fault_number f) t.0, ltb-true (fault_number f) 256 t.1)
 
 -- a number of 4 bytes
 pub number_small : (t : Test) → number_of t < 256 ^ 4
 number_small Passed = lit< tt
-number_small (Refused f k) = omega (arith, (fault-bounds f).1)
+number_small (Refused f k) = omega (arith, (fault_bounds f).1)
 
 pub passed_is : (t : Test) → passed t ≡ true → t ≡ Passed
 passed_is Passed h = refl
@@ -101,32 +101,32 @@ passed-not t h e = false≢true (sym h ∙ ap passed e)
 -- the fault is one of these
 abbrev pub among : List Fault → Fault → Bool
 among [] f = false
-among (g ∷ gs) f = eqb (faultNumber f) (faultNumber g) || among gs f
+among (g ∷ gs) f = eqb (fault_number f) (fault_number g) || among gs f
 
 -- the test is passed, or refused for one of these faults
-abbrev pub onlyFor : List Fault → Test → Bool
-onlyFor fs Passed = true
-onlyFor fs (Refused f place) = among fs f
+abbrev pub only_for : List Fault → Test → Bool
+only_for fs Passed = true
+only_for fs (Refused f place) = among fs f
 
-pub only-require : (fs : List Fault) (f : Fault) → among fs f ≡ true → (ok : Bool) (k : ℕ) → onlyFor fs (require ok f k) ≡ true
-only-require fs f h true k = refl
-only-require fs f h false k = h
+pub only_require : (fs : List Fault) (f : Fault) → among fs f ≡ true → (ok : Bool) (k : ℕ) → only_for fs (require ok f k) ≡ true
+only_require fs f h true k = refl
+only_require fs f h false k = h
 
-pub only-first : (fs : List Fault) (s t : Test) → onlyFor fs s ≡ true → onlyFor fs t ≡ true → onlyFor fs (first_of s t) ≡ true
-only-first fs Passed t h k = k
-only-first fs (Refused f p) t h k = h
+pub only_first : (fs : List Fault) (s t : Test) → only_for fs s ≡ true → only_for fs t ≡ true → only_for fs (first_of s t) ≡ true
+only_first fs Passed t h k = k
+only_first fs (Refused f p) t h k = h
 
-pub among-append : (fs gs : List Fault) (f : Fault) → among (fs ++ gs) f ≡ (among fs f || among gs f)
-among-append [] gs f = refl
-among-append (g ∷ fs) gs f = rw (among-append fs gs f) (sym (or_assoc (eqb (faultNumber f) (faultNumber g)) (among fs f) (among gs f)))
+pub among_append : (fs gs : List Fault) (f : Fault) → among (fs ++ gs) f ≡ (among fs f || among gs f)
+among_append [] gs f = refl
+among_append (g ∷ fs) gs f = rw (among_append fs gs f) (sym (or_assoc (eqb (fault_number f) (fault_number g)) (among fs f) (among gs f)))
 
 -- a test with faults of its own, among more
-pub only-among : (fs gs hs : List Fault) (t : Test) → onlyFor gs t ≡ true → onlyFor (fs ++ (gs ++ hs)) t ≡ true
-only-among fs gs hs Passed h = refl
-only-among fs gs hs (Refused f p) h = rw (among-append fs (gs ++ hs) f, among-append gs hs f, h) (or-true (among fs f))
+pub only_among : (fs gs hs : List Fault) (t : Test) → only_for gs t ≡ true → only_for (fs ++ (gs ++ hs)) t ≡ true
+only_among fs gs hs Passed h = refl
+only_among fs gs hs (Refused f p) h = rw (among_append fs (gs ++ hs) f, among_append gs hs f, h) (or-true (among fs f))
 
 -- of two tests, each with faults of its own
-pub only-append : (fs gs : List Fault) (s t : Test) → onlyFor fs s ≡ true → onlyFor gs t ≡ true → onlyFor (fs ++ gs) (first_of s t) ≡ true
-only-append fs gs Passed Passed h k = refl
-only-append fs gs Passed (Refused f p) h k = rw (among-append fs gs f, k) (or-true (among fs f))
-only-append fs gs (Refused f p) t h k = rw (among-append fs gs f, h)
+pub only_append : (fs gs : List Fault) (s t : Test) → only_for fs s ≡ true → only_for gs t ≡ true → only_for (fs ++ gs) (first_of s t) ≡ true
+only_append fs gs Passed Passed h k = refl
+only_append fs gs Passed (Refused f p) h k = rw (among_append fs gs f, k) (or-true (among fs f))
+only_append fs gs (Refused f p) t h k = rw (among_append fs gs f, h)

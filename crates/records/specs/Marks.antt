@@ -3,23 +3,23 @@
 -- A log record's is that of its "Join the two parties' logs".
 use Rattle.std.specs.Prelude.{ℕ, ◌+◌, Bool, ◌&&◌, List, [], ◌∷◌, eqb, get_or}
 
-abbrev pub contractMark : List ℕ
-contractMark = 0x54 ∷ 0x43 ∷ []
+abbrev pub contract_mark : List ℕ
+contract_mark = 0x54 ∷ 0x43 ∷ []
 
-abbrev pub narrowMark : List ℕ
-narrowMark = 0x54 ∷ 0x50 ∷ []
+abbrev pub narrow_mark : List ℕ
+narrow_mark = 0x54 ∷ 0x50 ∷ []
 
-abbrev pub wideMark : List ℕ
-wideMark = 0x54 ∷ 0x51 ∷ []
+abbrev pub wide_mark : List ℕ
+wide_mark = 0x54 ∷ 0x51 ∷ []
 
-abbrev pub logMark : List ℕ
-logMark = 0x54 ∷ 0x4c ∷ []
+abbrev pub log_mark : List ℕ
+log_mark = 0x54 ∷ 0x4c ∷ []
 
-abbrev pub rowMark : List ℕ
-rowMark = 0x54 ∷ 0x52 ∷ []
+abbrev pub row_mark : List ℕ
+row_mark = 0x54 ∷ 0x52 ∷ []
 
-abbrev pub endMark : List ℕ
-endMark = 0x54 ∷ 0x45 ∷ []
+abbrev pub end_mark : List ℕ
+end_mark = 0x54 ∷ 0x45 ∷ []
 
 -- the record from byte `at` on starts with this mark
 unfoldable pub marked : List ℕ → ℕ → List ℕ → Bool

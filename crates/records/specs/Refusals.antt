@@ -7,28 +7,28 @@ use Rattle.records.specs.declared.Test.{Test}
 use Rattle.records.specs.declared.Test.TheVariants.{Passed, Refused}
 
 -- a fault's number in the table
-abbrev pub faultNumber : Fault → ℕ
-faultNumber BadLength = 1
-faultNumber BadMark = 2
-faultNumber UnknownKind = 3
-faultNumber BadField = 4
-faultNumber BadOperands = 5
-faultNumber NotOneClause = 6
-faultNumber EmptyList = 7
-faultNumber ShortBuffer = 8
-faultNumber BadImage = 9
-faultNumber BadState = 10
-faultNumber BadPeriod = 11
-faultNumber FullCount = 12
-faultNumber LongInput = 13
-faultNumber BadLog = 14
-faultNumber OutOfOrder = 15
-faultNumber ShortTrace = 16
+abbrev pub fault_number : Fault → ℕ
+fault_number BadLength = 1
+fault_number BadMark = 2
+fault_number UnknownKind = 3
+fault_number BadField = 4
+fault_number BadOperands = 5
+fault_number NotOneClause = 6
+fault_number EmptyList = 7
+fault_number ShortBuffer = 8
+fault_number BadImage = 9
+fault_number BadState = 10
+fault_number BadPeriod = 11
+fault_number FullCount = 12
+fault_number LongInput = 13
+fault_number BadLog = 14
+fault_number OutOfOrder = 15
+fault_number ShortTrace = 16
 
 -- "An accepted call gives number 0 and place 0. A refusal gives its number and a place"
 abbrev pub number_of : Test → ℕ
 number_of Passed = 0
-number_of (Refused f place) = faultNumber f
+number_of (Refused f place) = fault_number f
 
 abbrev pub place_of : Test → ℕ
 place_of Passed = 0
@@ -44,9 +44,9 @@ first_of Passed t = t
 first_of (Refused f place) t = Refused f place
 
 -- the first number from k on, of n numbers, that fails; k + n where none does
-unfoldable pub firstFailing : (ℕ → Bool) → ℕ → ℕ → ℕ
-firstFailing ok k zero = k
-firstFailing ok k (suc n) = cond (ok k) (firstFailing ok (suc k) n) k
+unfoldable pub first_failing : (ℕ → Bool) → ℕ → ℕ → ℕ
+first_failing ok k zero = k
+first_failing ok k (suc n) = cond (ok k) (first_failing ok (suc k) n) k
 
 -- no test refuses
 abbrev pub passed : Test → Bool

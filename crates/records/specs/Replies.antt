@@ -21,13 +21,13 @@ abbrev pub eight : ℕ → Field
 eight n = record { width = 8; value = n }
 
 -- the bytes of fields, one after the other, and how many they are
-unfoldable pub fieldsBytes : List Field → List ℕ
-fieldsBytes [] = []
-fieldsBytes (f ∷ fs) = bytes f.width f.value ++ fieldsBytes fs
+unfoldable pub fields_bytes : List Field → List ℕ
+fields_bytes [] = []
+fields_bytes (f ∷ fs) = bytes f.width f.value ++ fields_bytes fs
 
-abbrev pub fieldsSize : List Field → ℕ
-fieldsSize [] = 0
-fieldsSize (f ∷ fs) = f.width + fieldsSize fs
+abbrev pub fields_size : List Field → ℕ
+fields_size [] = 0
+fields_size (f ∷ fs) = f.width + fields_size fs
 
 -- what a call answers beside number and place: the field between the two, and those behind them
 pub record Answer : Type 0 where
@@ -38,23 +38,23 @@ pub record Answer : Type 0 where
 abbrev pub alone : ℕ → Answer
 alone n = record { own = n; others = [] }
 
-abbrev pub replyFields : Test → Answer → List Field
-replyFields t a = four (number_of t) ∷ four a.own ∷ eight (place_of t) ∷ a.others
+abbrev pub reply_fields : Test → Answer → List Field
+reply_fields t a = four (number_of t) ∷ four a.own ∷ eight (place_of t) ∷ a.others
 
 -- a reply's bytes
-abbrev pub replyOf : Test → Answer → List ℕ
-replyOf t a = fieldsBytes (replyFields t a)
+abbrev pub reply_of : Test → Answer → List ℕ
+reply_of t a = fields_bytes (reply_fields t a)
 
 -- how many they are, whatever the tests find
-abbrev pub replyBytes : Answer → ℕ
-replyBytes a = fieldsSize (replyFields Passed a)
+abbrev pub reply_bytes : Answer → ℕ
+reply_bytes a = fields_size (reply_fields Passed a)
 
 -- what a reply's bytes hold in its first three fields, and how many bytes these have
 abbrev pub head_of : List ℕ → Head
 head_of reply = record { number = field reply 0 4; own = field reply 4 4; place = field reply 8 8 }
 
-abbrev pub headSize : ℕ
-headSize = replyBytes (alone 0)
+abbrev pub head_size : ℕ
+head_size = reply_bytes (alone 0)
 
 -- "every other field is 0"
 abbrev pub zeroed : Answer → Answer
@@ -70,9 +70,9 @@ pub record After (Buffers : Type 0) : Type 0 where
 
 -- a call's result and the later bytes are those
 pub record Gives {Buffers : Type 0} (after : After Buffers) (result : ℕ) (buffers : Buffers) (reply : List ℕ) : Type 0 where
-  pub result-is : result ≡ after.result
-  pub buffers-are : buffers ≡ after.buffers
-  pub reply-is : reply ≡ after.reply
+  pub result_is : result ≡ after.result
+  pub buffers_are : buffers ≡ after.buffers
+  pub reply_is : reply ≡ after.reply
 
 -- "If that area is too short for the reply, the call writes nothing anywhere"
 abbrev pub unwritten : {Buffers : Type 0} → Buffers → (area : List ℕ) → After Buffers
@@ -80,7 +80,7 @@ unwritten buffers area = record { result = 0; buffers = buffers; reply = area }
 
 -- the reply in the area's first bytes, and the buffers that come with it
 abbrev pub written : {Buffers : Type 0} → Buffers → (area : List ℕ) → Test → Answer → After Buffers
-written buffers area t a = record { result = 1; buffers = buffers; reply = sets area 0 (replyOf t a) }
+written buffers area t a = record { result = 1; buffers = buffers; reply = sets area 0 (reply_of t a) }
 
 -- accepted, it answers and leaves the buffers `later`; "A refusal gives its number and a place; every other field is 0 and every lent buffer but
 -- the reply's area is unchanged."
@@ -90,4 +90,4 @@ answered (Refused f place) a before later area = written before area (Refused f 
 
 -- any call: what its tests find, what it answers and leaves where they are passed, and what it was lent
 unfoldable pub call : {Buffers : Type 0} → Test → Answer → (before later : Buffers) → (area : List ℕ) → After Buffers
-call t a before later area = cond (ltb (length area) (replyBytes a)) (unwritten before area) (answered t a before later area)
+call t a before later area = cond (ltb (length area) (reply_bytes a)) (unwritten before area) (answered t a before later area)

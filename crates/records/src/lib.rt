@@ -4,8 +4,8 @@ ghost use Rattle.std.proofs.lemmas.List.Edits.{sets};
 ghost use Rattle.records.specs.Fields.{bytes};
 ghost use Rattle.records.specs.Holding.{HoldsField};
 ghost use Rattle.records.specs.Marks.{marked};
-ghost use Rattle.records.specs.Refusals.{faultNumber, number_of, place_of};
-ghost use Rattle.records.specs.Replies.{alone, replyOf, head_of, headSize};
+ghost use Rattle.records.specs.Refusals.{fault_number, number_of, place_of};
+ghost use Rattle.records.specs.Replies.{alone, reply_of, head_of, head_size};
 
 // The first two bytes of each record.
 pub const CONTRACT_MARK: [u8; 2] = [0x54, 0x43];
@@ -131,7 +131,7 @@ pub enum Test {
 
 // A fault's number in the table.
 pub fn fault_number(f: Fault) -> u32
-    ensures { result ≡ faultNumber f }
+    ensures { result ≡ fault_number f }
 {
     match f {
         Fault::BadLength => 1,
@@ -187,7 +187,7 @@ pub struct Head {
 }
 
 pub fn get_head(reply: &[u8]) -> Head
-    requires { headSize ≤ length reply.now }
+    requires { head_size ≤ length reply.now }
     ensures { result ≡ head_of reply.now }
 {
     Head {
@@ -199,8 +199,8 @@ pub fn get_head(reply: &[u8]) -> Head
 
 // Writes a reply's first three fields.
 pub fn put_head(reply: &mut [u8], t: Test, own: u32)
-    requires { headSize ≤ length reply.old }
-    ensures { reply.new ≡ sets reply.old 0 (replyOf t (alone own)) }
+    requires { head_size ≤ length reply.old }
+    ensures { reply.new ≡ sets reply.old 0 (reply_of t (alone own)) }
 {
     put4(reply, 0, number(t));
     put4(reply, 4, own);

@@ -7,43 +7,43 @@ use mathlib.Core.Path.{◌≡◌, sym, ◌∙◌}
 use lib.Dec.{eqb}
 use lib.ListN.{length}
 use borrow.Author.Tests.{eq-eqb, ne_eqb}
-use Rattle.records.specs.Refusals.{firstFailing}
-use Rattle.records.proofs.Searches.{failing-max}
+use Rattle.records.specs.Refusals.{first_failing}
+use Rattle.records.proofs.Searches.{failing_max}
 use Rattle.periods.specs.declared.Form.TheVariants.{Narrow}
-use Rattle.periods.specs.Forms.{periodBytes}
-use Rattle.periods.specs.Traces.{wholePeriods}
-use Rattle.periods.proofs.Forms.{few-whole}
-use Rattle.report.specs.Split.{unmarkedSix, firstPeriod, contractLength}
+use Rattle.periods.specs.Forms.{period_bytes}
+use Rattle.periods.specs.Traces.{whole_periods}
+use Rattle.periods.proofs.Forms.{few_whole}
+use Rattle.report.specs.Split.{unmarked_six, first_period, contract_length}
 
 module _ (input : List ℕ) where
   -- the first with either mark is one of them, or past the last
-  pub first-within : firstPeriod input ≤ wholePeriods Narrow input
-  unfolding firstPeriod
-  first-within = omega (arith, failing-max (unmarkedSix input) 0 (wholePeriods Narrow input))
+  pub first_within : first_period input ≤ whole_periods Narrow input
+  unfolding first_period
+  first_within = omega (arith, failing_max (unmarked_six input) 0 (whole_periods Narrow input))
 
   -- n whole six bytes, the first of which with either mark is number k, or k is n where none has it
-  module _ (n k : ℕ) (e : n ≡ wholePeriods Narrow input) (f : k ≡ firstFailing (unmarkedSix input) 0 n) where
-    first-is : firstPeriod input ≡ k
-    unfolding firstPeriod
-    first-is = rw (← e, ← f)
+  module _ (n k : ℕ) (e : n ≡ whole_periods Narrow input) (f : k ≡ first_failing (unmarked_six input) 0 n) where
+    first_is : first_period input ≡ k
+    unfolding first_period
+    first_is = rw (← e, ← f)
 
     pub found_within : k ≤ n
-    found_within = omega (arith, first-is, first-within)
+    found_within = omega (arith, first_is, first_within)
 
     -- "Without such a record all is contract."
-    pub none_found : k ≡ n → length input ≡ contractLength input
-    unfolding contractLength
-    none_found h = rw (eq-eqb (firstPeriod input) (wholePeriods Narrow input) (first-is ∙ h ∙ e))
+    pub none_found : k ≡ n → length input ≡ contract_length input
+    unfolding contract_length
+    none_found h = rw (eq-eqb (first_period input) (whole_periods Narrow input) (first_is ∙ h ∙ e))
 
-    pub one_found : ¬ (k ≡ n) → periodBytes Narrow * k ≡ contractLength input
-    unfolding contractLength
-    one_found h = rw (ne_eqb (firstPeriod input) (wholePeriods Narrow input) (λ i. h (sym first-is ∙ i ∙ sym e)), first-is)
+    pub one_found : ¬ (k ≡ n) → period_bytes Narrow * k ≡ contract_length input
+    unfolding contract_length
+    one_found h = rw (ne_eqb (first_period input) (whole_periods Narrow input) (λ i. h (sym first_is ∙ i ∙ sym e)), first_is)
 
   -- the contract is within the input
-  pub contract-within : contractLength input ≤ length input
-  unfolding contractLength
-  contract-within = go (eqb (firstPeriod input) (wholePeriods Narrow input))
+  pub contract_within : contract_length input ≤ length input
+  unfolding contract_length
+  contract_within = go (eqb (first_period input) (whole_periods Narrow input))
     where
-      go : (t : Bool) → cond t (length input) (periodBytes Narrow * firstPeriod input) ≤ length input
+      go : (t : Bool) → cond t (length input) (period_bytes Narrow * first_period input) ≤ length input
       go true = omega arith
-      go false = omega (arith, few-whole Narrow input, first-within)
+      go false = omega (arith, few_whole Narrow input, first_within)

@@ -3,7 +3,7 @@ use Rattle.std.specs.Prelude.{ℕ, zero, suc, ◌+◌, ◌/◌, ◌%◌, ◌≤�
 use Prim.Native.Char.{code}
 use Prim.Native.String.{String, [], ◌∷◌}
 use Rattle.std.proofs.lemmas.List.Edits.{sets}
-use Rattle.records.specs.Verdicts.{Verdict, verdictName}
+use Rattle.records.specs.Verdicts.{Verdict, verdict_name}
 
 -- a text's bytes
 abbrev pub ascii : String → List ℕ
@@ -24,19 +24,19 @@ unfoldable pub decimal : ℕ → List ℕ
 decimal n = digits (suc n) n
 
 -- "a line per period (number, verdict name, blame)"
-unfoldable pub periodLine : (n : ℕ) → Verdict → (blame : ℕ) → List ℕ
-periodLine n v b = decimal n ++ ascii " " ++ ascii (verdictName v) ++ ascii " " ++ decimal b ++ ascii "\n"
+unfoldable pub period_line : (n : ℕ) → Verdict → (blame : ℕ) → List ℕ
+period_line n v b = decimal n ++ ascii " " ++ ascii (verdict_name v) ++ ascii " " ++ decimal b ++ ascii "\n"
 
 -- "and then `decided` with the decision period, 0 for none"
-unfoldable pub decidedLine : ℕ → List ℕ
-decidedLine k = ascii "decided " ++ decimal k ++ ascii "\n"
+unfoldable pub decided_line : ℕ → List ℕ
+decided_line k = ascii "decided " ++ decimal k ++ ascii "\n"
 
 -- "A refusal prints only `refused`, number, place"
-unfoldable pub refusedLine : (number place : ℕ) → List ℕ
-refusedLine number place = ascii "refused " ++ decimal number ++ ascii " " ++ decimal place ++ ascii "\n"
+unfoldable pub refused_line : (number place : ℕ) → List ℕ
+refused_line number place = ascii "refused " ++ decimal number ++ ascii " " ++ decimal place ++ ascii "\n"
 
 -- these bytes stand in the text from byte `at` on, all within it, the others are as they were, and r is the byte after them
 pub record Puts (text : List ℕ) (at : ℕ) (vs : List ℕ) (later : List ℕ) (r : ℕ) : Type 0 where
-  pub text-is : later ≡ sets text at vs
+  pub text_is : later ≡ sets text at vs
   pub end_is : r ≡ at + length vs
   pub fits : r ≤ length text

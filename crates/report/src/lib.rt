@@ -1,17 +1,17 @@
 // The report that `watch` prints: the input split into contract and trace, and the lines. Document 01, "Watch"; document 02,
 // "Thirty-two actions".
 ghost use Rattle.std.specs.Prelude.{◌≡◌, ◌+◌, ◌*◌, ◌≤◌, ◌<◌, length};
-ghost use Rattle.records.specs.Verdicts.{Verdict, verdictNumber, verdictName};
-ghost use Rattle.records.specs.Refusals.{firstFailing};
+ghost use Rattle.records.specs.Verdicts.{Verdict, verdict_number, verdict_name};
+ghost use Rattle.records.specs.Refusals.{first_failing};
 ghost use Rattle.periods.specs.declared.Form.TheVariants.{Narrow};
-ghost use Rattle.periods.specs.Traces.{wholePeriods, periodRecords};
-ghost use Rattle.layout.specs.Limits.{rowBytes, maxRows};
-ghost use Rattle.states.specs.Limits.{headBytes};
+ghost use Rattle.periods.specs.Traces.{whole_periods, period_records};
+ghost use Rattle.layout.specs.Limits.{row_bytes, max_rows};
+ghost use Rattle.states.specs.Limits.{head_bytes};
 ghost use Rattle.grammar.specs.Reader.{read};
-ghost use Rattle.report.specs.Limits.{inputBytes, inputPeriods, nameBytes, lineBytes, textBytes};
-ghost use Rattle.report.specs.Texts.{ascii, decimal, periodLine, decidedLine, refusedLine, Puts};
-ghost use Rattle.report.specs.Split.{unmarkedSix, contractLength, contractOf, traceOf};
-ghost use Rattle.report.specs.Reports.{onContract, report};
+ghost use Rattle.report.specs.Limits.{input_bytes, input_periods, name_bytes, line_bytes, text_bytes};
+ghost use Rattle.report.specs.Texts.{ascii, decimal, period_line, decided_line, refused_line, Puts};
+ghost use Rattle.report.specs.Split.{unmarked_six, contract_length, contract_of, trace_of};
+ghost use Rattle.report.specs.Reports.{on_contract, report};
 ghost use Rattle.report.specs.Putting.{Compiling, Stepping, MayList, Lists, MayFollow, FollowsTrace};
 
 use periods::Form;
@@ -64,9 +64,9 @@ fn put_decimal(text: &mut [u8], at: usize, n: u64) -> usize
 
 // Puts a verdict's name.
 fn put_name(text: &mut [u8], at: usize, verdict: u32) -> usize
-    requires { at + nameBytes ≤ length text.old }
-    ensures puts { (v : Verdict) → verdict ≡ verdictNumber v → Puts text.old at (ascii (verdictName v)) text.new result }
-    ensures upper_bound { result ≤ at + nameBytes }
+    requires { at + name_bytes ≤ length text.old }
+    ensures puts { (v : Verdict) → verdict ≡ verdict_number v → Puts text.old at (ascii (verdict_name v)) text.new result }
+    ensures upper_bound { result ≤ at + name_bytes }
 {
     match verdict {
         0 => put_word(text, at, b"open"),
@@ -81,10 +81,10 @@ fn put_name(text: &mut [u8], at: usize, verdict: u32) -> usize
 
 // Puts the line of a period.
 fn put_period(text: &mut [u8], at: usize, n: u64, verdict: u32, blame: u64) -> usize
-    requires line_bytes_in_bounds { at + lineBytes ≤ length text.old }
-    requires n_le_input_periods { n ≤ inputPeriods }
+    requires line_bytes_in_bounds { at + line_bytes ≤ length text.old }
+    requires n_le_input_periods { n ≤ input_periods }
     requires blame_bound { blame < 10 }
-    ensures { (v : Verdict) → verdict ≡ verdictNumber v → Puts text.old at (periodLine n v blame) text.new result }
+    ensures { (v : Verdict) → verdict ≡ verdict_number v → Puts text.old at (period_line n v blame) text.new result }
 {
     let number_end = put_decimal(text, at, n);
     let name = put_word(text, number_end, b" ");
@@ -96,8 +96,8 @@ fn put_period(text: &mut [u8], at: usize, n: u64, verdict: u32, blame: u64) -> u
 
 // Puts the last line.
 fn put_decided(text: &mut [u8], at: usize, decision: u64) -> usize
-    requires { at + length (decidedLine decision) ≤ length text.old }
-    ensures { Puts text.old at (decidedLine decision) text.new result }
+    requires { at + length (decided_line decision) ≤ length text.old }
+    ensures { Puts text.old at (decided_line decision) text.new result }
 {
     let number = put_word(text, at, b"decided ");
     let number_end = put_decimal(text, number, decision);
@@ -106,8 +106,8 @@ fn put_decided(text: &mut [u8], at: usize, decision: u64) -> usize
 
 // Puts the line of a refusal, the only one there is.
 fn put_refused(text: &mut [u8], number: u64, place: u64) -> usize
-    requires { length (refusedLine number place) ≤ length text.old }
-    ensures { Puts text.old 0 (refusedLine number place) text.new result }
+    requires { length (refused_line number place) ≤ length text.old }
+    ensures { Puts text.old 0 (refused_line number place) text.new result }
 {
     let number_at = put_word(text, 0, b"refused ");
     let number_end = put_decimal(text, number_at, number);
@@ -120,8 +120,8 @@ fn put_refused(text: &mut [u8], number: u64, place: u64) -> usize
 
 // The first of n times six bytes that start with either form's mark; n where there are none.
 fn first_period(input: &[u8], n: usize) -> usize
-    requires { n ≤ wholePeriods Narrow input.now }
-    ensures { result ≡ firstFailing (unmarkedSix input.now) 0 n }
+    requires { n ≤ whole_periods Narrow input.now }
+    ensures { result ≡ first_failing (unmarked_six input.now) 0 n }
 {
     let mut k = 0;
     while k < n && !periods::either_mark(input, periods::NARROW_BYTES * k) {
@@ -132,7 +132,7 @@ fn first_period(input: &[u8], n: usize) -> usize
 
 // How many bytes of the input are the contract; the rest is the trace.
 fn contract_length(input: &[u8]) -> usize
-    ensures { result ≡ contractLength input.now }
+    ensures { result ≡ contract_length input.now }
 {
     let n = periods::whole_periods(Form::Narrow, input);
     let k = first_period(input, n);
@@ -162,7 +162,7 @@ pub struct Stepped {
 
 // A step on record k of a trace.
 fn step(image: &[u8], state: &mut [u8], trace: &[u8], k: usize) -> Stepped
-    requires { k < periodRecords trace.now }
+    requires { k < period_records trace.now }
     ensures { Stepping image.now state.old trace.now k state.new result }
 {
     let bytes = periods::period_bytes(periods::form_of(trace));
@@ -208,11 +208,11 @@ fn follow(image: &[u8], state: &mut [u8], trace: &[u8], text: &mut [u8]) -> usiz
 
 // Puts the report of an input of at most INPUT_BYTES.
 fn put_parts(input: &[u8], image: &mut [u8], state: &mut [u8], text: &mut [u8]) -> usize
-    requires input_len_bound { length input.now ≤ inputBytes }
-    requires image_len { length image.old ≡ rowBytes * (maxRows + 1) }
-    requires state_len { length state.old ≡ headBytes + maxRows }
-    requires text_len { length text.old ≡ textBytes }
-    ensures { Puts text.old 0 (onContract (read (contractOf input.now)) (traceOf input.now)) text.new result }
+    requires input_len_bound { length input.now ≤ input_bytes }
+    requires image_len { length image.old ≡ row_bytes * (max_rows + 1) }
+    requires state_len { length state.old ≡ head_bytes + max_rows }
+    requires text_len { length text.old ≡ text_bytes }
+    ensures { Puts text.old 0 (on_contract (read (contract_of input.now)) (trace_of input.now)) text.new result }
 {
     let end = contract_length(input);
     let compiled = compile(&input[..end], image);

@@ -1,12 +1,12 @@
 // The runner: begins a state for an image, and takes periods. Document 01, "Calls".
 ghost use Rattle.std.specs.Prelude.{◌≡◌, ◌≤◌, length, replicate};
 ghost use Rattle.std.proofs.lemmas.List.Edits.{sets};
-ghost use Rattle.records.specs.Replies.{replyOf, Gives};
+ghost use Rattle.records.specs.Replies.{reply_of, Gives};
 ghost use Rattle.records.specs.declared.Test.TheVariants.{Passed};
 ghost use Rattle.states.specs.States.{state_of};
 ghost use Rattle.states.specs.Premises.{Answering};
-ghost use Rattle.calls.specs.Refusals.{beginTest, readyTest, stepTest, runTest};
-ghost use Rattle.calls.specs.Calls.{stepAnswer, answer, stepReplyBytes, begin, step, run};
+ghost use Rattle.calls.specs.Refusals.{begin_test, ready_test, step_test, run_test};
+ghost use Rattle.calls.specs.Calls.{step_answer, answer, step_reply_bytes, begin, step, run};
 
 use records::Test;
 
@@ -20,7 +20,7 @@ pub const STEP_REPLY_BYTES: usize = records::REPLY_HEAD + 8;
 
 // Begin: the image, then the state's length.
 fn begin_test(image: &[u8], state: &[u8]) -> Test
-    ensures { result ≡ beginTest image.now state.now }
+    ensures { result ≡ begin_test image.now state.now }
 {
     let t = layout::image_test(image);
     let Test::Passed = t else {
@@ -31,7 +31,7 @@ fn begin_test(image: &[u8], state: &[u8]) -> Test
 
 // What step and run have in common: the image, then the state.
 fn ready_test(image: &[u8], state: &[u8]) -> Test
-    ensures { result ≡ readyTest image.now state.now }
+    ensures { result ≡ ready_test image.now state.now }
 {
     let t = layout::image_test(image);
     let Test::Passed = t else {
@@ -42,7 +42,7 @@ fn ready_test(image: &[u8], state: &[u8]) -> Test
 
 // Step: then the record, then the count.
 fn step_test(image: &[u8], state: &[u8], period: &[u8]) -> Test
-    ensures { result ≡ stepTest image.now state.now period.now }
+    ensures { result ≡ step_test image.now state.now period.now }
 {
     let t = ready_test(image, state);
     let Test::Passed = t else {
@@ -57,7 +57,7 @@ fn step_test(image: &[u8], state: &[u8], period: &[u8]) -> Test
 
 // Run: then the trace, then the count.
 fn run_test(image: &[u8], state: &[u8], trace: &[u8]) -> Test
-    ensures { result ≡ runTest image.now state.now trace.now }
+    ensures { result ≡ run_test image.now state.now trace.now }
 {
     let t = ready_test(image, state);
     let Test::Passed = t else {
@@ -74,8 +74,8 @@ fn run_test(image: &[u8], state: &[u8], trace: &[u8]) -> Test
 
 // Writes step's or run's reply.
 fn put_step_reply(reply: &mut [u8], t: Test, verdict: u32, blame: u32, decision: u32)
-    requires { stepReplyBytes ≤ length reply.old }
-    ensures { reply.new ≡ sets reply.old 0 (replyOf t (stepAnswer verdict blame decision)) }
+    requires { step_reply_bytes ≤ length reply.old }
+    ensures { reply.new ≡ sets reply.old 0 (reply_of t (step_answer verdict blame decision)) }
 {
     records::put_head(reply, t, verdict);
     records::put4(reply, records::REPLY_HEAD, blame);
@@ -84,8 +84,8 @@ fn put_step_reply(reply: &mut [u8], t: Test, verdict: u32, blame: u32, decision:
 
 // The answer that a state gives.
 fn put_answer(reply: &mut [u8], state: &[u8])
-    requires { (stepReplyBytes ≤ length reply.old) × Answering state.now }
-    ensures { reply.new ≡ sets reply.old 0 (replyOf Passed (answer (state_of state.now))) }
+    requires { (step_reply_bytes ≤ length reply.old) × Answering state.now }
+    ensures { reply.new ≡ sets reply.old 0 (reply_of Passed (answer (state_of state.now))) }
 {
     put_step_reply(
         reply,

@@ -2,9 +2,9 @@
 use Rattle.std.specs.Prelude.{ℕ}
 
 -- the bytes of a state before its row values
-abbrev pub headBytes : ℕ
-headBytes = 10
+abbrev pub head_bytes : ℕ
+head_bytes = 10
 
 -- the most periods that a state counts
-abbrev pub maxPeriods : ℕ
-maxPeriods = 4294967295
+abbrev pub max_periods : ℕ
+max_periods = 4294967295

@@ -1,6 +1,6 @@
 -- What the functions of this crate ask of a state, and what they tell of its first fields.
 use Rattle.std.specs.Prelude.{ℕ, ◌≤◌, List, length}
-use Rattle.states.specs.Limits.{headBytes}
+use Rattle.states.specs.Limits.{head_bytes}
 use Rattle.states.specs.States.{state_of}
 
 -- what soundness asks of outcome, blame, periods taken and decision period alone
@@ -11,5 +11,5 @@ pub data SoundHead : (outcome blame periods decision : ℕ) → Type 0 where
 
 -- a state's head, with a decision period that is not above periods taken
 pub record Answering (state : List ℕ) : Type 0 where
-  pub head : headBytes ≤ length state
-  pub decided-by-now : (state_of state).decision ≤ (state_of state).periods
+  pub head : head_bytes ≤ length state
+  pub decided_by_now : (state_of state).decision ≤ (state_of state).periods

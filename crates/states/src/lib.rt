@@ -1,10 +1,10 @@
 // States: their bytes, whether they are sound, and the verdicts that they show. Document 01, "Image and row machine", from "State".
 ghost use Rattle.std.specs.Prelude.{◌≡◌, true, ◌↔◌, ◌^◌, ◌<◌, ◌≤◌, length};
-ghost use Rattle.records.specs.Verdicts.{verdictNumber};
-ghost use Rattle.states.specs.Limits.{headBytes};
-ghost use Rattle.states.specs.States.{state_of, allAtMost, sound};
+ghost use Rattle.records.specs.Verdicts.{verdict_number};
+ghost use Rattle.states.specs.Limits.{head_bytes};
+ghost use Rattle.states.specs.States.{state_of, all_at_most, sound};
 ghost use Rattle.states.specs.Verdicts.{verdict};
-ghost use Rattle.states.specs.Refusals.{stateLengthTest, stateTest, countTest};
+ghost use Rattle.states.specs.Refusals.{state_length_test, state_test, count_test};
 ghost use Rattle.states.specs.Premises.{SoundHead, Answering};
 
 use records::{Fault, Test};
@@ -19,7 +19,7 @@ const MAX_PERIODS: u32 = 4294967295;
 
 // Whether every value is at most `top`.
 fn all_at_most(values: &[u8], top: u8) -> bool
-    ensures { result ≡ allAtMost top values.now }
+    ensures { result ≡ all_at_most top values.now }
 {
     let mut k = 0;
     while k < values.len() {
@@ -45,7 +45,7 @@ fn sound_head(outcome: u32, blame: u32, periods: u32, decision: u32) -> bool
 
 // Whether the state is sound.
 fn sound(state: &[u8]) -> bool
-    requires { headBytes ≤ length state.now }
+    requires { head_bytes ≤ length state.now }
     ensures { result ≡ sound (state_of state.now) }
 {
     let periods = records::get4(state, 2);
@@ -67,7 +67,7 @@ fn sound(state: &[u8]) -> bool
 // The state's length, for an image of n rows.
 pub fn length_test(n: usize, state: &[u8]) -> Test
     requires { n < 2 ^ 32 }
-    ensures { result ≡ stateLengthTest n state.now }
+    ensures { result ≡ state_length_test n state.now }
 {
     if state.len() != HEAD_BYTES + n {
         return Test::Refused(Fault::BadState, 0);
@@ -78,7 +78,7 @@ pub fn length_test(n: usize, state: &[u8]) -> Test
 // The state's length, and whether it is sound.
 pub fn state_test(n: usize, state: &[u8]) -> Test
     requires { n < 2 ^ 32 }
-    ensures { result ≡ stateTest n state.now }
+    ensures { result ≡ state_test n state.now }
 {
     let t = length_test(n, state);
     let Test::Passed = t else {
@@ -94,7 +94,7 @@ pub fn state_test(n: usize, state: &[u8]) -> Test
 
 // Whether n more periods can be counted after so many.
 pub fn count_test(taken: u32, n: usize) -> Test
-    ensures { result ≡ countTest taken n }
+    ensures { result ≡ count_test taken n }
 {
     let left = (MAX_PERIODS - taken) as usize;
     if left < n {
@@ -108,7 +108,7 @@ pub fn count_test(taken: u32, n: usize) -> Test
 // The verdict's number that a state shows.
 pub fn verdict(state: &[u8]) -> u32
     requires { Answering state.now }
-    ensures { result ≡ verdictNumber (verdict (state_of state.now)) }
+    ensures { result ≡ verdict_number (verdict (state_of state.now)) }
 {
     let outcome = state[0];
     if outcome == 0 {

@@ -2,10 +2,10 @@
 use borrow.Author.Rules.{rules}
 use mathlib.Core.Path.{◌≡◌, sym, ◌∙◌}
 use Rattle.records.specs.declared.Test.TheVariants.{Passed}
-use Rattle.records.proofs.Refusals.{is-refused}
-use Rattle.compiler.specs.Refusals.{compileTest}
+use Rattle.records.proofs.Refusals.{is_refused}
+use Rattle.compiler.specs.Refusals.{compile_test}
 use Rattle.compiler.proofs.Refusals.{may_write}
-use Rattle.compiler.proofs.Calls.{no_room, turned-away, served}
+use Rattle.compiler.proofs.Calls.{no_room, turned_away, served}
 use Rattle.compiler.proofs.monitor_compile.Statement.{statement}
 use Rattle.compiler.proofs.monitor_compile.Tie as tie
 use Rattle.compiler.proofs.monitor_compile.Reads as reads
@@ -41,11 +41,11 @@ returns-2 c =
     let p = c.before.before in
     let b = c.before.before.before.before.before.before in
     let t = b.compile-test.ensures in
-    turned-away _ _ _ b.before.before.if1.false (λ e. is-refused c.before.before.before.before.enum-told2.given.1 (t ∙ e)) _ (rw t at p.put-head.ensures)
+    turned_away _ _ _ b.before.before.if1.false (λ e. is_refused c.before.before.before.before.enum-told2.given.1 (t ∙ e)) _ (rw t at p.put-head.ensures)
 
 -- the tests are passed
 passed : (c : lts.After-enum-told (compile-test-reads.Asked, compile-test-reads.Learnt, put-head-reads.Asked, put-head-reads.Learnt, contract-records-reads.Asked, contract-records-reads.Learnt, put-image-reads.Asked, put-image-reads.Learnt) reads.Pre reads.Post)
-    → let a = c.before.before.before.before.before.before.before.before.args in compileTest a.contract.now a.image.now ≡ Passed
+    → let a = c.before.before.before.before.before.before.before.before.args in compile_test a.contract.now a.image.now ≡ Passed
 passed c = sym c.before.before.compile-test.ensures ∙ c.enum_told.given.1
 
 contract-records-requires : tie.Need-contract-records-requires

@@ -4,21 +4,21 @@ use native.Mathlib.Omega.{arith}
 use mathlib.Core.Path.{◌≡◌, refl, sym, ap, ◌∙◌}
 use lib.ListN.{length, length-replicate}
 use Rattle.records.specs.declared.Test.TheVariants.{Passed}
-use Rattle.records.proofs.Refusals.{is-refused, refused-first}
-use Rattle.records.proofs.Replies.{call-result, gives-no-room, gives-refused}
-use Rattle.periods.specs.Traces.{marksTest, formOf}
-use Rattle.layout.proofs.Images.{GoodImage, passed-good}
-use Rattle.states.proofs.Fresh.{zeros-part}
-use Rattle.calls.specs.Reading.{recordsRead}
-use Rattle.calls.specs.Refusals.{unreadTest, decideTest}
+use Rattle.records.proofs.Refusals.{is_refused, refused_first}
+use Rattle.records.proofs.Replies.{call_result, gives_no_room, gives_refused}
+use Rattle.periods.specs.Traces.{marks_test, form_of}
+use Rattle.layout.proofs.Images.{GoodImage, passed_good}
+use Rattle.states.proofs.Fresh.{zeros_part}
+use Rattle.calls.specs.Reading.{records_read}
+use Rattle.calls.specs.Refusals.{unread_test, decide_test}
 use Rattle.calls.specs.Calls.{decide}
-use Rattle.calls.proofs.Refusals.{unread-passed}
+use Rattle.calls.proofs.Refusals.{unread_passed}
 use Rattle.decider.proofs.monitor_decide.Statement.{statement}
 use Rattle.decider.proofs.monitor_decide.Tie as tie
 
 returns : tie.Need-returns
 unfolding decide
-returns c = gives-no-room _ _ _ _ _ c.if1.true
+returns c = gives_no_room _ _ _ _ _ c.if1.true
 
 unread-test-requires : tie.Need-unread-test-requires
 unread-test-requires c κs = search rules
@@ -36,38 +36,38 @@ same_length : tie.Need-same-length
 same_length c = search rules
 
 returns-2 : tie.Need-returns-2
-unfolding decide decideTest
+unfolding decide decide_test
 returns-2 c =
     let b = c.before.before.before.before.before.before in
     let a = b.before.before.before.before.before.args in
     let told = c.before.before.before.before.enum-told2.given.1 in
     let t = b.unread-test.result in
-    let u = refused-first t _ (marksTest (formOf a.trace.now) a.trace.now (recordsRead a.image.now a.trace.now)) b.unread-test.ensures told in
-    rw (← u) (gives-refused t _ _ _ _ b.before.if1.false (is-refused told) _ c.before.before.put-decide-reply.ensures)
+    let u = refused_first t _ (marks_test (form_of a.trace.now) a.trace.now (records_read a.image.now a.trace.now)) b.unread-test.ensures told in
+    rw (← u) (gives_refused t _ _ _ _ b.before.if1.false (is_refused told) _ c.before.before.put-decide-reply.ensures)
 
 -- the tests before reading are passed
-passed : (c : tie.After-enum-told) → let a = c.before.before.before.before.before.before.before.args in unreadTest a.image.now a.trace.now ≡ Passed
+passed : (c : tie.After-enum-told) → let a = c.before.before.before.before.before.before.before.args in unread_test a.image.now a.trace.now ≡ Passed
 passed c = sym c.before.before.unread-test.ensures ∙ c.enum_told.given.1
 
 good : (c : tie.After-enum-told) → GoodImage c.before.before.before.before.before.before.before.args.image.now
-good c = passed-good _ (unread-passed _ _ (passed c)).0
+good c = passed_good _ (unread_passed _ _ (passed c)).0
 
 row-count-requires : tie.Need-row-count-requires
 row-count-requires c κs = omega (arith, (good c).count)
 
 add-bytes : tie.Need-overflow-add-bytes
-add-bytes c = omega (arith, (good c.before).few-rows, c.row_count.ensures)
+add-bytes c = omega (arith, (good c.before).few_rows, c.row_count.ensures)
 
 array-borrow-prefix-state : tie.Need-array-borrow-prefix-state
-array-borrow-prefix-state c = omega (arith, (good c.before).few-rows, c.row_count.ensures)
+array-borrow-prefix-state c = omega (arith, (good c.before).few_rows, c.row_count.ensures)
 
 slice-aggregate-read-trace : tie.Need-slice-aggregate-read-trace
-slice-aggregate-read-trace c = sym (ap length (zeros-part _ _ (array-borrow-prefix-state c.before)) ∙ length-replicate _ 0)
+slice-aggregate-read-trace c = sym (ap length (zeros_part _ _ (array-borrow-prefix-state c.before)) ∙ length-replicate _ 0)
 
 read-trace-requires : tie.Need-read-trace-requires
 read-trace-requires c κs =
     let t = c.before.before.before in
-    (passed t, (zeros-part _ _ (array-borrow-prefix-state c.before.before) ∙ rw c.before.before.row_count.ensures refl, t.before.before.before.if1.false))
+    (passed t, (zeros_part _ _ (array-borrow-prefix-state c.before.before) ∙ rw c.before.before.row_count.ensures refl, t.before.before.before.if1.false))
 
 same-length-2 : tie.Need-same-length-2
 same-length-2 c = search rules
@@ -76,7 +76,7 @@ returns-3 : tie.Need-returns-3
 unfolding decide
 returns-3 c =
     let t = c.before.before.before.before.before.before.before in
-    record { result-is = sym (call-result _ _ _ _ _ t.before.before.before.if1.false); buffers-are = refl; reply-is = c.before.before.before.read-trace.ensures }
+    record { result_is = sym (call_result _ _ _ _ _ t.before.before.before.if1.false); buffers_are = refl; reply_is = c.before.before.before.read-trace.ensures }
 
 pub monitor-decide-spec : {M : Type 1} → statement M
 monitor-decide-spec =

@@ -9,15 +9,15 @@ use borrow.Author.Rules.{rules}
 use borrow.Fn.Kinds.{In}
 use borrow.Fn.PlainCycle.{Measures, is, falls, and}
 use Rattle.grammar.specs.Table.{kind_of}
-use Rattle.reader.proofs.Codes.{operandCount-max}
+use Rattle.reader.proofs.Codes.{operand_count-max}
 use Rattle.reader.proofs.operands.Reads as operands-reads
 use Rattle.emitter.specs.declared.Block.{Block}
-use Rattle.emitter.specs.Blocks.{basesOf, wiresOf, Emitted}
+use Rattle.emitter.specs.Blocks.{bases_of, wires_of, Emitted}
 use Rattle.emitter.specs.Premises.{RecordRows}
 use Rattle.emitter.proofs.emit.Reads as emit
 use Rattle.emitter.proofs.emit.Kinds as emit-kinds
-use Rattle.emitter.proofs.Emitting.{RecordRead, Written, written-no, written_one, written-two, emitted}
-use Rattle.emitter.proofs.Room.{some-record, few-inside, window-room, wires-small, right-emits, left-emits, record-rows}
+use Rattle.emitter.proofs.Emitting.{RecordRead, Written, written_no, written_one, written_two, emitted}
+use Rattle.emitter.proofs.Room.{some_record, few_inside, window_room, wires_small, right_emits, left_emits, record_rows}
 use Rattle.emitter.proofs.+emit.Lts-emit as emit-lts
 use Rattle.emitter.proofs.last_record.Reads as last-record-reads
 use Rattle.emitter.proofs.no_block.Reads as no-block-reads
@@ -66,8 +66,8 @@ module _ (t : ℕ) where
   reads p =
       record {
         body_is = p.before.before.before.last-record.ensures;
-        plan-is = p.before.before.plan-of.ensures;
-        count-is = p.before.operands.ensures;
+        plan_is = p.before.before.plan-of.ensures;
+        count_is = p.before.operands.ensures;
       }
 
   -- its operands' rows are written, and these are their blocks
@@ -76,23 +76,23 @@ module _ (t : ℕ) where
       let a = p.before.before.before.before.before.before.args in
       let plan = p.before.before.plan-of.result in
       Written a.contract.now (a.n - 1) p.before.operands.result (p.before.before.before.last-record.result.last - 1) a.image.now (a.at + plan.before) a.s
-      (wiresOf plan a.at a.s a.k) later left right
+      (wires_of plan a.at a.s a.k) later left right
 
   -- there is room for its own rows
   rows_at : (p : emit-lts.After-struct-known (callees t) (emit-at t) emit.Post) {later : List ℕ} {left right : Block} → WrittenAt p later left right
       → let a = p.before.before.before.before.before.before.args in
       let r = p.before.before.before.last-record.result in
       length later ≡ length a.image.now
-      → RecordRows (length later) p.before.before.plan-of.result a.at left.next (basesOf a.at a.s a.k left right r.party r.action)
+      → RecordRows (length later) p.before.before.plan-of.result a.at left.next (bases_of a.at a.s a.k left right r.party r.action)
   rows_at p w l =
       let bytes = p.before.before.before.last-record.type-inv in
-      record-rows p.before.before.before.before.before.before.requires.1 (reads p) w l (omega arith, omega arith)
+      record_rows p.before.before.before.before.before.before.requires.1 (reads p) w l (omega arith, omega arith)
 
   last-record-requires : emit-lts.Need-last-record-requires (callees t) (emit-at t) emit.Post
-  last-record-requires c κs = some-record c.before.before.requires.1
+  last-record-requires c κs = some_record c.before.before.requires.1
 
   sub-before : emit-lts.Need-overflow-sub-before (callees t) (emit-at t) emit.Post
-  sub-before c = (some-record c.before.before.before.requires.1).0
+  sub-before c = (some_record c.before.before.before.requires.1).0
 
   plan-of-requires : emit-lts.Need-plan-of-requires (callees t) (emit-at t) emit.Post
   plan-of-requires c κs = search rules
@@ -101,20 +101,20 @@ module _ (t : ℕ) where
   operands-requires c κs = search rules
 
   cast-inside : emit-lts.Need-overflow-cast-inside (callees t) (emit-at t) emit.Post
-  cast-inside p = let h = few-inside p.before.before.before.before.before.before.pre.1 (reads p) in record { fits = omega arith }
+  cast-inside p = let h = few_inside p.before.before.before.before.before.before.pre.1 (reads p) in record { fits = omega arith }
 
   add-inside : emit-lts.Need-overflow-add-inside (callees t) (emit-at t) emit.Post
-  add-inside p = let h = few-inside p.before.before.before.before.before.before.pre.1 (reads p) in record { fits = omega arith }
+  add-inside p = let h = few_inside p.before.before.before.before.before.before.pre.1 (reads p) in record { fits = omega arith }
 
   put-window-requires : emit-lts.Need-put-window-requires (callees t) (emit-at t) emit.Post
   put-window-requires c κs =
       let p = c.before.before in
-      window-room p.before.before.before.before.before.before.requires.1 (reads p) c.before.if1.true
+      window_room p.before.before.before.before.before.before.requires.1 (reads p) c.before.if1.true
 
   -- without operands
   written-none-at : (c : emit-lts.After-put-window (callees t) (emit-at t) emit.Post)
       → WrittenAt c.before.before.before c.put-window.new.0 c.put-window.result c.put-window.result
-  written-none-at c = rw c.before.before.if1.true (written-no c.put-window.ensures.0 c.put-window.ensures.1)
+  written-none-at c = rw c.before.before.if1.true (written_no c.put-window.ensures.0 c.put-window.ensures.1)
 
   put-record-requires : emit-lts.Need-put-record-requires (callees t) (emit-at t) emit.Post
   put-record-requires c κs =
@@ -131,21 +131,21 @@ module _ (t : ℕ) where
       emitted (reads w.before.before.before) _ _ _ (written-none-at w) r.ensures.0 r.ensures.1
 
   wires-of-requires : emit-lts.Need-wires-of-requires (callees t) (emit-at t) emit.Post
-  wires-of-requires c κs = wires-small c.before.before.before.before.before.before.before.requires.1 (reads c.before)
+  wires-of-requires c κs = wires_small c.before.before.before.before.before.before.before.requires.1 (reads c.before)
 
   emit-requires : emit-lts.Need-emit-requires (callees t) (emit-at t) emit.Post
   emit-requires c κs =
       let p = c.before.before.before in
       let pre = p.before.before.before.before.before.before.requires in
-      let h = (some-record pre.1).0 in
+      let h = (some_record pre.1).0 in
       let m = pre.0 in
-      (omega arith, rw c.before.wires-of.ensures (right-emits pre.1 (reads p) c.before.before.if1.false))
+      (omega arith, rw c.before.wires-of.ensures (right_emits pre.1 (reads p) c.before.before.if1.false))
 
   -- the right operand's rows, or the only one's
   right-at : (r : emit-lts.After-emit (callees t) (emit-at t) emit.Post)
       → let p = r.before.before.before.before in
       let a = p.before.before.before.before.before.before.args in
-      let w = wiresOf p.before.before.plan-of.result a.at a.s a.k in
+      let w = wires_of p.before.before.plan-of.result a.at a.s a.k in
       Emitted a.contract.now (a.n - 1) a.image.now (a.at + p.before.before.plan-of.result.before) w.start w.go r.emit.new.1.1.0
       r.emit.result
   right-at r = rw (← r.before.before.wires-of.ensures) r.emit.ensures
@@ -178,9 +178,9 @@ module _ (t : ℕ) where
       let r = c.before.before.before.before in
       let p = r.before.before.before.before in
       let pre = p.before.before.before.before.before.before.requires in
-      let h = (some-record pre.1).0 in
+      let h = (some_record pre.1).0 in
       let m = pre.0 in
-      let l = left-emits pre.1 (reads p) r.before.before.before.if1.false c.before.if2.false (right-at r) r.emit.auto.1.1.0 in
+      let l = left_emits pre.1 (reads p) r.before.before.before.if1.false c.before.if2.false (right-at r) r.emit.auto.1.1.0 in
       (omega (arith, l.1), rw r.before.before.wires-of.ensures l.0)
 
   -- with two operands
@@ -188,7 +188,7 @@ module _ (t : ℕ) where
       → let r = c.before.before.before.before.before in
       let p = r.before.before.before.before in
       let a = p.before.before.before.before.before.before.args in
-      let w = wiresOf p.before.before.plan-of.result a.at a.s a.k in
+      let w = wires_of p.before.before.plan-of.result a.at a.s a.k in
       Emitted a.contract.now r.emit.result.before r.emit.new.1.1.0 r.emit.result.next a.s w.keep c.emit2.new.1.1.0
       c.emit2.result
   left_at c = rw (← c.before.before.before.before.before.before.before.wires-of.ensures) c.emit2.ensures
@@ -199,14 +199,14 @@ module _ (t : ℕ) where
       let p = r.before.before.before.before in
       let h = r.before.before.before.if1.false in
       let i = c.before.before.if2.false in
-      let m = operandCount-max (kind_of p.before.before.before.last-record.result.kind) in
+      let m = operand_count-max (kind_of p.before.before.before.last-record.result.kind) in
       let e = p.before.operands.ensures in
       omega arith
 
   written-two-at : (c : emit-lts.After-emit2 (callees t) (emit-at t) emit.Post)
       → let r = c.before.before.before.before.before in
       WrittenAt r.before.before.before.before c.emit2.new.1.1.0 c.emit2.result r.emit.result
-  written-two-at c = rw (two_operands c) (written-two (right-at c.before.before.before.before.before) (left_at c))
+  written-two-at c = rw (two_operands c) (written_two (right-at c.before.before.before.before.before) (left_at c))
 
   put-record-requires-3 : emit-lts.Need-put-record-requires-3 (callees t) (emit-at t) emit.Post
   put-record-requires-3 c κs =

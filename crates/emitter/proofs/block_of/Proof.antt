@@ -5,8 +5,8 @@ use mathlib.Core.Path.{◌≡◌}
 use borrow.Author.Rules.{rules}
 use borrow.Author.Tests.{eq-eqb, ne_eqb}
 use lib.Dec.{eqb}
-use Rattle.periods.specs.Periods.{party2, partyNumber}
-use Rattle.emitter.specs.Blocks.{recordBlock}
+use Rattle.periods.specs.Periods.{party2, party_number}
+use Rattle.emitter.specs.Blocks.{record_block}
 use Rattle.emitter.proofs.block_of.Statement.{statement}
 use Rattle.emitter.proofs.block_of.Tie as tie
 
@@ -29,20 +29,20 @@ completed-requires : tie.Need-completed-requires
 completed-requires c κs = search rules
 
 returns : tie.Need-returns
-unfolding recordBlock
+unfolding record_block
 returns c =
     let two = c.before in
     let one = two.before.before in
     let known = one.before in
     let others = known.before.value-at3 in
     let own = known.before.before.value-at2 in
-    let sat = known.before.before.before.value-at in
-    let second = eqb known.before.before.before.before.before.before.args.r.party (partyNumber party2) in
-    let one-is : one.if1.one ≡ cond second others.result own.result =
+    let sat = known.before.before.before.value_at_lem in
+    let second = eqb known.before.before.before.before.before.before.args.r.party (party_number party2) in
+    let one_is : one.if1.one ≡ cond second others.result own.result =
     ⊎_elim (λ w. rw (eq-eqb _ _ w.0.taken) w.1) (λ w. rw (ne_eqb _ _ w.0.left) w.1) one.if1.branch in
     let two_is : two.if2.two ≡ cond second own.result others.result =
     ⊎_elim (λ w. rw (eq-eqb _ _ w.0.taken) w.1) (λ w. rw (ne_eqb _ _ w.0.left) w.1) two.if2.branch in
-    rw (sat.ensures, one-is, two_is, own.ensures, others.ensures, c.completed.ensures)
+    rw (sat.ensures, one_is, two_is, own.ensures, others.ensures, c.completed.ensures)
 
 pub block-of-spec : {M : Type 1} → statement M
 block-of-spec =

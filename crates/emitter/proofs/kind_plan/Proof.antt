@@ -6,8 +6,8 @@ use mathlib.Core.Logic.{⊎_elim}
 use mathlib.Core.Option.{some, some-injective, none-ne-some}
 use borrow.Author.Rules.{rules}
 use Rattle.grammar.specs.Table.{Kind, kind_of}
-use Rattle.grammar.proofs.Table.{OfClause, OfExpression, clausePlace, expressionPlace, clause-kind, expression-kind, no_kind, table_at}
-use Rattle.emitter.specs.Plans.{planLine, named}
+use Rattle.grammar.proofs.Table.{OfClause, OfExpression, clause_place, expression_place, clause_kind, expression_kind, no_kind, table_at}
+use Rattle.emitter.specs.Plans.{plan_line, named}
 use Rattle.emitter.proofs.kind_plan.Statement.{statement}
 use Rattle.emitter.proofs.kind_plan.Tie as tie
 
@@ -48,8 +48,8 @@ returns c k e =
     let n = t.before.before.args.kind in
     let h = t.before.if1.false in
     let i = t.if2.true in
-    c.named.ensures ∙ ap named (table_at planLine _ (clausePlace n) (omega arith))
-    ∙ ap (λ (j : Kind). named (planLine j)) (some-injective _ k (sym (clause-kind n (h, omega arith)) ∙ e))
+    c.named.ensures ∙ ap named (table_at plan_line _ (clause_place n) (omega arith))
+    ∙ ap (λ (j : Kind). named (plan_line j)) (some-injective _ k (sym (clause_kind n (h, omega arith)) ∙ e))
 
 returns-2 : tie.Need-returns-2
 returns-2 c k e =
@@ -57,8 +57,8 @@ returns-2 c k e =
     let n = t.before.before.before.before.args.kind in
     let h = t.before.if3.false in
     let i = t.if4.true in
-    c.named2.ensures ∙ ap named (table_at planLine _ (expressionPlace n) (omega arith))
-    ∙ ap (λ (j : Kind). named (planLine j)) (some-injective _ k (sym (expression-kind n (h, omega arith)) ∙ e))
+    c.named2.ensures ∙ ap named (table_at plan_line _ (expression_place n) (omega arith))
+    ∙ ap (λ (j : Kind). named (plan_line j)) (some-injective _ k (sym (expression_kind n (h, omega arith)) ∙ e))
 
 returns-3 : tie.Need-returns-3
 returns-3 c k e =

@@ -6,23 +6,23 @@ use mathlib.Core.Logic.{⊎_elim}
 use lib.Dec.{eqb}
 use borrow.Author.Rules.{rules}
 use borrow.Author.Tests.{ne_eqb}
-use Rattle.contract.specs.Meaning.{bothParties, partiesNumber}
+use Rattle.contract.specs.Meaning.{both_parties, parties_number}
 use Rattle.grammar.specs.Table.{Kind, duty, line, kind_of}
-use Rattle.grammar.proofs.Table.{number-kind}
+use Rattle.grammar.proofs.Table.{number_kind}
 use Rattle.emitter.specs.declared.RecordBody.{RecordBody}
-use Rattle.emitter.specs.Plans.{planLine, jointLine, named, plan_of}
-use Rattle.emitter.specs.Blocks.{recordFrom}
+use Rattle.emitter.specs.Plans.{plan_line, joint_line, named, plan_of}
+use Rattle.emitter.specs.Blocks.{record_from}
 use Rattle.emitter.proofs.plan_of.Statement.{statement}
 use Rattle.emitter.proofs.plan_of.Tie as tie
 
 module _ (r : RecordBody) (k : Kind) (e : kind_of r.kind ≡ some k) where
-  joint : r.kind ≡ (line duty).number → eqb r.party (partiesNumber bothParties) ≡ true → named jointLine ≡ plan_of (recordFrom k r)
-  joint i j = rw (number-kind r.kind k e, i, j)
+  joint : r.kind ≡ (line duty).number → eqb r.party (parties_number both_parties) ≡ true → named joint_line ≡ plan_of (record_from k r)
+  joint i j = rw (number_kind r.kind k e, i, j)
 
-  no-duty : ¬ (r.kind ≡ (line duty).number) → named (planLine k) ≡ plan_of (recordFrom k r)
-  no-duty i = rw (number-kind r.kind k e, ne_eqb r.kind (line duty).number i)
+  no-duty : ¬ (r.kind ≡ (line duty).number) → named (plan_line k) ≡ plan_of (record_from k r)
+  no-duty i = rw (number_kind r.kind k e, ne_eqb r.kind (line duty).number i)
 
-  one-party : eqb r.party (partiesNumber bothParties) ≡ false → named (planLine k) ≡ plan_of (recordFrom k r)
+  one-party : eqb r.party (parties_number both_parties) ≡ false → named (plan_line k) ≡ plan_of (record_from k r)
   one-party i = rw (i, and_comm (eqb (line k).number (line duty).number) false)
 
 named-requires : tie.Need-named-requires

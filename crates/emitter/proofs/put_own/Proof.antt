@@ -1,6 +1,6 @@
 -- `emitter::put_own` meets its contract: both runs of the record's own rows are written.
 use borrow.Author.Rules.{rules}
-use Rattle.emitter.specs.Blocks.{recordWritten}
+use Rattle.emitter.specs.Blocks.{record_written}
 use Rattle.emitter.proofs.Writing.{length-written}
 use Rattle.emitter.proofs.put_own.Statement.{statement}
 use Rattle.emitter.proofs.put_own.Tie as tie
@@ -19,7 +19,7 @@ same_length : tie.Need-same-length
 same_length c = search rules
 
 returns : tie.Need-returns
-unfolding recordWritten
+unfolding record_written
 returns c = rw (c.before.before.put-rows2.ensures, c.before.before.before.before.before.before.before.put-rows.ensures)
 
 pub put-own-spec : {M : Type 1} → statement M

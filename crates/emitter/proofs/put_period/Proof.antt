@@ -1,6 +1,6 @@
 -- `emitter::put_period` meets its contract: three rows, one behind the other.
 use borrow.Author.Rules.{rules}
-use Rattle.emitter.proofs.Periods.{written-period}
+use Rattle.emitter.proofs.Periods.{written_period}
 use Rattle.emitter.proofs.put_period.Statement.{statement}
 use Rattle.emitter.proofs.put_period.Tie as tie
 
@@ -27,7 +27,7 @@ returns c =
     let third = c.before.before in
     let second = third.before.before.before.before in
     let first = second.before.before.before.before in
-    written-period _ _ _ _ _ _ _ _ first.put-row.ensures second.put-row2.ensures third.put-row3.ensures
+    written_period _ _ _ _ _ _ _ _ first.put-row.ensures second.put-row2.ensures third.put-row3.ensures
 
 pub put-period-spec : {M : Type 1} → statement M
 put-period-spec =

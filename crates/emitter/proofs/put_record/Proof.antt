@@ -1,7 +1,7 @@
 -- `emitter::put_record` meets its contract: its own rows are written, and the block is theirs.
 use mathlib.Core.Path.{◌≡◌}
 use borrow.Author.Rules.{rules}
-use Rattle.emitter.specs.Blocks.{basesOf}
+use Rattle.emitter.specs.Blocks.{bases_of}
 use Rattle.emitter.proofs.put_record.Statement.{statement}
 use Rattle.emitter.proofs.put_record.Tie as tie
 use Rattle.emitter.proofs.put_record.Reads as reads
@@ -23,7 +23,7 @@ bases-requires c κs = search rules
 -- the numbers that the bases stand for
 meant : (c : lts.After-bases (widened-reads.Asked, widened-reads.Learnt, bases-reads.Asked, bases-reads.Learnt, put-own-reads.Asked, put-own-reads.Learnt, block-of-reads.Asked, block-of-reads.Learnt) reads.Pre reads.Post)
     → let a = c.before.before.before.before.args in
-    c.bases.result ≡ basesOf a.at a.s a.k a.left a.right a.r.party a.r.action
+    c.bases.result ≡ bases_of a.at a.s a.k a.left a.right a.r.party a.r.action
 meant c = rw (c.bases.ensures, c.before.widened2.ensures.0, c.before.before.widened.ensures.0)
 
 put-own-requires : tie.Need-put-own-requires
@@ -33,7 +33,7 @@ block-of-requires : tie.Need-block-of-requires
 block-of-requires c κs =
     let t = c.before.before.before.before.before.before in
     let h = t.before.before.before.before.requires in
-    (rw (meant t) h.first.has_room.bases-small, h.second.has_room.few)
+    (rw (meant t) h.first.has_room.bases_small, h.second.has_room.few)
 
 same_length : tie.Need-same-length
 same_length c = search rules

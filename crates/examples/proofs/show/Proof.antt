@@ -3,7 +3,7 @@ use native.Mathlib.Omega.{arith}
 use mathlib.Core.Path.{sym}
 use lib.Seq.{length-take-le}
 use borrow.Author.Rules.{rules}
-use Rattle.report.proofs.Texts.{puts-length}
+use Rattle.report.proofs.Texts.{puts_length}
 use Rattle.examples.proofs.show.Statement.{statement}
 use Rattle.examples.proofs.show.Tie as tie
 
@@ -20,12 +20,12 @@ put-requires-2 : tie.Need-put-requires-2
 put-requires-2 c κs = search rules
 
 array-share-prefix-text : tie.Need-array-share-prefix-text
-array-share-prefix-text c = let e = c.before.before.before.put-report.ensures in omega (arith, e.fits, puts-length e)
+array-share-prefix-text c = let e = c.before.before.before.put-report.ensures in omega (arith, e.fits, puts_length e)
 
 slice-aggregate-put-2 : tie.Need-slice-aggregate-put-2
 slice-aggregate-put-2 c =
     let e = c.before.before.before.before.put-report.ensures in
-    sym (length-take-le _ _ (omega (arith, e.fits, puts-length e)))
+    sym (length-take-le _ _ (omega (arith, e.fits, puts_length e)))
 
 put-requires-3 : tie.Need-put-requires-3
 put-requires-3 c κs = search rules

@@ -1,6 +1,6 @@
 -- `joiner::attempts_at` meets its contract: the last four bytes.
 use borrow.Author.Rules.{rules}
-use Rattle.joiner.specs.Logs.{attemptsAt}
+use Rattle.joiner.specs.Logs.{attempts_at}
 use Rattle.joiner.proofs.attempts_at.Statement.{statement}
 use Rattle.joiner.proofs.attempts_at.Tie as tie
 
@@ -14,7 +14,7 @@ get4-requires : tie.Need-get4-requires
 get4-requires c κs = search rules
 
 returns : tie.Need-returns
-unfolding attemptsAt
+unfolding attempts_at
 returns c = rw (← c.before.record-start.ensures.0) c.get4.ensures.is
 
 pub attempts-at-spec : {M : Type 1} → statement M

@@ -3,14 +3,14 @@ use Prim.Native.Nat.{◌-◌, ◌≤◌}
 use native.Mathlib.Nat.{sub-zero}
 use native.Mathlib.Omega.{arith}
 use mathlib.Core.Path.{◌≡◌, sym, ◌∙◌}
-use Rattle.records.specs.Refusals.{firstFailing}
-use Rattle.records.proofs.Searches.{failing-next, failing-here, failing-end}
-use Rattle.joiner.specs.Logs.{logRecords, goodRecord}
+use Rattle.records.specs.Refusals.{first_failing}
+use Rattle.records.proofs.Searches.{failing_next, failing_here, failing_end}
+use Rattle.joiner.specs.Logs.{log_records, good_record}
 use Rattle.joiner.proofs.first_bad.Statement.{statement}
 use Rattle.joiner.proofs.first_bad.Tie as tie
 
 abbrev invariant-loop : tie.invariant-loop
-invariant-loop log n k₀ k = (n ≡ logRecords log) × (k ≤ n) × (firstFailing (goodRecord log) 0 n ≡ firstFailing (goodRecord log) k (n - k))
+invariant-loop log n k₀ k = (n ≡ log_records log) × (k ≤ n) × (first_failing (good_record log) 0 n ≡ first_failing (good_record log) k (n - k))
 
 abbrev decreases-loop : tie.decreases-loop
 decreases-loop log n k₀ k = n - k
@@ -34,20 +34,20 @@ loop-again : tie.Need-loop-preserved invariant-loop decreases-loop
 loop-again c =
     let p = c.before.before.before in
     let log = p.before.before.before.args.log.now in
-    (p.loop.invariant.0, omega arith, p.loop.invariant.2 ∙ failing-next (goodRecord log) p.loop.k p.before.log-records.result c.before.before.loop-test.true (sym c.before.good-record.ensures ∙ c.if1.true))
+    (p.loop.invariant.0, omega arith, p.loop.invariant.2 ∙ failing_next (good_record log) p.loop.k p.before.log-records.result c.before.before.loop-test.true (sym c.before.good-record.ensures ∙ c.if1.true))
 
 returns : tie.Need-returns invariant-loop decreases-loop
 returns c =
     let p = c.before.before.before in
     let log = p.before.before.before.args.log.now in
     rw (← p.loop.invariant.0)
-    (sym (p.loop.invariant.2 ∙ failing-here (goodRecord log) p.loop.k p.before.log-records.result c.before.before.loop-test.true (sym c.before.good-record.ensures ∙ c.if1.false)))
+    (sym (p.loop.invariant.2 ∙ failing_here (good_record log) p.loop.k p.before.log-records.result c.before.before.loop-test.true (sym c.before.good-record.ensures ∙ c.if1.false)))
 
 returns-2 : tie.Need-returns-2 invariant-loop decreases-loop
 returns-2 c =
     let p = c.before in
     let log = p.before.before.before.args.log.now in
-    rw (← p.loop.invariant.0) (sym (p.loop.invariant.2 ∙ failing-end (goodRecord log) p.loop.k p.before.log-records.result c.loop-test.false))
+    rw (← p.loop.invariant.0) (sym (p.loop.invariant.2 ∙ failing_end (good_record log) p.loop.k p.before.log-records.result c.loop-test.false))
 
 pub first-bad-spec : {M : Type 1} → statement M
 first-bad-spec =

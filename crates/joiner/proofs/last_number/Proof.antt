@@ -2,7 +2,7 @@
 use borrow.Author.Rules.{rules}
 use borrow.Author.Tests.{eq-eqb, ne_eqb}
 use lib.Dec.{lit<}
-use Rattle.joiner.specs.Logs.{lastNumber}
+use Rattle.joiner.specs.Logs.{last_number}
 use Rattle.joiner.proofs.last_number.Statement.{statement}
 use Rattle.joiner.proofs.last_number.Tie as tie
 
@@ -10,7 +10,7 @@ log-records-requires : tie.Need-log-records-requires
 log-records-requires c κs = search rules
 
 returns : tie.Need-returns
-unfolding lastNumber
+unfolding last_number
 returns c = (rw (← c.before.log-records.ensures, eq-eqb _ _ c.if1.true), lit< tt)
 
 sub-number-at : tie.Need-overflow-sub-number-at
@@ -20,7 +20,7 @@ number-at-requires : tie.Need-number-at-requires
 number-at-requires c κs = search rules
 
 returns-2 : tie.Need-returns-2
-unfolding lastNumber
+unfolding last_number
 returns-2 c = (rw (← c.before.before.log-records.ensures, ne_eqb _ _ c.before.if1.false) c.number_at.ensures.0, c.number_at.ensures.1)
 
 pub last-number-spec : {M : Type 1} → statement M

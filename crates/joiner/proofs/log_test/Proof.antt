@@ -2,11 +2,11 @@
 use borrow.Author.Rules.{rules}
 use native.Mathlib.Omega.{arith}
 use borrow.Author.Tests.{eq-eqb, ne_eqb}
-use Rattle.records.proofs.Searches.{failing-max}
-use Rattle.records.proofs.Refusals.{refused-first}
-use Rattle.joiner.specs.Logs.{logRecords, goodRecord}
-use Rattle.joiner.specs.Refusals.{recordsTest, logTest}
-use Rattle.joiner.proofs.Logs.{few-records}
+use Rattle.records.proofs.Searches.{failing_max}
+use Rattle.records.proofs.Refusals.{refused_first}
+use Rattle.joiner.specs.Logs.{log_records, good_record}
+use Rattle.joiner.specs.Refusals.{records_test, log_test}
+use Rattle.joiner.proofs.Logs.{few_records}
 use Rattle.joiner.proofs.log_test.Statement.{statement}
 use Rattle.joiner.proofs.log_test.Tie as tie
 
@@ -20,8 +20,8 @@ enum-told-2 : tie.Need-enum-told-2
 enum-told-2 c = search rules
 
 returns : tie.Need-returns
-unfolding logTest
-returns c = let t = c.before.before.length-test in refused-first t.result _ _ t.ensures c.enum-told2.given.1
+unfolding log_test
+returns c = let t = c.before.before.length-test in refused_first t.result _ _ t.ensures c.enum-told2.given.1
 
 first-bad-requires : tie.Need-first-bad-requires
 first-bad-requires c κs = search rules
@@ -33,18 +33,18 @@ add-t8 : tie.Need-overflow-add-t8
 add-t8 c =
     let log = c.before.before.before.before.before.before.before.args.log.now in
     let b = c.before.before.first-bad.ensures in
-    let m = failing-max (goodRecord log) 0 (logRecords log) in
-    let f = few-records log in
+    let m = failing_max (good_record log) 0 (log_records log) in
+    let f = few_records log in
     omega arith
 
 returns-2 : tie.Need-returns-2
-unfolding logTest recordsTest
+unfolding log_test records_test
 returns-2 c =
     let t = c.before.before.before in
     rw (← t.before.before.length-test.ensures, t.enum_told.given.1, ← c.before.before.first-bad.ensures, ← c.before.log-records.ensures, ne_eqb _ _ c.if1.true)
 
 returns-3 : tie.Need-returns-3
-unfolding logTest recordsTest
+unfolding log_test records_test
 returns-3 c =
     let t = c.before.before.before in
     rw (← t.before.before.length-test.ensures, t.enum_told.given.1, ← c.before.before.first-bad.ensures, ← c.before.log-records.ensures, eq-eqb _ _ c.if1.false)

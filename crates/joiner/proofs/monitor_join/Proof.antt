@@ -1,15 +1,15 @@
 -- `joiner::monitor_join` meets its contract: no room for the reply, refused, or joined.
 use borrow.Author.Rules.{rules}
 use mathlib.Core.Path.{sym, ◌∙◌}
-use Rattle.records.proofs.Replies.{gives-no-room, gives-refused, gives-passed}
-use Rattle.records.proofs.Refusals.{is-refused}
+use Rattle.records.proofs.Replies.{gives_no_room, gives_refused, gives_passed}
+use Rattle.records.proofs.Refusals.{is_refused}
 use Rattle.joiner.specs.Calls.{join}
 use Rattle.joiner.proofs.monitor_join.Statement.{statement}
 use Rattle.joiner.proofs.monitor_join.Tie as tie
 
 returns : tie.Need-returns
 unfolding join
-returns c = gives-no-room _ _ _ _ _ c.if1.true
+returns c = gives_no_room _ _ _ _ _ c.if1.true
 
 join-test-requires : tie.Need-join-test-requires
 join-test-requires c κs = search rules
@@ -35,7 +35,7 @@ returns-2 c =
     let p = c.before.before in
     let b = c.before.before.before.before.before.before in
     rw (← b.join-test.ensures)
-    (gives-refused b.join-test.result _ _ _ _ b.before.before.if1.false (is-refused c.before.before.before.before.enum-told2.given.1) _ p.put-head.ensures)
+    (gives_refused b.join-test.result _ _ _ _ b.before.before.if1.false (is_refused c.before.before.before.before.enum-told2.given.1) _ p.put-head.ensures)
 
 put-trace-requires : tie.Need-put-trace-requires
 put-trace-requires c κs = let t = c.before in sym t.before.before.join-test.ensures ∙ t.enum_told.given.1
@@ -58,7 +58,7 @@ returns-3 c =
     let b = t.before.before in
     let passed = t.enum_told.given.1 in
     rw (← b.join-test.ensures)
-    (gives-passed b.join-test.result _ _ _ _ b.before.before.if1.false passed _ _ w.put-trace.ensures.0 (rw (passed, w.put-trace.ensures.1) at p.put-head2.ensures))
+    (gives_passed b.join-test.result _ _ _ _ b.before.before.if1.false passed _ _ w.put-trace.ensures.0 (rw (passed, w.put-trace.ensures.1) at p.put-head2.ensures))
 
 pub monitor-join-spec : {M : Type 1} → statement M
 monitor-join-spec =

@@ -2,9 +2,9 @@
 use borrow.Author.Rules.{rules}
 use native.Mathlib.Omega.{arith}
 use mathlib.Core.Path.{sym, ◌∙◌}
-use Rattle.joiner.specs.Merging.{attemptsNext, recordNext}
-use Rattle.joiner.proofs.Logs.{few-records}
-use Rattle.joiner.proofs.Merging.{is-of-inside}
+use Rattle.joiner.specs.Merging.{attempts_next, record_next}
+use Rattle.joiner.proofs.Logs.{few_records}
+use Rattle.joiner.proofs.Merging.{is_of_inside}
 use Rattle.joiner.proofs.put_attempts.Statement.{statement}
 use Rattle.joiner.proofs.put_attempts.Tie as tie
 
@@ -12,7 +12,7 @@ is-of-requires : tie.Need-is-of-requires
 is-of-requires c κs = search rules
 
 attempts-at-requires : tie.Need-attempts-at-requires
-attempts-at-requires c κs = (is-of-inside _ _ _ (sym c.before.before.is-of.ensures ∙ c.before.if1.true)).0
+attempts-at-requires c κs = (is_of_inside _ _ _ (sym c.before.before.is-of.ensures ∙ c.before.if1.true)).0
 
 put4-requires : tie.Need-put4-requires
 put4-requires c κs = search rules
@@ -20,15 +20,15 @@ put4-requires c κs = search rules
 add-result : tie.Need-overflow-add-result
 add-result c =
     let p = c.before.before.before.before.before in
-    let i = (is-of-inside _ _ _ (sym p.before.is-of.ensures ∙ p.if1.true)).0 in
-    let f = few-records c.before.before.before.before.before.before.before.before.before.args.log.now in
+    let i = (is_of_inside _ _ _ (sym p.before.is-of.ensures ∙ p.if1.true)).0 in
+    let f = few_records c.before.before.before.before.before.before.before.before.before.args.log.now in
     omega arith
 
 same_length : tie.Need-same-length
 same_length c = search rules
 
 returns : tie.Need-returns
-unfolding attemptsNext recordNext
+unfolding attempts_next record_next
 returns c =
     let p = c.before.before.before.before.before in
     let e = sym p.before.is-of.ensures ∙ p.if1.true in
@@ -41,7 +41,7 @@ same-length-2 : tie.Need-same-length-2
 same-length-2 c = search rules
 
 returns-2 : tie.Need-returns-2
-unfolding attemptsNext recordNext
+unfolding attempts_next record_next
 returns-2 c =
     let p = c.before.before.before.before in
     let e = sym p.before.is-of.ensures ∙ p.if1.false in

@@ -1,12 +1,12 @@
 -- `joiner::rises` meets its contract: the two numbers, where there is a record before.
 use borrow.Author.Rules.{rules}
 use mathlib.Core.Path.{sym}
-use Rattle.joiner.proofs.Logs.{rises-first, rises-later}
+use Rattle.joiner.proofs.Logs.{rises_first, rises-later}
 use Rattle.joiner.proofs.rises.Statement.{statement}
 use Rattle.joiner.proofs.rises.Tie as tie
 
 returns : tie.Need-returns
-returns c = sym (rises-first _ _ c.if1.true)
+returns c = sym (rises_first _ _ c.if1.true)
 
 sub-number-at : tie.Need-overflow-sub-number-at
 sub-number-at c = search rules

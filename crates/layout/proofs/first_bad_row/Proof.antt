@@ -4,14 +4,14 @@ use Prim.Native.Nat.{◌≤◌, ◌-◌}
 use native.Mathlib.Nat.{sub-zero}
 use native.Mathlib.Omega.{arith}
 use mathlib.Core.Path.{◌≡◌, sym, ◌∙◌}
-use Rattle.records.specs.Refusals.{firstFailing}
-use Rattle.records.proofs.Searches.{failing-next, failing-here, failing-end}
-use Rattle.layout.specs.Images.{goodRowAt}
+use Rattle.records.specs.Refusals.{first_failing}
+use Rattle.records.proofs.Searches.{failing_next, failing_here, failing_end}
+use Rattle.layout.specs.Images.{good_row_at}
 use Rattle.layout.proofs.first_bad_row.Statement.{statement}
 use Rattle.layout.proofs.first_bad_row.Tie as tie
 
 abbrev invariant-loop : tie.invariant-loop
-invariant-loop image n k₀ k = (k ≤ n) × (firstFailing (goodRowAt image n) k (n - k) ≡ firstFailing (goodRowAt image n) 0 n)
+invariant-loop image n k₀ k = (k ≤ n) × (first_failing (good_row_at image n) k (n - k) ≡ first_failing (good_row_at image n) 0 n)
 
 abbrev decreases-loop : tie.decreases-loop
 decreases-loop image n k₀ k = n - k
@@ -26,7 +26,7 @@ returns : tie.Need-returns invariant-loop decreases-loop
 returns c =
     let d = c.before.before.before in
     let a = d.before.before.args in
-    sym (failing-here (goodRowAt a.image.now a.n) d.loop.k a.n c.before.before.loop-test.true (sym c.before.good-row-at.ensures ∙ not-true _ c.if1.true)) ∙ d.loop.invariant.1
+    sym (failing_here (good_row_at a.image.now a.n) d.loop.k a.n c.before.before.loop-test.true (sym c.before.good_row_at_lem.ensures ∙ not-true _ c.if1.true)) ∙ d.loop.invariant.1
 
 add-k : tie.Need-overflow-add-k invariant-loop decreases-loop
 add-k c = omega arith
@@ -39,14 +39,14 @@ loop-again c =
     let d = c.before.before.before in
     let a = d.before.before.args in (
       omega arith,
-      sym (failing-next (goodRowAt a.image.now a.n) d.loop.k a.n c.before.before.loop-test.true (sym c.before.good-row-at.ensures ∙ not-false _ c.if1.false)) ∙ d.loop.invariant.1,
+      sym (failing_next (good_row_at a.image.now a.n) d.loop.k a.n c.before.before.loop-test.true (sym c.before.good_row_at_lem.ensures ∙ not-false _ c.if1.false)) ∙ d.loop.invariant.1,
     )
 
 returns-2 : tie.Need-returns-2 invariant-loop decreases-loop
 returns-2 c =
     let d = c.before in
     let a = d.before.before.args in
-    sym (failing-end (goodRowAt a.image.now a.n) d.loop.k a.n c.loop-test.false) ∙ d.loop.invariant.1
+    sym (failing_end (good_row_at a.image.now a.n) d.loop.k a.n c.loop-test.false) ∙ d.loop.invariant.1
 
 pub first-bad-row-spec : {M : Type 1} → statement M
 first-bad-row-spec =

@@ -9,8 +9,8 @@ use lib.Dec.{ltb}
 use Rattle.records.specs.Fields.{field}
 use Rattle.records.proofs.marked.Reads as marked-reads
 use Rattle.records.proofs.get2.Reads as get2-reads
-use Rattle.layout.specs.Limits.{rowBytes}
-use Rattle.layout.specs.Images.{goodEnd}
+use Rattle.layout.specs.Limits.{row_bytes}
+use Rattle.layout.specs.Images.{good_end}
 use Rattle.layout.proofs.good_end.Statement.{statement}
 use Rattle.layout.proofs.good_end.Tie as tie
 use Rattle.layout.proofs.good_end.Reads as reads
@@ -23,7 +23,7 @@ marked-requires : tie.Need-marked-requires
 marked-requires c κs = search rules
 
 returns : tie.Need-returns
-unfolding goodEnd
+unfolding good_end
 returns c = rw (← c.before.marked.ensures, not-true c.before.marked.result c.if1.true)
 
 add-get2 : tie.Need-overflow-add-get2
@@ -56,7 +56,7 @@ cast-result c = search rules
 -- where the arms of the first two comparisons meet
 first_two : (c : lts.Joined2 (marked-reads.Asked, marked-reads.Learnt, get2-reads.Asked, get2-reads.Learnt) reads.Pre reads.Post)
     → let a = c.before.before.before.before.before.args in
-    c.if2.if3 ≡ (ltb c.before.get2.result a.n && ltb (field a.image.now (rowBytes * a.n + 4) 2) a.n)
+    c.if2.if3 ≡ (ltb c.before.get2.result a.n && ltb (field a.image.now (row_bytes * a.n + 4) 2) a.n)
 first_two c =
     ⊎_elim
     (λ w. rw (lt-ltb _ _ w.0.taken, ← w.1.ensures.is) w.2)
@@ -64,14 +64,14 @@ first_two c =
     c.if2.branch
 
 returns-2 : tie.Need-returns-2
-unfolding goodEnd
+unfolding good_end
 returns-2 c =
     let g = c.before.before.before in
     let m = g.before in
     rw (← m.before.marked.ensures, not-false m.before.marked.result m.if1.false, ← g.get2.ensures.is, ← first_two c.before.before, c.before.if3.true, ← c.get23.ensures.is)
 
 returns-3 : tie.Need-returns-3
-unfolding goodEnd
+unfolding good_end
 returns-3 c =
     let g = c.before.before in
     let m = g.before in

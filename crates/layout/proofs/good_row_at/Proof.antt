@@ -2,7 +2,7 @@
 use borrow.Author.Rules.{rules}
 use borrow.Author.Tests.{eq-eqb, ne_eqb, not-true, not-false}
 use Rattle.layout.specs.Rows.{decode}
-use Rattle.layout.specs.Images.{goodRowAt}
+use Rattle.layout.specs.Images.{good_row_at}
 use Rattle.layout.proofs.good_row_at.Statement.{statement}
 use Rattle.layout.proofs.good_row_at.Tie as tie
 
@@ -13,7 +13,7 @@ marked-requires : tie.Need-marked-requires
 marked-requires c κs = search rules
 
 returns : tie.Need-returns
-unfolding goodRowAt decode
+unfolding good_row_at decode
 returns c = rw (← c.before.marked.ensures, not-true c.before.marked.result c.if1.true)
 
 add-if2 : tie.Need-overflow-add-if2
@@ -23,7 +23,7 @@ shared-slice-read-if2 : tie.Need-shared-slice-read-if2
 shared-slice-read-if2 c = search rules
 
 returns-2 : tie.Need-returns-2
-unfolding goodRowAt decode
+unfolding good_row_at decode
 returns-2 c =
     rw (← c.before.before.before.marked.ensures, not-false c.before.before.before.marked.result c.before.before.if1.false, ne_eqb _ _ c.if2.true)
 
@@ -49,13 +49,13 @@ good-row-requires : tie.Need-good-row-requires
 good-row-requires c κs = search rules
 
 returns-3 : tie.Need-returns-3
-unfolding goodRowAt decode
+unfolding good_row_at decode
 returns-3 c =
     let g = c.before.before in
     let e = g.before.before in
     let m = e.before.before in
     rw (← m.before.marked.ensures, not-false m.before.marked.result m.if1.false, eq-eqb _ _ e.if2.false, ← g.get2.ensures.is, ← c.before.get22.ensures.is)
-    c.good-row.ensures
+    c.good_row_lem.ensures
 
 pub good-row-at-spec : {M : Type 1} → statement M
 good-row-at-spec =

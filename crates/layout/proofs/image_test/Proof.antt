@@ -5,9 +5,9 @@ use native.Mathlib.Omega.{arith}
 use mathlib.Core.Path.{◌≡◌}
 use mathlib.Core.Bool.{true, false}
 use mathlib.Core.Logic.{⊎_elim}
-use Rattle.layout.specs.Images.{rowCount, goodImageLength}
-use Rattle.layout.specs.Refusals.{imageTest}
-use Rattle.layout.proofs.Images.{uneven, too_short, too_long, right-length}
+use Rattle.layout.specs.Images.{row_count, good_image_length}
+use Rattle.layout.specs.Refusals.{image_test}
+use Rattle.layout.proofs.Images.{uneven, too_short, too_long, right_length}
 use Rattle.layout.proofs.image_test.Statement.{statement}
 use Rattle.layout.proofs.image_test.Tie as tie
 use Rattle.layout.proofs.image_test.Reads as reads
@@ -26,10 +26,10 @@ mul-if3 : tie.Need-overflow-mul-if3
 mul-if3 c = search rules
 
 returns : tie.Need-returns
-unfolding imageTest
+unfolding image_test
 returns c =
     let l = c.before.before.args.image.now in
-    let e : goodImageLength l ≡ false =
+    let e : good_image_length l ≡ false =
     ⊎_elim
     (λ w. uneven l w.taken)
     (⊎_elim (λ w. too_short l (ltb-true _ _ w.1.taken)) (λ w. too_long l (ltb-true _ _ w.2.taken)))
@@ -40,31 +40,31 @@ row-count-requires : tie.Need-row-count-requires
 row-count-requires c κs = omega (arith, ltb-false)
 
 first-bad-row-requires : tie.Need-first-bad-row-requires
-unfolding rowCount
+unfolding row_count
 first-bad-row-requires c κs = omega (arith, c.row_count.ensures)
 
 -- past the tests of the length
 right : (c : lts.Else3 (row-count-reads.Asked, row-count-reads.Learnt, first-bad-row-reads.Asked, first-bad-row-reads.Learnt, good-end-reads.Asked, good-end-reads.Learnt) reads.Pre reads.Post)
-    → goodImageLength c.before.before.before.before.args.image.now ≡ true
+    → good_image_length c.before.before.before.before.args.image.now ≡ true
 right c =
-    right-length c.before.before.before.before.args.image.now c.before.before.if1.false (ltb-false _ _ c.before.if2.false) (ltb-false _ _ c.if3.false)
+    right_length c.before.before.before.before.args.image.now c.before.before.if1.false (ltb-false _ _ c.before.if2.false) (ltb-false _ _ c.if3.false)
 
 returns-2 : tie.Need-returns-2
-unfolding imageTest
+unfolding image_test
 returns-2 c = rw (right c.before.before.before, ← c.before.before.row_count.ensures, ← c.before.first-bad-row.ensures, ne_eqb _ _ c.if4.true)
 
 good-end-requires : tie.Need-good-end-requires
-unfolding rowCount
+unfolding row_count
 good-end-requires c κs = omega (arith, ltb-false)
 
 returns-3 : tie.Need-returns-3
-unfolding imageTest
+unfolding image_test
 returns-3 c =
     let f = c.before.before.before in
     rw (right f.before.before, ← f.before.row_count.ensures, ← f.first-bad-row.ensures, eq-eqb _ _ c.before.before.if4.false, ← c.before.good-end.ensures, not-true c.before.good-end.result c.if5.true)
 
 returns-4 : tie.Need-returns-4
-unfolding imageTest
+unfolding image_test
 returns-4 c =
     let f = c.before.before.before in
     rw (right f.before.before, ← f.before.row_count.ensures, ← f.first-bad-row.ensures, eq-eqb _ _ c.before.before.if4.false, ← c.before.good-end.ensures, not-false c.before.good-end.result c.if5.false)

@@ -6,16 +6,16 @@ use mathlib.Core.Path.{◌≡◌, sym}
 use mathlib.Core.List.{List}
 use lib.Seq.{sets}
 use Rattle.records.specs.Fields.{bytes}
-use Rattle.records.specs.Marks.{endMark}
+use Rattle.records.specs.Marks.{end_mark}
 use Rattle.records.proofs.Fields.{length-bytes}
 use Rattle.records.proofs.Written.{sets-append}
-use Rattle.layout.specs.Limits.{rowBytes}
-use Rattle.layout.specs.Images.{endRecord}
+use Rattle.layout.specs.Limits.{row_bytes}
+use Rattle.layout.specs.Images.{end_record}
 use Rattle.layout.proofs.put_end.Statement.{statement}
 use Rattle.layout.proofs.put_end.Tie as tie
 
 end-written : (l : List ℕ) (i sat one two : ℕ)
-    → sets l i (endRecord sat one two) ≡ sets (sets (sets (sets l i endMark) (i + 2) (bytes 2 sat)) (i + 4) (bytes 2 one)) (i + 6) (bytes 2 two)
+    → sets l i (end_record sat one two) ≡ sets (sets (sets (sets l i end_mark) (i + 2) (bytes 2 sat)) (i + 4) (bytes 2 one)) (i + 6) (bytes 2 two)
 end-written l i sat one two = simp (sets-append, length-bytes, add_assoc)
 
 mul-i : tie.Need-overflow-mul-i
@@ -52,7 +52,7 @@ returns c =
     let r = q.before.before.before.before in
     let m = r.before.before.before.before in
     let a = m.before.before.before.args in
-    rw (p.put23.ensures, q.put22.ensures, r.put2.ensures, m.put-mark.ensures) (sym (end-written a.image.now (rowBytes * a.rows) a.sat a.one a.two))
+    rw (p.put23.ensures, q.put22.ensures, r.put2.ensures, m.put-mark.ensures) (sym (end-written a.image.now (row_bytes * a.rows) a.sat a.one a.two))
 
 pub put-end-spec : {M : Type 1} → statement M
 put-end-spec =

@@ -7,16 +7,16 @@ use mathlib.Core.List.{List}
 use lib.ListN.{set, length-set}
 use lib.Seq.{sets, length-sets}
 use Rattle.records.specs.Fields.{bytes}
-use Rattle.records.specs.Marks.{rowMark}
+use Rattle.records.specs.Marks.{row_mark}
 use Rattle.records.proofs.Fields.{length-bytes}
 use Rattle.records.proofs.Written.{sets-append}
-use Rattle.layout.specs.Limits.{rowBytes}
-use Rattle.layout.specs.Rows.{rowRecord}
+use Rattle.layout.specs.Limits.{row_bytes}
+use Rattle.layout.specs.Rows.{row_record}
 use Rattle.layout.proofs.put_row.Statement.{statement}
 use Rattle.layout.proofs.put_row.Tie as tie
 
 row_written : (l : List ℕ) (i kind x y : ℕ)
-    → sets l i (rowRecord kind x y) ≡ sets (sets (set (set (sets l i rowMark) (i + 2) kind) (i + 3) 0) (i + 4) (bytes 2 x)) (i + 6) (bytes 2 y)
+    → sets l i (row_record kind x y) ≡ sets (sets (set (set (sets l i row_mark) (i + 2) kind) (i + 3) 0) (i + 4) (bytes 2 x)) (i + 6) (bytes 2 y)
 row_written l i kind x y =
     let three : i + 3 ≡ suc (i + 2) = omega arith in
     let four : i + 4 ≡ suc (suc (i + 2)) = omega arith in
@@ -60,7 +60,7 @@ same_length c =
     let m = q.before.before.before.before in
     let a = m.before.before.before.args in
     rw (p.put22.ensures, length-sets, q.put2.ensures, length-sets)
-    (simp length-set (rw m.put-mark.ensures (length-sets a.image.now (rowBytes * a.at) rowMark)))
+    (simp length-set (rw m.put-mark.ensures (length-sets a.image.now (row_bytes * a.at) row_mark)))
 
 returns : tie.Need-returns
 returns c =
@@ -68,7 +68,7 @@ returns c =
     let q = p.before.before.before.before in
     let m = q.before.before.before.before in
     let a = m.before.before.before.args in
-    rw (p.put22.ensures, q.put2.ensures, m.put-mark.ensures) (sym (row_written a.image.now (rowBytes * a.at) a.kind a.x a.y))
+    rw (p.put22.ensures, q.put2.ensures, m.put-mark.ensures) (sym (row_written a.image.now (row_bytes * a.at) a.kind a.x a.y))
 
 pub put-row-spec : {M : Type 1} → statement M
 put-row-spec =

@@ -1,8 +1,8 @@
 -- `machine::decide` meets its contract: the end record's fields name the rows that decide.
 use native.Mathlib.Omega.{arith}
 use mathlib.Core.Path.{◌∙◌}
-use Rattle.layout.proofs.Images.{passed-good, good-S, good-V1, good-V2, end_fits, end-S, end-V1, end-V2}
-use Rattle.machine.specs.Computing.{decidedBytes}
+use Rattle.layout.proofs.Images.{passed_good, good_S, good_V1, good_V2, end_fits, end-S, end-V1, end-V2}
+use Rattle.machine.specs.Computing.{decided_bytes}
 use Rattle.machine.proofs.decide.Statement.{statement}
 use Rattle.machine.proofs.decide.Tie as tie
 use borrow.Author.Rules.{rules}
@@ -26,7 +26,7 @@ slice-read-sat : tie.Need-slice-read-sat
 slice-read-sat c =
     let l = c.before.before.before.before.args.image.now in
     let h = c.before.before.before.before.requires in
-    omega (arith, c.before.get2.ensures.is ∙ end-S l h.good, good-S l (passed-good l h.good), h.long)
+    omega (arith, c.before.get2.ensures.is ∙ end-S l h.good, good_S l (passed_good l h.good), h.long)
 
 add-get2-2 : tie.Need-overflow-add-get2-2
 add-get2-2 c = search rules
@@ -44,7 +44,7 @@ slice-read-v1 : tie.Need-slice-read-v1
 slice-read-v1 c =
     let l = c.before.before.before.before.before.before.args.image.now in
     let h = c.before.before.before.before.before.before.requires in
-    omega (arith, c.before.get22.ensures.is ∙ end-V1 l h.good, good-V1 l (passed-good l h.good), h.long)
+    omega (arith, c.before.get22.ensures.is ∙ end-V1 l h.good, good_V1 l (passed_good l h.good), h.long)
 
 add-get2-3 : tie.Need-overflow-add-get2-3
 add-get2-3 c = search rules
@@ -62,7 +62,7 @@ slice-read-v2 : tie.Need-slice-read-v2
 slice-read-v2 c =
     let l = c.before.before.before.before.before.before.before.before.args.image.now in
     let h = c.before.before.before.before.before.before.before.before.requires in
-    omega (arith, c.before.get23.ensures.is ∙ end-V2 l h.good, good-V2 l (passed-good l h.good), h.long)
+    omega (arith, c.before.get23.ensures.is ∙ end-V2 l h.good, good_V2 l (passed_good l h.good), h.long)
 
 put-decision-requires : tie.Need-put-decision-requires
 put-decision-requires c κs = search rules
@@ -71,12 +71,12 @@ same_length : tie.Need-same-length
 same_length c = search rules
 
 returns : tie.Need-returns
-unfolding decidedBytes
+unfolding decided_bytes
 returns c =
     let l = c.before.before.before.before.before.before.before.before.before.before.before.before.args.image.now in
     let h = c.before.before.before.before.before.before.before.before.before.before.before.before.requires.good in
     rw (← end-S l h, ← end-V1 l h, ← end-V2 l h, ← c.before.before.before.before.before.before.before.before.before.get2.ensures.is, ← c.before.before.before.before.before.before.before.get22.ensures.is, ← c.before.before.before.before.before.get23.ensures.is)
-    c.before.before.put-decision.ensures
+    c.before.before.put_decision.ensures
 
 pub decide-spec : {M : Type 1} → statement M
 decide-spec =

@@ -1,7 +1,7 @@
 -- `machine::old_value` meets its contract: a row below k has its old value in the second bit, another in the first.
 use native.Mathlib.Omega.{arith}
 use borrow.Author.Rules.{rules}
-use Rattle.machine.proofs.RowKinds.{old_below, old-above}
+use Rattle.machine.proofs.RowKinds.{old_below, old_above}
 use Rattle.machine.proofs.old_value.Statement.{statement}
 use Rattle.machine.proofs.old_value.Tie as tie
 
@@ -19,7 +19,7 @@ returns c =
 returns-2 : tie.Need-returns-2
 returns-2 c =
     let a = c.before.before.args in
-    old-above a.k a.values.now a.x (omega arith)
+    old_above a.k a.values.now a.x (omega arith)
 
 pub old-value-spec : {M : Type 1} → statement M
 old-value-spec =

@@ -4,8 +4,8 @@ use native.Mathlib.Omega.{arith}
 use borrow.Author.Rules.{rules}
 use lib.ListN.{length, length-set}
 use lib.Seq.{length-sets}
-use Rattle.machine.specs.Computing.{withDecision}
-use Rattle.machine.proofs.Deciding.{decision-none, decision-some}
+use Rattle.machine.specs.Computing.{with_decision}
+use Rattle.machine.proofs.Deciding.{decision_none, decision_some}
 use Rattle.machine.proofs.put_decision.Statement.{statement}
 use Rattle.machine.proofs.put_decision.Tie as tie
 
@@ -31,19 +31,19 @@ same_length : tie.Need-same-length
 same_length c = ap length c.before.before.put4.ensures ∙ simp (length-sets, length-set)
 
 returns : tie.Need-returns
-unfolding withDecision
+unfolding with_decision
 returns c =
     let a = c.before.before.before.before.before.before.before.before.args in
-    cc (decision-none a.sat a.v1 a.v2 a.period (cc))
+    cc (decision_none a.sat a.v1 a.v2 a.period (cc))
 
 same-length-2 : tie.Need-same-length-2
 same-length-2 c = ap length c.before.before.put42.ensures ∙ simp (length-sets, length-set)
 
 returns-2 : tie.Need-returns-2
-unfolding withDecision
+unfolding with_decision
 returns-2 c =
     let a = c.before.before.before.before.before.before.before.before.args in
-    cc (decision-some a.sat a.v1 a.v2 a.period (λ e. c.before.before.before.before.if1.false (cc)))
+    cc (decision_some a.sat a.v1 a.v2 a.period (λ e. c.before.before.before.before.if1.false (cc)))
 
 pub put-decision-spec : {M : Type 1} → statement M
 put-decision-spec =

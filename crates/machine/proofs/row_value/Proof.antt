@@ -1,6 +1,6 @@
 -- `machine::row_value` meets its contract: the fields of a good image's row are a row's.
 use native.Mathlib.Omega.{arith}
-use Rattle.layout.proofs.Images.{row_fits, row-held, row-good}
+use Rattle.layout.proofs.Images.{row_fits, row_held, row_good}
 use Rattle.machine.proofs.row_value.Statement.{statement}
 use Rattle.machine.proofs.row_value.Tie as tie
 
@@ -30,15 +30,15 @@ kind-value-requires c κs =
     let a = c.before.before.before.before.before.args in
     let p = c.before.before.before.before.before.requires in
     record {
-      good = rw (p.long, c.before.get2.ensures.is, c.get22.ensures.is) (row-good a.image.now p.good a.k p.row);
-      bytes-of-two = p.bytes-of-two;
+      good = rw (p.long, c.before.get2.ensures.is, c.get22.ensures.is) (row_good a.image.now p.good a.k p.row);
+      bytes_of_two = p.bytes_of_two;
     }
 
 returns : tie.Need-returns
 returns c =
     let a = c.before.before.before.before.before.before.args in
     let p = c.before.before.before.before.before.before.requires in
-    rw (c.before.before.get2.ensures.is, c.before.get22.ensures.is, row-held a.image.now p.good a.k p.row) at c.kind-value.ensures
+    rw (c.before.before.get2.ensures.is, c.before.get22.ensures.is, row_held a.image.now p.good a.k p.row) at c.kind-value.ensures
 
 pub row-value-spec : {M : Type 1} → statement M
 row-value-spec =

@@ -6,17 +6,17 @@ use native.Mathlib.Nat.{sub-zero}
 use mathlib.Core.Logic.{⊎_elim}
 use mathlib.Core.Path.{◌≡◌, sym, ◌∙◌}
 use Rattle.records.specs.Holding.{AllBytes}
-use Rattle.records.specs.Refusals.{firstFailing}
-use Rattle.records.proofs.Searches.{failing-next, failing-here, failing-end}
-use Rattle.machine.specs.Premises.{goesOn}
-use Rattle.machine.proofs.Taking.{Took, took-none, took-head, took-working, took-next, takes-next}
+use Rattle.records.specs.Refusals.{first_failing}
+use Rattle.records.proofs.Searches.{failing_next, failing_here, failing_end}
+use Rattle.machine.specs.Premises.{goes_on}
+use Rattle.machine.proofs.Taking.{Took, took_none, took_head, took_working, took_next, takes_next_lem}
 use Rattle.machine.proofs.take_records.Statement.{statement}
 use Rattle.machine.proofs.take_records.Tie as tie
 
 abbrev invariant-loop : tie.invariant-loop
 invariant-loop image state₀ form trace n stops k₀ state k =
     (k ≤ n) × Took image state₀ form trace k state
-    × (firstFailing (goesOn stops image state₀ form trace) 0 n ≡ firstFailing (goesOn stops image state₀ form trace) k (n - k))
+    × (first_failing (goes_on stops image state₀ form trace) 0 n ≡ first_failing (goes_on stops image state₀ form trace) k (n - k))
 
 abbrev decreases-loop : tie.decreases-loop
 decreases-loop image state₀ form trace n stops k₀ state k = n - k
@@ -25,14 +25,14 @@ loop-holds : tie.Need-loop-init invariant-loop decreases-loop
 loop-holds c =
     let a = c.before.before.before.args in
     let bytes : AllBytes a.state.now = record { below = λ i. (c.before.slice-known.given i).fits } in
-    (omega arith, took-none a.image.now a.state.now a.form a.trace.now a.n c.before.before.before.requires.0 bytes, rw sub-zero)
+    (omega arith, took_none a.image.now a.state.now a.form a.trace.now a.n c.before.before.before.requires.0 bytes, rw sub-zero)
 
 takes-next-requires : tie.Need-takes-next-requires invariant-loop decreases-loop
 takes-next-requires c κs =
     let l = c.before.before.loop in
     let s = c.before.before.before.before.before.before in
     let a = s.args in
-    (took-head a.image.now a.state.now a.form a.trace.now a.n s.requires.0 l.k _ l.invariant.1, omega (arith, s.requires.1))
+    (took_head a.image.now a.state.now a.form a.trace.now a.n s.requires.0 l.k _ l.invariant.1, omega (arith, s.requires.1))
 
 read-period-requires : tie.Need-read-period-requires invariant-loop decreases-loop
 read-period-requires c κs = omega (arith, c.before.before.before.before.before.before.before.before.before.requires.1)
@@ -43,7 +43,7 @@ advance-requires c κs =
     let s = p.before.before.before.before in
     let a = s.args in
     let l = p.loop in
-    took-working a.image.now a.state.now a.form a.trace.now a.n s.requires.0 l.k _ l.invariant.1 (omega arith)
+    took_working a.image.now a.state.now a.form a.trace.now a.n s.requires.0 l.k _ l.invariant.1 (omega arith)
 
 add-k : tie.Need-overflow-add-k invariant-loop decreases-loop
 add-k c = omega arith
@@ -59,10 +59,10 @@ loop-again c =
     let a = s.args in
     let l = p.loop in
     let t = c.before.before.advance in
-    let g = sym (takes-next a.image.now a.state.now a.form a.trace.now a.n s.requires.0 l.k _ l.invariant.1 a.stops) ∙ sym m.before.takes-next.ensures ∙ m.if1.true in (
+    let g = sym (takes_next_lem a.image.now a.state.now a.form a.trace.now a.n s.requires.0 l.k _ l.invariant.1 a.stops) ∙ sym m.before.takes_next_lem.ensures ∙ m.if1.true in (
       omega arith,
-      took-next a.image.now a.state.now a.form a.trace.now a.n s.requires.0 l.k _ l.invariant.1 (omega arith) _ t.auto.1.0 (rw (← c.before.before.before.read-period.ensures.is) t.ensures),
-      l.invariant.2 ∙ failing-next (goesOn a.stops a.image.now a.state.now a.form a.trace.now) l.k a.n (omega arith) g,
+      took_next a.image.now a.state.now a.form a.trace.now a.n s.requires.0 l.k _ l.invariant.1 (omega arith) _ t.auto.1.0 (rw (← c.before.before.before.read-period.ensures.is) t.ensures),
+      l.invariant.2 ∙ failing_next (goes_on a.stops a.image.now a.state.now a.form a.trace.now) l.k a.n (omega arith) g,
     )
 
 trim-requires : tie.Need-trim-requires invariant-loop decreases-loop
@@ -71,7 +71,7 @@ trim-requires c κs =
     let s = p.before.before.before.before in
     let a = s.args in
     let l = p.loop in
-    took-head a.image.now a.state.now a.form a.trace.now a.n s.requires.0 l.k _ l.invariant.1
+    took_head a.image.now a.state.now a.form a.trace.now a.n s.requires.0 l.k _ l.invariant.1
 
 same_length : tie.Need-same-length invariant-loop decreases-loop
 same_length c = c.before.before.trim.auto.0 ∙ c.before.before.before.before.before.loop.invariant.1.same_length
@@ -82,13 +82,13 @@ returns c =
     let s = p.before.before.before.before in
     let a = s.args in
     let l = p.loop in
-    let g = goesOn a.stops a.image.now a.state.now a.form a.trace.now in
+    let g = goes_on a.stops a.image.now a.state.now a.form a.trace.now in
     record {
       count = sym (l.invariant.2
           ∙ ⊎_elim
-          (λ w. failing-here g l.k a.n w.0.taken
-          (sym (takes-next a.image.now a.state.now a.form a.trace.now a.n s.requires.0 l.k _ l.invariant.1 a.stops) ∙ sym w.2.ensures ∙ w.3.left))
-          (λ w. failing-end g l.k a.n w.left)
+          (λ w. failing_here g l.k a.n w.0.taken
+          (sym (takes_next_lem a.image.now a.state.now a.form a.trace.now a.n s.requires.0 l.k _ l.invariant.1 a.stops) ∙ sym w.2.ensures ∙ w.3.left))
+          (λ w. failing_end g l.k a.n w.left)
           c.before.before.before.before.loop-test.branch);
       leaves = c.before.before.trim.ensures ∙ l.invariant.1.stands;
     }

@@ -1,6 +1,6 @@
 -- `machine::trim` meets its contract: the first bits of the rows' part stand in its place.
 use borrow.Author.Rules.{rules}
-use Rattle.machine.proofs.Trimming.{trimmed-put}
+use Rattle.machine.proofs.Trimming.{trimmed_put}
 use Rattle.machine.proofs.trim.Statement.{statement}
 use Rattle.machine.proofs.trim.Tie as tie
 
@@ -20,7 +20,7 @@ same_length : tie.Need-same-length
 same_length c = search rules
 
 returns : tie.Need-returns
-returns c = trimmed-put c.before.before.before.before.before.args.state.now c.before.before.keep-first.new.0 c.before.before.keep-first.ensures
+returns c = trimmed_put c.before.before.before.before.before.args.state.now c.before.before.keep-first.new.0 c.before.before.keep-first.ensures
 
 pub trim-spec : {M : Type 1} → statement M
 trim-spec =

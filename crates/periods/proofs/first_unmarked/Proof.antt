@@ -3,14 +3,14 @@ use Prim.Native.Nat.{◌-◌, ◌≤◌}
 use native.Mathlib.Nat.{sub-zero}
 use native.Mathlib.Omega.{arith}
 use mathlib.Core.Path.{◌≡◌, sym, ◌∙◌}
-use Rattle.records.specs.Refusals.{firstFailing}
-use Rattle.records.proofs.Searches.{failing-next, failing-here, failing-end}
-use Rattle.periods.specs.Traces.{markedAt}
+use Rattle.records.specs.Refusals.{first_failing}
+use Rattle.records.proofs.Searches.{failing_next, failing_here, failing_end}
+use Rattle.periods.specs.Traces.{marked_at}
 use Rattle.periods.proofs.first_unmarked.Statement.{statement}
 use Rattle.periods.proofs.first_unmarked.Tie as tie
 
 abbrev invariant-loop : tie.invariant-loop
-invariant-loop form s n k₀ k = (k ≤ n) × (firstFailing (markedAt form s) 0 n ≡ firstFailing (markedAt form s) k (n - k))
+invariant-loop form s n k₀ k = (k ≤ n) × (first_failing (marked_at form s) 0 n ≡ first_failing (marked_at form s) k (n - k))
 
 abbrev decreases-loop : tie.decreases-loop
 decreases-loop form s n k₀ k = n - k
@@ -31,19 +31,19 @@ loop-again : tie.Need-loop-preserved invariant-loop decreases-loop
 loop-again c =
     let p = c.before.before.before in
     let a = p.before.before.args in
-    (omega arith, p.loop.invariant.1 ∙ failing-next (markedAt a.form a.s.now) p.loop.k a.n c.before.before.loop-test.true (sym c.before.is-marked.ensures ∙ c.if1.true))
+    (omega arith, p.loop.invariant.1 ∙ failing_next (marked_at a.form a.s.now) p.loop.k a.n c.before.before.loop-test.true (sym c.before.is-marked.ensures ∙ c.if1.true))
 
 returns : tie.Need-returns invariant-loop decreases-loop
 returns c =
     let p = c.before.before.before in
     let a = p.before.before.args in
-    sym (p.loop.invariant.1 ∙ failing-here (markedAt a.form a.s.now) p.loop.k a.n c.before.before.loop-test.true (sym c.before.is-marked.ensures ∙ c.if1.false))
+    sym (p.loop.invariant.1 ∙ failing_here (marked_at a.form a.s.now) p.loop.k a.n c.before.before.loop-test.true (sym c.before.is-marked.ensures ∙ c.if1.false))
 
 returns-2 : tie.Need-returns-2 invariant-loop decreases-loop
 returns-2 c =
     let p = c.before in
     let a = p.before.before.args in
-    sym (p.loop.invariant.1 ∙ failing-end (markedAt a.form a.s.now) p.loop.k a.n c.loop-test.false)
+    sym (p.loop.invariant.1 ∙ failing_end (marked_at a.form a.s.now) p.loop.k a.n c.loop-test.false)
 
 pub first-unmarked-spec : {M : Type 1} → statement M
 first-unmarked-spec =

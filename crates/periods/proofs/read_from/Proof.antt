@@ -1,7 +1,7 @@
 -- `periods::read_from` meets its contract: the two masks after the mark.
 use borrow.Author.Rules.{rules}
-use Rattle.periods.specs.Periods.{periodFrom}
-use Rattle.periods.proofs.Forms.{mask-small}
+use Rattle.periods.specs.Periods.{period_from}
+use Rattle.periods.proofs.Forms.{mask_small}
 use Rattle.periods.proofs.read_from.Statement.{statement}
 use Rattle.periods.proofs.read_from.Tie as tie
 
@@ -24,15 +24,15 @@ read-mask-requires-2 : tie.Need-read-mask-requires-2
 read-mask-requires-2 c κs = search rules
 
 returns : tie.Need-returns
-unfolding periodFrom
+unfolding period_from
 returns c =
     let one = c.before.before.read-mask.ensures in
     let two = c.read-mask2.ensures in
     let f = c.before.before.before.before.args.form in
     record {
-      is = rw (one.is, two.is, c.before.mask-bytes.ensures);
-      small1 = mask-small f one.small;
-      small2 = mask-small f two.small;
+      is = rw (one.is, two.is, c.before.mask_bytes_lem.ensures);
+      small1 = mask_small f one.small;
+      small2 = mask_small f two.small;
     }
 
 pub read-from-spec : {M : Type 1} → statement M

@@ -1,8 +1,8 @@
 -- `periods::start_test` meets its contract: the first tests, then the remainder by a record's length.
 use borrow.Author.Rules.{rules}
 use borrow.Author.Tests.{eq-eqb, ne_eqb}
-use Rattle.records.proofs.Refusals.{refused-first}
-use Rattle.periods.specs.Traces.{startTest}
+use Rattle.records.proofs.Refusals.{refused_first}
+use Rattle.periods.specs.Traces.{start_test}
 use Rattle.periods.proofs.start_test.Statement.{statement}
 use Rattle.periods.proofs.start_test.Tie as tie
 
@@ -16,10 +16,10 @@ enum-told-2 : tie.Need-enum-told-2
 enum-told-2 c = search rules
 
 returns : tie.Need-returns
-unfolding startTest
+unfolding start_test
 returns c =
     let t = c.before.before.form-test in
-    refused-first t.result _ _ t.ensures c.enum-told2.given.1
+    refused_first t.result _ _ t.ensures c.enum-told2.given.1
 
 form-of-requires : tie.Need-form-of-requires
 form-of-requires c κs = search rules
@@ -31,16 +31,16 @@ rem-if1 : tie.Need-nonzero-rem-if1
 rem-if1 c = search rules
 
 returns-2 : tie.Need-returns-2
-unfolding startTest
+unfolding start_test
 returns-2 c =
     let e = c.before.before.before in
-    rw (← e.before.before.form-test.ensures, e.enum_told.given.1, ← c.before.before.form_of.ensures, ← c.before.period-bytes.ensures, ne_eqb _ _ c.if1.true)
+    rw (← e.before.before.form-test.ensures, e.enum_told.given.1, ← c.before.before.form_of.ensures, ← c.before.period_bytes_lem.ensures, ne_eqb _ _ c.if1.true)
 
 returns-3 : tie.Need-returns-3
-unfolding startTest
+unfolding start_test
 returns-3 c =
     let e = c.before.before.before in
-    rw (← e.before.before.form-test.ensures, e.enum_told.given.1, ← c.before.before.form_of.ensures, ← c.before.period-bytes.ensures, eq-eqb _ _ c.if1.false)
+    rw (← e.before.before.form-test.ensures, e.enum_told.given.1, ← c.before.before.form_of.ensures, ← c.before.period_bytes_lem.ensures, eq-eqb _ _ c.if1.false)
 
 pub start-test-spec : {M : Type 1} → statement M
 start-test-spec =

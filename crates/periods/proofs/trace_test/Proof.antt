@@ -1,7 +1,7 @@
 -- `periods::trace_test` meets its contract: the tests before the later marks, then these.
 use borrow.Author.Rules.{rules}
-use Rattle.records.proofs.Refusals.{refused-first}
-use Rattle.periods.specs.Traces.{traceTest}
+use Rattle.records.proofs.Refusals.{refused_first}
+use Rattle.periods.specs.Traces.{trace_test}
 use Rattle.periods.proofs.trace_test.Statement.{statement}
 use Rattle.periods.proofs.trace_test.Tie as tie
 
@@ -15,10 +15,10 @@ enum-told-2 : tie.Need-enum-told-2
 enum-told-2 c = search rules
 
 returns : tie.Need-returns
-unfolding traceTest
+unfolding trace_test
 returns c =
     let t = c.before.before.start_test in
-    refused-first t.result _ _ t.ensures c.enum-told2.given.1
+    refused_first t.result _ _ t.ensures c.enum-told2.given.1
 
 form-of-requires : tie.Need-form-of-requires
 form-of-requires c κs = search rules
@@ -27,7 +27,7 @@ marks-test-requires : tie.Need-marks-test-requires
 marks-test-requires c κs = search rules
 
 returns-2 : tie.Need-returns-2
-unfolding traceTest
+unfolding trace_test
 returns-2 c =
     let e = c.before.before in
     rw (← e.before.before.start_test.ensures, e.enum_told.given.1, ← c.before.form_of.ensures) c.marks-test.ensures

@@ -7,7 +7,7 @@ use mathlib.Core.Logic.{⊎_elim}
 use mathlib.Core.Bool.{◌&&◌, ◌||◌, and-false}
 use lib.Dec.{eqb}
 use Rattle.grammar.specs.Table.{deadline, line}
-use Rattle.reader.specs.Codes.{emptyCode, completed}
+use Rattle.reader.specs.Codes.{empty_code, completed}
 use Rattle.reader.proofs.completed.Statement.{statement}
 use Rattle.reader.proofs.completed.Tie as tie
 use Rattle.reader.proofs.completed.Reads as reads
@@ -22,7 +22,7 @@ expression-requires-2 c κs = search rules
 
 -- where the ways of `below == EMPTY && top == EMPTY` meet, and of the same with `||`
 both : (c : lts.Joined1 (expression-reads.Asked, expression-reads.Learnt) reads.Pre reads.Post)
-    → c.if1.expression ≡ (eqb c.before.before.args.below emptyCode && eqb c.before.before.args.top emptyCode)
+    → c.if1.expression ≡ (eqb c.before.before.args.below empty_code && eqb c.before.before.args.top empty_code)
 both c =
     ⊎_elim
     (λ w. rw (eq-eqb _ _ w.0.taken) w.1)
@@ -30,7 +30,7 @@ both c =
     c.if1.branch
 
 either : (c : lts.Joined2 (expression-reads.Asked, expression-reads.Learnt) reads.Pre reads.Post)
-    → c.if2.expression ≡ (eqb c.before.before.args.below emptyCode || eqb c.before.before.args.top emptyCode)
+    → c.if2.expression ≡ (eqb c.before.before.args.below empty_code || eqb c.before.before.args.top empty_code)
 either c =
     ⊎_elim
     (λ w. rw (eq-eqb _ _ w.0.taken) (w.1 ∙ eq-eqb _ _ w.0.taken))

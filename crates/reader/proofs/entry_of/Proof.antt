@@ -2,7 +2,7 @@
 use borrow.Author.Rules.{rules}
 use native.Mathlib.Omega.{arith}
 use mathlib.Core.Path.{sym}
-use Rattle.reader.proofs.Table.{known-clause, known-expression, unknown}
+use Rattle.reader.proofs.Table.{known_clause, known_expression, unknown}
 use Rattle.reader.proofs.entry_of.Statement.{statement}
 use Rattle.reader.proofs.entry_of.Tie as tie
 
@@ -35,13 +35,13 @@ returns c =
     let t = c.before in
     let h = t.before.if1.false in
     let i = t.if2.true in
-    rw c.unpacked-line.ensures (sym (known-clause _ t.before.before.args.kind (h, omega arith)))
+    rw c.unpacked-line.ensures (sym (known_clause _ t.before.before.args.kind (h, omega arith)))
 
 returns-2 : tie.Need-returns-2
 returns-2 c =
     let t = c.before in
     let i = t.if4.true in
-    rw c.unpacked-line2.ensures (sym (known-expression _ t.before.before.before.before.args.kind (t.before.if3.false, omega arith)))
+    rw c.unpacked-line2.ensures (sym (known_expression _ t.before.before.before.before.args.kind (t.before.if3.false, omega arith)))
 
 returns-3 : tie.Need-returns-3
 returns-3 c =

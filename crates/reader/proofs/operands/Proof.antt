@@ -5,15 +5,15 @@ use mathlib.Core.Option.{Option, none, some}
 use Rattle.reader.specs.declared.Entry.{Entry}
 use Rattle.reader.specs.declared.Lookup.TheVariants.{Found, Unknown}
 use Rattle.grammar.specs.Table.{Kind, kind_of}
-use Rattle.reader.specs.Codes.{entryOf, lookupOf, operandCount}
+use Rattle.reader.specs.Codes.{entry_of, lookup_of, operand_count}
 use Rattle.reader.proofs.operands.Statement.{statement}
 use Rattle.reader.proofs.operands.Tie as tie
 
-found : (o : Option Kind) (e : Entry) → lookupOf o ≡ Found e → e.operands ≡ operandCount o
+found : (o : Option Kind) (e : Entry) → lookup_of o ≡ Found e → e.operands ≡ operand_count o
 found none e h = cc
-found (some k) e h = let i : entryOf k ≡ e = cc in sym (ap (λ (x : Entry). x.operands) i)
+found (some k) e h = let i : entry_of k ≡ e = cc in sym (ap (λ (x : Entry). x.operands) i)
 
-not_found : (o : Option Kind) → lookupOf o ≡ Unknown → operandCount o ≡ 0
+not_found : (o : Option Kind) → lookup_of o ≡ Unknown → operand_count o ≡ 0
 not_found none h = refl
 not_found (some k) h = cc
 

@@ -9,8 +9,8 @@ use mathlib.Core.Logic.{⊎_elim}
 use lib.Dec.{eqb}
 use lib.ListN.{get_or, set}
 use Rattle.grammar.specs.Table.{clause}
-use Rattle.reader.specs.Codes.{sortNumber}
-use Rattle.reader.proofs.Stack.{codeBelow, stepAt, StackAfter, few-pending, after_none, read-refused, read-pushed, ended}
+use Rattle.reader.specs.Codes.{sort_number}
+use Rattle.reader.proofs.Stack.{code_below, step_at, StackAfter, few_pending, after_none, read_refused, read_pushed, ended}
 use Rattle.reader.proofs.read_records.Statement.{statement}
 use Rattle.reader.proofs.read_records.Tie as tie
 use Rattle.reader.proofs.read_records.Reads as reads
@@ -28,11 +28,11 @@ decreases-loop contract n stack₀ pending₀ k₀ stack pending k = n - k
 step : (c : lts.After-read-record (peek-reads.Asked, peek-reads.Learnt, read-record-reads.Asked, read-record-reads.Learnt) reads.Pre reads.Post invariant-loop decreases-loop)
     → let d = c.before.before.before.before.before.before in
     let v = d.loop in
-    stepAt d.before.before.args.contract.now v.stack v.pending v.k ≡ c.read-record.result
+    step_at d.before.before.args.contract.now v.stack v.pending v.k ≡ c.read-record.result
 step c =
     let v = c.before.before.before.before.before.before.loop in
-    let below : c.before.before.before.peek.result ≡ codeBelow v.stack v.pending 1 = c.before.before.before.peek.ensures in
-    let top : c.before.peek2.result ≡ codeBelow v.stack v.pending 0 = c.before.peek2.ensures in
+    let below : c.before.before.before.peek.result ≡ code_below v.stack v.pending 1 = c.before.before.before.peek.ensures in
+    let top : c.before.peek2.result ≡ code_below v.stack v.pending 0 = c.before.peek2.ensures in
     rw (← below, ← top) (sym c.read-record.ensures)
 
 -- where it completes a tree, the stack has it
@@ -45,7 +45,7 @@ pushed : (c : lts.After-known-told2 (peek-reads.Asked, peek-reads.Learnt, read-r
 pushed c =
     let r = c.before.before.before in
     let i = r.before.before.before.before.before in
-    read-pushed i.before.loop.invariant i.loop-test.true _ _ (step r ∙ c.before.step2.given.1)
+    read_pushed i.before.loop.invariant i.loop-test.true _ _ (step r ∙ c.before.step2.given.1)
 
 loop-holds : tie.Need-loop-init invariant-loop decreases-loop
 loop-holds c = after_none c.before.args.contract.now c.before.args.n c.before.requires.few
@@ -57,10 +57,10 @@ mul-read-record c =
     search rules
 
 peek-requires : tie.Need-peek-requires invariant-loop decreases-loop
-peek-requires c κs = few-pending c.before.before.loop.invariant
+peek-requires c κs = few_pending c.before.before.loop.invariant
 
 peek-requires-2 : tie.Need-peek-requires-2 invariant-loop decreases-loop
-peek-requires-2 c κs = few-pending c.before.before.before.before.loop.invariant
+peek-requires-2 c κs = few_pending c.before.before.before.before.loop.invariant
 
 read-record-requires : tie.Need-read-record-requires invariant-loop decreases-loop
 read-record-requires c κs =
@@ -76,7 +76,7 @@ returns : tie.Need-returns invariant-loop decreases-loop
 returns c =
     let r = c.before.before.before in
     let i = r.before.before.before.before.before in
-    rw (read-refused i.before.loop.invariant i.loop-test.true _ (step r ∙ c.before.step.given.1))
+    rw (read_refused i.before.loop.invariant i.loop-test.true _ (step r ∙ c.before.step.given.1))
 
 enum-known-step-2 : tie.Need-enum-known-step-2 invariant-loop decreases-loop
 enum-known-step-2 c = search rules
@@ -89,12 +89,12 @@ cast-stack c = search rules
 
 array-write-stack : tie.Need-array-write-stack invariant-loop decreases-loop
 array-write-stack c =
-    let p = few-pending (pushed c).1 in
+    let p = few_pending (pushed c).1 in
     omega arith
 
 add-pending : tie.Need-overflow-add-pending invariant-loop decreases-loop
 add-pending c =
-    let p = few-pending (pushed c).1 in
+    let p = few_pending (pushed c).1 in
     search rules
 
 add-k : tie.Need-overflow-add-k invariant-loop decreases-loop
@@ -121,7 +121,7 @@ returns-2 c =
     (⊎_elim
     (λ w. rw (ne_eqb v.pending 1 w.taken))
     (λ w.
-    let not-clause : eqb (get_or v.stack 0 0) (sortNumber clause) ≡ false = not-true _ w.1.taken in
+    let not-clause : eqb (get_or v.stack 0 0) (sort_number clause) ≡ false = not-true _ w.1.taken in
     rw (w.0.left, not-clause))
     c.if1.branch)
 
@@ -129,7 +129,7 @@ returns-3 : tie.Need-returns-3 invariant-loop decreases-loop
 returns-3 c =
     let a = c.before.before in
     let v = a.before.loop in
-    let is-clause : eqb (get_or v.stack 0 0) (sortNumber clause) ≡ true = not-false _ c.if2.false in
+    let is-clause : eqb (get_or v.stack 0 0) (sort_number clause) ≡ true = not-false _ c.if2.false in
     rw (ended v.invariant a.loop-test.false, c.before.if1.false, is-clause)
 
 pub read-records-spec : {M : Type 1} → statement M

@@ -4,18 +4,18 @@ use Prim.Native.Nat.{◌*◌, ◌≤◌, ◌-◌}
 use native.Mathlib.Numerals.{add-one}
 use native.Mathlib.Omega.{arith}
 use mathlib.Core.Path.{◌≡◌, refl}
-use Rattle.grammar.specs.Reader.{windowsOf}
+use Rattle.grammar.specs.Reader.{windows_of}
 use Rattle.reader.proofs.windows.Statement.{statement}
 use Rattle.reader.proofs.windows.Tie as tie
 
 abbrev invariant-loop : tie.invariant-loop
-invariant-loop contract n sum₀ k₀ sum k = (sum ≡ windowsOf contract k) × (k ≤ n) × (sum ≤ 255 * k)
+invariant-loop contract n sum₀ k₀ sum k = (sum ≡ windows_of contract k) × (k ≤ n) × (sum ≤ 255 * k)
 
 abbrev decreases-loop : tie.decreases-loop
 decreases-loop contract n sum₀ k₀ sum k = n - k
 
 loop-holds : tie.Need-loop-init invariant-loop decreases-loop
-unfolding windowsOf
+unfolding windows_of
 loop-holds c = (refl, omega arith, omega arith)
 
 mul-window-at : tie.Need-overflow-mul-window-at invariant-loop decreases-loop
@@ -52,7 +52,7 @@ loop-less c =
     omega arith
 
 loop-again : tie.Need-loop-preserved invariant-loop decreases-loop
-unfolding windowsOf
+unfolding windows_of
 loop-again c =
     let i = c.before.before.loop.invariant in
     let h = c.before.loop-test.true in

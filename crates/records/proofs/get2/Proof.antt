@@ -1,6 +1,6 @@
 -- `records::get2` meets its contract: two fields of one byte are one of two.
 use borrow.Author.Rules.{rules}
-use Rattle.records.proofs.Fields.{holds-one, holds-add}
+use Rattle.records.proofs.Fields.{holds_one, holds-add}
 use Rattle.records.proofs.get2.Statement.{statement}
 use Rattle.records.proofs.get2.Tie as tie
 
@@ -27,8 +27,8 @@ add-result c = search rules
 
 returns : tie.Need-returns
 returns c =
-    holds-add 1 1 (holds-one c.before.before.widened.ensures.0 c.before.before.widened.ensures.1)
-    (holds-one c.widened2.ensures.0 c.widened2.ensures.1)
+    holds-add 1 1 (holds_one c.before.before.widened.ensures.0 c.before.before.widened.ensures.1)
+    (holds_one c.widened2.ensures.0 c.widened2.ensures.1)
 
 pub get2-spec : {M : Type 1} → statement M
 get2-spec =

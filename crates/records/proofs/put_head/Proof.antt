@@ -1,6 +1,6 @@
 -- `records::put_head` meets its contract: the fields are written one after the other.
 use borrow.Author.Rules.{rules}
-use Rattle.records.proofs.Replies.{head-written}
+use Rattle.records.proofs.Replies.{head_written}
 use Rattle.records.proofs.put_head.Statement.{statement}
 use Rattle.records.proofs.put_head.Tie as tie
 
@@ -25,7 +25,7 @@ same_length c = search rules
 returns : tie.Need-returns
 returns c =
     let a = c.before.before.before.before.before.before.before.before.before.before.before.before.before.before.before.args in
-    cc (head-written a.reply.now a.t a.own)
+    cc (head_written a.reply.now a.t a.own)
 
 pub put-head-spec : {M : Type 1} → statement M
 put-head-spec =

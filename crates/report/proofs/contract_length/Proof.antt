@@ -2,7 +2,7 @@
 use borrow.Author.Rules.{rules}
 use native.Mathlib.Omega.{arith}
 use Rattle.periods.specs.declared.Form.TheVariants.{Narrow}
-use Rattle.periods.proofs.Forms.{few-whole}
+use Rattle.periods.proofs.Forms.{few_whole}
 use Rattle.report.proofs.Split.{found_within, none_found, one_found}
 use Rattle.report.proofs.contract_length.Statement.{statement}
 use Rattle.report.proofs.contract_length.Tie as tie
@@ -16,18 +16,18 @@ first-period-requires c κs = search rules
 returns : tie.Need-returns
 returns c =
     let n = c.before.before.whole-periods in
-    none_found _ _ _ n.ensures c.before.first-period.ensures c.if1.true
+    none_found _ _ _ n.ensures c.before.first_period_lem.ensures c.if1.true
 
 mul-result : tie.Need-overflow-mul-result
 mul-result c =
     let n = c.before.before.whole-periods in
-    let k = found_within _ _ _ n.ensures c.before.first-period.ensures in
-    omega (arith, k, n.ensures, few-whole Narrow c.before.before.before.before.args.input.now)
+    let k = found_within _ _ _ n.ensures c.before.first_period_lem.ensures in
+    omega (arith, k, n.ensures, few_whole Narrow c.before.before.before.before.args.input.now)
 
 returns-2 : tie.Need-returns-2
 returns-2 c =
     let n = c.before.before.whole-periods in
-    one_found _ _ _ n.ensures c.before.first-period.ensures c.if1.false
+    one_found _ _ _ n.ensures c.before.first_period_lem.ensures c.if1.false
 
 pub contract-length-spec : {M : Type 1} → statement M
 contract-length-spec =

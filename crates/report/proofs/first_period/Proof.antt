@@ -5,16 +5,16 @@ use native.Mathlib.Omega.{arith}
 use mathlib.Core.Path.{◌≡◌, sym, ap, ◌∙◌}
 use mathlib.Core.Bool.{not}
 use lib.ListN.{length}
-use Rattle.records.specs.Refusals.{firstFailing}
-use Rattle.records.proofs.Searches.{failing-next, failing-here, failing-end}
+use Rattle.records.specs.Refusals.{first_failing}
+use Rattle.records.proofs.Searches.{failing_next, failing_here, failing_end}
 use Rattle.periods.specs.declared.Form.TheVariants.{Narrow}
-use Rattle.periods.proofs.Forms.{period-inside}
-use Rattle.report.specs.Split.{unmarkedSix}
+use Rattle.periods.proofs.Forms.{period_inside}
+use Rattle.report.specs.Split.{unmarked_six}
 use Rattle.report.proofs.first_period.Statement.{statement}
 use Rattle.report.proofs.first_period.Tie as tie
 
 abbrev invariant-loop : tie.invariant-loop
-invariant-loop input n k₀ k = (k ≤ n) × (firstFailing (unmarkedSix input) 0 n ≡ firstFailing (unmarkedSix input) k (n - k))
+invariant-loop input n k₀ k = (k ≤ n) × (first_failing (unmarked_six input) 0 n ≡ first_failing (unmarked_six input) k (n - k))
 
 abbrev decreases-loop : tie.decreases-loop
 decreases-loop input n k₀ k = n - k
@@ -26,7 +26,7 @@ loop-holds c = (omega arith, rw sub-zero)
 inside : (c : tie.In-loop invariant-loop decreases-loop) → let a = c.before.before.before.args in 6 * c.before.loop.k + 6 ≤ length a.input.now
 inside c =
     let a = c.before.before.before.args in
-    period-inside Narrow a.input.now c.before.loop.k (omega (arith, c.before.before.before.requires))
+    period_inside Narrow a.input.now c.before.loop.k (omega (arith, c.before.before.before.requires))
 
 mul-either-mark : tie.Need-overflow-mul-either-mark invariant-loop decreases-loop
 mul-either-mark c = let i = inside c in omega arith
@@ -41,24 +41,24 @@ loop-less : tie.Need-loop-smaller invariant-loop decreases-loop
 loop-less c = omega arith
 
 loop-again : tie.Need-loop-preserved invariant-loop decreases-loop
-unfolding unmarkedSix
+unfolding unmarked_six
 loop-again c =
     let p = c.before.before.before in
     let a = p.before.before.args in
-    (omega arith, p.loop.invariant.1 ∙ failing-next (unmarkedSix a.input.now) p.loop.k a.n c.before.before.loop-test.true (ap not (sym c.before.either-mark.ensures) ∙ c.if1.true))
+    (omega arith, p.loop.invariant.1 ∙ failing_next (unmarked_six a.input.now) p.loop.k a.n c.before.before.loop-test.true (ap not (sym c.before.either-mark.ensures) ∙ c.if1.true))
 
 returns : tie.Need-returns invariant-loop decreases-loop
-unfolding unmarkedSix
+unfolding unmarked_six
 returns c =
     let p = c.before.before.before in
     let a = p.before.before.args in
-    sym (p.loop.invariant.1 ∙ failing-here (unmarkedSix a.input.now) p.loop.k a.n c.before.before.loop-test.true (ap not (sym c.before.either-mark.ensures) ∙ c.if1.false))
+    sym (p.loop.invariant.1 ∙ failing_here (unmarked_six a.input.now) p.loop.k a.n c.before.before.loop-test.true (ap not (sym c.before.either-mark.ensures) ∙ c.if1.false))
 
 returns-2 : tie.Need-returns-2 invariant-loop decreases-loop
 returns-2 c =
     let p = c.before in
     let a = p.before.before.args in
-    sym (p.loop.invariant.1 ∙ failing-end (unmarkedSix a.input.now) p.loop.k a.n c.loop-test.false)
+    sym (p.loop.invariant.1 ∙ failing_end (unmarked_six a.input.now) p.loop.k a.n c.loop-test.false)
 
 pub first-period-spec : {M : Type 1} → statement M
 first-period-spec =

@@ -1,7 +1,7 @@
 -- `report::follow` meets its contract: the state that begin leaves follows the clause, and the lines are put from there.
 use borrow.Author.Rules.{rules}
 use native.Mathlib.Omega.{arith}
-use Rattle.report.proofs.Following.{may-list, all-followed}
+use Rattle.report.proofs.Following.{may_list, all_followed}
 use Rattle.report.proofs.follow.Statement.{statement}
 use Rattle.report.proofs.follow.Tie as tie
 
@@ -18,7 +18,7 @@ put-lines-requires : tie.Need-put-lines-requires
 put-lines-requires c κs =
     let b = c.before.before.before.before.before.before in
     rw c.before.period-records.ensures
-    (may-list b.before.before.before.before.before.before.before.requires _ _ (omega arith) b.monitor-begin.ensures.buffers-are)
+    (may_list b.before.before.before.before.before.before.before.requires _ _ (omega arith) b.monitor-begin.ensures.buffers_are)
 
 same_length : tie.Need-same-length
 same_length c = search rules
@@ -30,7 +30,7 @@ returns : tie.Need-returns
 returns c =
     let p = c.before.before.before.before in
     let b = p.before.before.before.before.before.before.before in
-    all-followed b.before.before.before.before.before.before.before.requires _ _ (omega arith) b.monitor-begin.ensures.buffers-are _ _ (rw p.before.before.period-records.ensures at p.put-lines.ensures)
+    all_followed b.before.before.before.before.before.before.before.requires _ _ (omega arith) b.monitor-begin.ensures.buffers_are _ _ (rw p.before.before.period-records.ensures at p.put-lines.ensures)
 
 pub follow-spec : {M : Type 1} → statement M
 follow-spec =

@@ -1,7 +1,7 @@
 -- `report::put_decided` meets its contract: the words and the number are put one behind the other.
 use native.Mathlib.Omega.{arith}
 use borrow.Author.Rules.{rules}
-use Rattle.report.proofs.Texts.{puts-ends, length-decided, puts-decided}
+use Rattle.report.proofs.Texts.{puts_ends, length-decided, puts_decided}
 use Rattle.report.proofs.put_decided.Statement.{statement}
 use Rattle.report.proofs.put_decided.Tie as tie
 
@@ -14,7 +14,7 @@ put-word-requires c κs = omega (arith, length-decided c.before.before.before.ar
 put-decimal-requires : tie.Need-put-decimal-requires
 put-decimal-requires c κs =
     let w = c.before.before.before in
-    omega (arith, length-decided w.before.before.before.before.args.decision, puts-ends w.put_word.ensures)
+    omega (arith, length-decided w.before.before.before.before.args.decision, puts_ends w.put_word.ensures)
 
 slice-aggregate-put-word-2 : tie.Need-slice-aggregate-put-word-2
 slice-aggregate-put-word-2 c = search rules
@@ -23,7 +23,7 @@ put-word-requires-2 : tie.Need-put-word-requires-2
 put-word-requires-2 c κs =
     let d = c.before.before.before.before in
     let w = d.before.before.before.before in
-    omega (arith, length-decided w.before.before.before.before.args.decision, puts-ends w.put_word.ensures, puts-ends d.put-decimal.ensures)
+    omega (arith, length-decided w.before.before.before.before.args.decision, puts_ends w.put_word.ensures, puts_ends d.put-decimal.ensures)
 
 same_length : tie.Need-same-length
 same_length c = search rules
@@ -34,7 +34,7 @@ returns c =
     let d = e.before.before.before.before.before in
     let w = d.before.before.before.before in
     let a = w.before.before.before.before.args in
-    puts-decided a.text.now a.at a.decision w.put_word.ensures d.put-decimal.ensures e.put-word2.ensures
+    puts_decided a.text.now a.at a.decision w.put_word.ensures d.put-decimal.ensures e.put-word2.ensures
 
 pub put-decided-spec : {M : Type 1} → statement M
 put-decided-spec =

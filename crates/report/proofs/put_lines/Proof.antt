@@ -7,15 +7,15 @@ use mathlib.Core.List.{[]}
 use mathlib.Core.Path.{◌≡◌, refl, ◌∙◌}
 use lib.ListN.{length}
 use Rattle.contract.specs.Meaning.{Clause}
-use Rattle.report.specs.Limits.{lineBytes}
+use Rattle.report.specs.Limits.{line_bytes}
 use Rattle.report.specs.Putting.{Follows}
-use Rattle.report.proofs.Following.{Held, held_first, next-whole, next-blame, next-short, next-held, small-decision, last-room, all_listed}
+use Rattle.report.proofs.Following.{Held, held_first, next_whole, next_blame, next_short, next_held, small_decision, last_room, all_listed}
 use Rattle.report.proofs.put_lines.Statement.{statement}
 use Rattle.report.proofs.put_lines.Tie as tie
 
 abbrev invariant-loop : tie.invariant-loop
 invariant-loop image state₀ trace n text₀ at₀ decision₀ k₀ state text at decision k =
-    (k ≤ n) × (at ≤ lineBytes * k) × (length state ≡ length state₀) × (length text ≡ length text₀)
+    (k ≤ n) × (at ≤ line_bytes * k) × (length state ≡ length state₀) × (length text ≡ length text₀)
     × ((c : Clause) → Follows c image state₀ [] → Held c image trace text₀ k state text at decision)
 
 abbrev decreases-loop : tie.decreases-loop
@@ -29,7 +29,7 @@ loop-holds c =
 step-requires : tie.Need-step-requires invariant-loop decreases-loop
 step-requires c κs =
     let b = c.before.before.before.before.before.before.before in
-    next-whole b.requires c.before.before.loop.k c.before.loop-test.true
+    next_whole b.requires c.before.before.loop.k c.before.loop-test.true
 
 add-k : tie.Need-overflow-add-k invariant-loop decreases-loop
 add-k c = omega (arith, c.before.before.before.before.loop-test.true)
@@ -42,7 +42,7 @@ put-period-requires c κs =
     let t = c.before.before.before.before in
     let l = t.before.before.before.loop in
     let b = t.before.before.before.before.before.before.before.before in
-    (omega (arith, l.invariant.1, l.invariant.3, b.requires.room), (omega (arith, b.requires.few), next-blame b.requires _ _ _ _ _ l.invariant.4 t.before.before.loop-test.true _ _ t.step.ensures))
+    (omega (arith, l.invariant.1, l.invariant.3, b.requires.room), (omega (arith, b.requires.few), next_blame b.requires _ _ _ _ _ l.invariant.4 t.before.before.loop-test.true _ _ t.step.ensures))
 
 loop-less : tie.Need-loop-smaller invariant-loop decreases-loop
 loop-less c = omega arith
@@ -55,32 +55,32 @@ loop-again c =
     let b = t.before.before.before.before.before.before.before.before in
     let i = t.before.before.loop-test.true in (
       omega arith,
-      omega (arith, l.invariant.1, next-short b.requires _ _ _ _ _ l.invariant.4 i _ _ t.step.ensures _ _ p.ensures),
+      omega (arith, l.invariant.1, next_short b.requires _ _ _ _ _ l.invariant.4 i _ _ t.step.ensures _ _ p.ensures),
       t.step.auto.1.0 ∙ l.invariant.2,
       p.auto.0 ∙ l.invariant.3,
-      next-held b.requires _ _ _ _ _ l.invariant.4 i _ _ t.step.ensures _ _ p.ensures,
+      next_held b.requires _ _ _ _ _ l.invariant.4 i _ _ t.step.ensures _ _ p.ensures,
     )
 
 cast-put-decided : tie.Need-overflow-cast-put-decided invariant-loop decreases-loop
 cast-put-decided c =
     let l = c.before.before.loop in
-    record { fits = omega (arith, small-decision c.before.before.before.before.before.before.before.requires _ _ _ _ _ l.invariant.4 l.invariant.0) }
+    record { fits = omega (arith, small_decision c.before.before.before.before.before.before.before.requires _ _ _ _ _ l.invariant.4 l.invariant.0) }
 
 put-decided-requires : tie.Need-put-decided-requires invariant-loop decreases-loop
 put-decided-requires c κs =
     let l = c.before.before.loop in
-    last-room c.before.before.before.before.before.before.before.requires _ _ _ _ _ l.invariant.4 l.invariant.0 l.invariant.1 l.invariant.3
+    last_room c.before.before.before.before.before.before.before.requires _ _ _ _ _ l.invariant.4 l.invariant.0 l.invariant.1 l.invariant.3
 
 same_length : tie.Need-same-length invariant-loop decreases-loop
 same_length c = c.before.before.before.before.before.loop.invariant.2
 
 same-length-2 : tie.Need-same-length-2 invariant-loop decreases-loop
-same-length-2 c = c.before.before.put-decided.auto.0 ∙ c.before.before.before.before.before.loop.invariant.3
+same-length-2 c = c.before.before.put_decided.auto.0 ∙ c.before.before.before.before.before.loop.invariant.3
 
 returns : tie.Need-returns invariant-loop decreases-loop
 returns c =
     let l = c.before.before.before.before.before.loop in
-    all_listed c.before.before.before.before.before.before.before.before.before.before.requires _ _ _ _ _ l.invariant.4 (omega arith) _ _ c.before.before.put-decided.ensures
+    all_listed c.before.before.before.before.before.before.before.before.before.before.requires _ _ _ _ _ l.invariant.4 (omega arith) _ _ c.before.before.put_decided.ensures
 
 pub put-lines-spec : {M : Type 1} → statement M
 put-lines-spec =

@@ -7,8 +7,8 @@ use lib.Seq.{length-take-le}
 use Rattle.records.proofs.number.Reads as number-reads
 use Rattle.records.proofs.place.Reads as place-reads
 use Rattle.periods.proofs.trace_test.Reads as trace-test-reads
-use Rattle.report.proofs.Texts.{short-refused}
-use Rattle.report.proofs.Reports.{end-within, front_length, contract-refused, Served, served, trace-refused, may-follow, followed}
+use Rattle.report.proofs.Texts.{short_refused}
+use Rattle.report.proofs.Reports.{end-within, front_length, contract_refused, Served, served, trace_refused, may_follow, followed}
 use Rattle.report.proofs.put_parts.Statement.{statement}
 use Rattle.report.proofs.put_parts.Tie as tie
 use Rattle.report.proofs.put_parts.Reads as reads
@@ -33,7 +33,7 @@ cast-put-refused c = search rules
 put-refused-requires : tie.Need-put-refused-requires
 put-refused-requires c κs =
     let r = c.before.before.before.before.before.before.compile.result in
-    omega (arith, short-refused r.number r.place (omega arith) (omega arith))
+    omega (arith, short_refused r.number r.place (omega arith) (omega arith))
 
 same_length : tie.Need-same-length
 same_length c = search rules
@@ -46,7 +46,7 @@ returns c =
     let i = c.before.before.before.before.before in
     let d = i.before.before.before.before in
     let k = d.before.before.before in
-    rw (contract-refused _ _ k.contract-length.ensures d.compile.ensures k.before.before.before.before.before.requires.1.0 i.if1.true) c.before.before.Put-refused.ensures
+    rw (contract_refused _ _ k.contract-length.ensures d.compile.ensures k.before.before.before.before.before.requires.1.0 i.if1.true) c.before.before.Put-refused.ensures
 
 sub-trace : tie.Need-overflow-sub-trace
 sub-trace c = end-within _ _ c.before.before.before.before.before.before.before.contract-length.ensures
@@ -76,7 +76,7 @@ place-requires : tie.Need-place-requires
 place-requires c κs = search rules
 
 put-refused-requires-2 : tie.Need-put-refused-requires-2
-put-refused-requires-2 c κs = omega (arith, short-refused c.before.number.result c.place.result (omega arith) (omega arith))
+put-refused-requires-2 c κs = omega (arith, short_refused c.before.number.result c.place.result (omega arith) (omega arith))
 
 same-length-3 : tie.Need-same-length-3
 same-length-3 c = search rules
@@ -92,7 +92,7 @@ returns-2 c =
     let i = t.before.before in
     let d = i.before.before.before.before in
     let k = d.before.before.before in
-    rw (trace-refused _ _ k.contract-length.ensures d.compile.ensures k.before.before.before.before.before.requires.1.0 i.if1.false t.trace-test.result t.trace-test.ensures _ _ m.enum-told2.given.1, ← p.before.before.number.ensures, ← p.before.place.ensures) p.put-refused2.ensures
+    rw (trace_refused _ _ k.contract-length.ensures d.compile.ensures k.before.before.before.before.before.requires.1.0 i.if1.false t.trace-test.result t.trace-test.ensures _ _ m.enum-told2.given.1, ← p.before.before.number.ensures, ← p.before.place.ensures) p.put-refused2.ensures
 
 cast-rows : tie.Need-overflow-cast-rows
 cast-rows c = search rules
@@ -133,7 +133,7 @@ follow-requires c κs =
     let d = i.before.before.before.before in
     let k = d.before.before.before in
     let a = k.before.before.before.before.before in
-    may-follow _ _ k.contract-length.ensures d.compile.ensures a.requires.1.0 i.if1.false
+    may_follow _ _ k.contract-length.ensures d.compile.ensures a.requires.1.0 i.if1.false
     (sym t.before.before.trace-test.ensures ∙ t.enum_told.given.1) _ _ a.requires.1.1.0 a.requires.1.1.1 a.requires.0
 
 same-length-5 : tie.Need-same-length-5

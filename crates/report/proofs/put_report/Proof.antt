@@ -3,8 +3,8 @@ use borrow.Author.Rules.{rules}
 use native.Mathlib.Omega.{arith}
 use lib.Dec.{lit<}
 use Rattle.records.specs.declared.Fault.TheVariants.{LongInput}
-use Rattle.records.specs.Refusals.{faultNumber}
-use Rattle.report.proofs.Texts.{short-refused}
+use Rattle.records.specs.Refusals.{fault_number}
+use Rattle.report.proofs.Texts.{short_refused}
 use Rattle.report.proofs.Reports.{longer, no_longer}
 use Rattle.report.proofs.put_report.Statement.{statement}
 use Rattle.report.proofs.put_report.Tie as tie
@@ -16,7 +16,7 @@ cast-put-refused : tie.Need-overflow-cast-put-refused
 cast-put-refused c = search rules
 
 put-refused-requires : tie.Need-put-refused-requires
-put-refused-requires c κs = rw c.fault-number.ensures (omega (arith, short-refused (faultNumber LongInput) 0 (lit< tt) (lit< tt)))
+put-refused-requires c κs = rw c.fault-number.ensures (omega (arith, short_refused (fault_number LongInput) 0 (lit< tt) (lit< tt)))
 
 returns : tie.Need-returns
 returns c = rw (longer _ c.before.before.before.if1.true) (rw c.before.fault-number.ensures at c.Put-refused.ensures)

@@ -5,7 +5,7 @@ use mathlib.Core.Path.{refl}
 use lib.ListN.{length, take}
 use lib.Seq.{take_all}
 use Rattle.report.specs.Texts.{Puts}
-use Rattle.report.proofs.Texts.{puts-length, puts-next}
+use Rattle.report.proofs.Texts.{puts_length, puts_next}
 use Rattle.report.proofs.put_word.Statement.{statement}
 use Rattle.report.proofs.put_word.Tie as tie
 
@@ -16,7 +16,7 @@ abbrev decreases-loop : tie.decreases-loop
 decreases-loop text₀ at word k₀ text k = length word - k
 
 loop-holds : tie.Need-loop-init invariant-loop decreases-loop
-loop-holds c = (omega arith, record { text-is = refl; end_is = refl; fits = omega arith })
+loop-holds c = (omega arith, record { text_is = refl; end_is = refl; fits = omega arith })
 
 shared-slice-read-text : tie.Need-shared-slice-read-text invariant-loop decreases-loop
 shared-slice-read-text c = omega arith
@@ -25,7 +25,7 @@ add-text : tie.Need-overflow-add-text invariant-loop decreases-loop
 add-text c = omega arith
 
 slice-write-text : tie.Need-slice-write-text invariant-loop decreases-loop
-slice-write-text c = omega (arith, puts-length c.before.before.loop.invariant.1)
+slice-write-text c = omega (arith, puts_length c.before.before.loop.invariant.1)
 
 add-k : tie.Need-overflow-add-k invariant-loop decreases-loop
 add-k c = omega arith
@@ -37,13 +37,13 @@ loop-again : tie.Need-loop-preserved invariant-loop decreases-loop
 loop-again c =
     let a = c.before.before.before.args in
     let l = c.before.before.loop in
-    (omega arith, puts-next a.text.now a.at a.word.now l.k (omega arith) (omega arith) l.invariant.1)
+    (omega arith, puts_next a.text.now a.at a.word.now l.k (omega arith) (omega arith) l.invariant.1)
 
 add-result : tie.Need-overflow-add-result invariant-loop decreases-loop
 add-result c = omega arith
 
 same_length : tie.Need-same-length invariant-loop decreases-loop
-same_length c = puts-length c.before.loop.invariant.1
+same_length c = puts_length c.before.loop.invariant.1
 
 returns : tie.Need-returns invariant-loop decreases-loop
 returns c = rw (take_all c.before.loop.k c.before.before.args.word.now (omega arith)) at c.before.loop.invariant.1

@@ -4,10 +4,10 @@ use Prim.Native.Nat.{◌+◌, ◌*◌, ◌≤◌}
 use native.Mathlib.Omega.{arith}
 use mathlib.Core.Path.{◌≡◌, refl, ap, ◌∙◌}
 use lib.ListN.{length}
-use Rattle.periods.specs.Forms.{periodBytes}
-use Rattle.periods.specs.Traces.{formOf}
-use Rattle.periods.proofs.Forms.{period-inside}
-use Rattle.report.proofs.Following.{stepped-on}
+use Rattle.periods.specs.Forms.{period_bytes}
+use Rattle.periods.specs.Traces.{form_of}
+use Rattle.periods.proofs.Forms.{period_inside}
+use Rattle.report.proofs.Following.{stepped_on}
 use Rattle.report.proofs.step.Statement.{statement}
 use Rattle.report.proofs.step.Tie as tie
 use Rattle.report.proofs.step.Reads as reads
@@ -27,12 +27,12 @@ period-bytes-requires c κs = search rules
 -- the record is inside the trace
 inside : (c : lts.After-period-bytes (form-of-reads.Asked, form-of-reads.Learnt, period-bytes-reads.Asked, period-bytes-reads.Learnt, monitor-step-reads.Asked, monitor-step-reads.Learnt, get-head-reads.Asked, get-head-reads.Learnt, get4-reads.Asked, get4-reads.Learnt) reads.Pre reads.Post)
     → let a = c.before.before.before.before.before.args in
-    (c.period-bytes.result ≡ periodBytes (formOf a.trace.now)) × (c.period-bytes.result * a.k + c.period-bytes.result ≤ length a.trace.now)
+    (c.period_bytes_lem.result ≡ period_bytes (form_of a.trace.now)) × (c.period_bytes_lem.result * a.k + c.period_bytes_lem.result ≤ length a.trace.now)
 inside c =
     let a = c.before.before.before.before.before in
     let t = a.args.trace.now in
-    let e = c.period-bytes.ensures ∙ ap periodBytes c.before.form_of.ensures in
-    (e, rw e (period-inside (formOf t) t a.args.k a.requires))
+    let e = c.period_bytes_lem.ensures ∙ ap period_bytes c.before.form_of.ensures in
+    (e, rw e (period_inside (form_of t) t a.args.k a.requires))
 
 mul-from : tie.Need-overflow-mul-from
 mul-from c = omega (arith, (inside c).1)
@@ -82,7 +82,7 @@ same_length c = search rules
 returns : tie.Need-returns
 returns c =
     let m = c.before.before.before.before.before.before.before.before.before in
-    stepped-on _ _ _ _ _ (inside m.before.before.before.before).0 _ _ _ m.monitor-step.ensures _ _ c.before.before.before.before.get-head.ensures refl c.before.before.get4.ensures c.get42.ensures
+    stepped_on _ _ _ _ _ (inside m.before.before.before.before).0 _ _ _ m.monitor-step.ensures _ _ c.before.before.before.before.get-head.ensures refl c.before.before.get4.ensures c.get42.ensures
 
 pub step_spec : {M : Type 1} → statement M
 step_spec =

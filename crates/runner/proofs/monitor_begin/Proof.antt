@@ -1,14 +1,14 @@
 -- `runner::monitor_begin` meets its contract: no room for the reply, refused, or a state of zeros.
 use borrow.Author.Rules.{rules}
-use Rattle.records.proofs.Refusals.{is-refused}
-use Rattle.records.proofs.Replies.{gives-no-room, gives-refused, gives-passed}
+use Rattle.records.proofs.Refusals.{is_refused}
+use Rattle.records.proofs.Replies.{gives_no_room, gives_refused, gives_passed}
 use Rattle.calls.specs.Calls.{begin}
 use Rattle.runner.proofs.monitor_begin.Statement.{statement}
 use Rattle.runner.proofs.monitor_begin.Tie as tie
 
 returns : tie.Need-returns
 unfolding begin
-returns c = gives-no-room _ _ _ _ _ c.if1.true
+returns c = gives_no_room _ _ _ _ _ c.if1.true
 
 begin-test-requires : tie.Need-begin-test-requires
 begin-test-requires c κs = search rules
@@ -34,7 +34,7 @@ returns-2 c =
     let p = c.before.before.before.before in
     let b = p.before.before in
     rw (← b.begin-test.ensures)
-    (gives-refused b.begin-test.result _ _ _ _ b.before.before.if1.false (is-refused c.enum-told2.given.1) _ p.put-head.ensures)
+    (gives_refused b.begin-test.result _ _ _ _ b.before.before.if1.false (is_refused c.enum-told2.given.1) _ p.put-head.ensures)
 
 clear-requires : tie.Need-clear-requires
 clear-requires c κs = search rules
@@ -53,7 +53,7 @@ returns-3 c =
     let b = p.before.before in
     let passed = c.before.before.before.before.enum_told.given.1 in
     rw (← b.begin-test.ensures)
-    (gives-passed b.begin-test.result _ _ _ _ b.before.before.if1.false passed _ _ z.clear.ensures (rw passed at p.put-head.ensures))
+    (gives_passed b.begin-test.result _ _ _ _ b.before.before.if1.false passed _ _ z.clear.ensures (rw passed at p.put-head.ensures))
 
 pub monitor-begin-spec : {M : Type 1} → statement M
 monitor-begin-spec =

@@ -3,14 +3,14 @@ use borrow.Author.Rules.{rules}
 use native.Mathlib.Omega.{arith}
 use mathlib.Core.Path.{◌≡◌, sym, ◌∙◌}
 use Rattle.records.specs.declared.Test.TheVariants.{Passed}
-use Rattle.records.proofs.Refusals.{is-refused}
-use Rattle.records.proofs.Replies.{gives-no-room, gives-refused, gives-passed}
-use Rattle.periods.specs.Traces.{periodsOf, periodIn}
-use Rattle.machine.specs.Machine.{afterPeriods}
-use Rattle.machine.proofs.Steps.{step-answering, step-read}
-use Rattle.calls.specs.Refusals.{stepTest}
+use Rattle.records.proofs.Refusals.{is_refused}
+use Rattle.records.proofs.Replies.{gives_no_room, gives_refused, gives_passed}
+use Rattle.periods.specs.Traces.{periods_of, period_in}
+use Rattle.machine.specs.Machine.{after_periods}
+use Rattle.machine.proofs.Steps.{step_answering, step_read}
+use Rattle.calls.specs.Refusals.{step_test}
 use Rattle.calls.specs.Calls.{step}
-use Rattle.calls.proofs.Refusals.{step-ready, step-record}
+use Rattle.calls.proofs.Refusals.{step_ready, step_record}
 use Rattle.runner.proofs.monitor_step.Statement.{statement}
 use Rattle.runner.proofs.monitor_step.Tie as tie
 use Rattle.runner.proofs.monitor_step.Reads as reads
@@ -22,7 +22,7 @@ use Rattle.runner.proofs.step_test.Reads as step-test-reads
 
 returns : tie.Need-returns
 unfolding step
-returns c = gives-no-room _ _ _ _ _ c.if1.true
+returns c = gives_no_room _ _ _ _ _ c.if1.true
 
 step-test-requires : tie.Need-step-test-requires
 step-test-requires c κs = search rules
@@ -48,25 +48,25 @@ returns-2 c =
     let p = c.before.before in
     let b = c.before.before.before.before.before.before in
     rw (← b.step-test.ensures)
-    (gives-refused b.step-test.result _ _ _ _ b.before.before.if1.false (is-refused c.before.before.before.before.enum-told2.given.1) _ p.put-step-reply.ensures)
+    (gives_refused b.step-test.result _ _ _ _ b.before.before.if1.false (is_refused c.before.before.before.before.enum-told2.given.1) _ p.put-step-reply.ensures)
 
 -- the tests are passed
 passed : (c : lts.After-enum-told (step-test-reads.Asked, step-test-reads.Learnt, put-step-reply-reads.Asked, put-step-reply-reads.Learnt, take-periods-reads.Asked, take-periods-reads.Learnt, put-answer-reads.Asked, put-answer-reads.Learnt) reads.Pre reads.Post)
-    → let a = c.before.before.before.before.before.before.before.before.before.args in stepTest a.image.now a.state.now a.period.now ≡ Passed
+    → let a = c.before.before.before.before.before.before.before.before.before.args in step_test a.image.now a.state.now a.period.now ≡ Passed
 passed c = sym c.before.before.step-test.ensures ∙ c.enum_told.given.1
 
 take-periods-requires : tie.Need-take-periods-requires
 take-periods-requires c κs =
     let a = c.before.before.before.before.before.before.before.before.before.before.args in
     let t = passed c.before in
-    (step-ready a.image.now a.state.now a.period.now t, omega (arith, step-record a.image.now a.state.now a.period.now t))
+    (step_ready a.image.now a.state.now a.period.now t, omega (arith, step_record a.image.now a.state.now a.period.now t))
 
 put-answer-requires : tie.Need-put-answer-requires
-unfolding periodsOf afterPeriods
+unfolding periods_of after_periods
 put-answer-requires c κs =
     let a = c.before.before.before.before.before.before.before.before.before.before.before.before.before.before.before.args in
-    let h = step-ready a.image.now a.state.now a.period.now (passed c.before.before.before.before.before.before) in
-    (c.before.before.before.before.before.before.before.before.before.before.if1.false, rw c.before.before.before.before.take-periods.ensures (step-answering a.image.now a.state.now h (periodIn a.period.now)))
+    let h = step_ready a.image.now a.state.now a.period.now (passed c.before.before.before.before.before.before) in
+    (c.before.before.before.before.before.before.before.before.before.before.if1.false, rw c.before.before.before.before.take-periods.ensures (step_answering a.image.now a.state.now h (period_in a.period.now)))
 
 same-length-3 : tie.Need-same-length-3
 same-length-3 c = search rules
@@ -75,16 +75,16 @@ same-length-4 : tie.Need-same-length-4
 same-length-4 c = search rules
 
 returns-3 : tie.Need-returns-3
-unfolding step periodsOf afterPeriods
+unfolding step periods_of after_periods
 returns-3 c =
     let a = c.before.before.before.before.before.before.before.before.before.before.before.before.before.before.before.before.before.before.args in
     let n = c.before.before.before.before.before.before.before.before.before in
     let b = n.before.before in
-    let h = step-ready a.image.now a.state.now a.period.now (passed n) in
+    let h = step_ready a.image.now a.state.now a.period.now (passed n) in
     let took = c.before.before.before.before.before.before.before.take-periods.ensures in
     rw (← b.step-test.ensures)
-    (gives-passed b.step-test.result _ _ _ _ b.before.before.if1.false n.enum_told.given.1 _ _ took
-    (rw (took, step-read a.image.now a.state.now h (periodIn a.period.now)) at c.before.before.put-answer.ensures))
+    (gives_passed b.step-test.result _ _ _ _ b.before.before.if1.false n.enum_told.given.1 _ _ took
+    (rw (took, step_read a.image.now a.state.now h (period_in a.period.now)) at c.before.before.put-answer.ensures))
 
 pub monitor-step-spec : {M : Type 1} → statement M
 monitor-step-spec =

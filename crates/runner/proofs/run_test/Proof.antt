@@ -3,11 +3,11 @@ use borrow.Author.Rules.{rules}
 use native.Mathlib.Omega.{arith}
 use mathlib.Core.Path.{◌≡◌, sym, ap, ◌∙◌}
 use Rattle.records.specs.declared.Test.TheVariants.{Passed}
-use Rattle.records.proofs.Refusals.{refused-first}
+use Rattle.records.proofs.Refusals.{refused_first}
 use Rattle.states.specs.States.{state_of}
-use Rattle.states.specs.Refusals.{countTest}
-use Rattle.calls.specs.Refusals.{readyTest, runTest}
-use Rattle.calls.proofs.Refusals.{ready-head}
+use Rattle.states.specs.Refusals.{count_test}
+use Rattle.calls.specs.Refusals.{ready_test, run_test}
+use Rattle.calls.proofs.Refusals.{ready_head}
 use Rattle.runner.proofs.run_test.Statement.{statement}
 use Rattle.runner.proofs.run_test.Tie as tie
 
@@ -21,14 +21,14 @@ enum-told-2 : tie.Need-enum-told-2
 enum-told-2 c = search rules
 
 returns : tie.Need-returns
-unfolding runTest
+unfolding run_test
 returns c =
     let t = c.before.before.ready-test in
-    refused-first t.result _ _ t.ensures c.enum-told2.given.1
+    refused_first t.result _ _ t.ensures c.enum-told2.given.1
 
 -- past the tests of the image and the state
 ready : (c : tie.After-enum-told)
-    → let a = c.before.before.before.before.before.before.args in readyTest a.image.now a.state.now ≡ Passed
+    → let a = c.before.before.before.before.before.before.args in ready_test a.image.now a.state.now ≡ Passed
 ready c = sym c.before.before.ready-test.ensures ∙ c.enum_told.given.1
 
 trace-test-requires : tie.Need-trace-test-requires
@@ -41,13 +41,13 @@ enum-told-4 : tie.Need-enum-told-4
 enum-told-4 c = search rules
 
 returns-2 : tie.Need-returns-2
-unfolding runTest
+unfolding run_test
 returns-2 c =
     let t = c.before.before.trace-test in
-    rw (ready c.before.before.before) (refused-first t.result _ _ t.ensures c.enum-told4.given.1)
+    rw (ready c.before.before.before) (refused_first t.result _ _ t.ensures c.enum-told4.given.1)
 
 get4-requires : tie.Need-get4-requires
-get4-requires c κs = let h = ready-head _ _ (ready c.before.before.before) in omega arith
+get4-requires c κs = let h = ready_head _ _ (ready c.before.before.before) in omega arith
 
 period-records-requires : tie.Need-period-records-requires
 period-records-requires c κs = search rules
@@ -56,11 +56,11 @@ count-test-requires : tie.Need-count-test-requires
 count-test-requires c κs = search rules
 
 returns-3 : tie.Need-returns-3
-unfolding runTest state_of
+unfolding run_test state_of
 returns-3 c =
     let t = c.before.before.before.before.before.trace-test in
     rw (ready c.before.before.before.before.before.before, ← t.ensures, c.before.before.before.enum-told3.given.1, ← c.before.before.get4.ensures.is)
-    (c.count-test.ensures ∙ ap (countTest _) c.before.period-records.ensures)
+    (c.count_test_lem.ensures ∙ ap (count_test _) c.before.period-records.ensures)
 
 pub run-test-spec : {M : Type 1} → statement M
 run-test-spec =

@@ -4,13 +4,13 @@ use native.Mathlib.Numerals.{add-one}
 use native.Mathlib.Omega.{arith}
 use mathlib.Core.Path.{◌≡◌, refl, sym, ◌∙◌}
 use lib.ListN.{length, drop}
-use Rattle.states.specs.States.{allAtMost}
-use Rattle.states.proofs.Values.{scan_step, scan-fails, scan-ends}
+use Rattle.states.specs.States.{all_at_most}
+use Rattle.states.proofs.Values.{scan_step, scan_fails, scan_ends}
 use Rattle.states.proofs.all_at_most.Statement.{statement}
 use Rattle.states.proofs.all_at_most.Tie as tie
 
 abbrev invariant-loop : tie.invariant-loop
-invariant-loop values top k₀ k = (k ≤ length values) × (allAtMost top values ≡ allAtMost top (drop k values))
+invariant-loop values top k₀ k = (k ≤ length values) × (all_at_most top values ≡ all_at_most top (drop k values))
 
 abbrev decreases-loop : tie.decreases-loop
 decreases-loop values top k₀ k = length values - k
@@ -25,7 +25,7 @@ returns : tie.Need-returns invariant-loop decreases-loop
 returns c =
     let a = c.before.before.before.before.args in
     let l = c.before.before.before.loop in
-    sym (l.invariant.1 ∙ scan-fails a.top a.values.now l.k (omega arith) (omega arith))
+    sym (l.invariant.1 ∙ scan_fails a.top a.values.now l.k (omega arith) (omega arith))
 
 add-k : tie.Need-overflow-add-k invariant-loop decreases-loop
 add-k c = omega arith
@@ -43,7 +43,7 @@ returns-2 : tie.Need-returns-2 invariant-loop decreases-loop
 returns-2 c =
     let a = c.before.before.args in
     let l = c.before.loop in
-    sym (l.invariant.1 ∙ scan-ends a.top a.values.now l.k (omega arith))
+    sym (l.invariant.1 ∙ scan_ends a.top a.values.now l.k (omega arith))
 
 pub all-at-most-spec : {M : Type 1} → statement M
 all-at-most-spec =

@@ -3,8 +3,8 @@ use borrow.Author.Rules.{rules}
 use Prim.Native.Nat.{◌+◌}
 use native.Mathlib.Omega.{arith}
 use borrow.Author.Tests.{lt-leb, le-leb}
-use Rattle.states.specs.Limits.{maxPeriods}
-use Rattle.states.specs.Refusals.{countTest}
+use Rattle.states.specs.Limits.{max_periods}
+use Rattle.states.specs.Refusals.{count_test}
 use Rattle.states.proofs.count_test.Statement.{statement}
 use Rattle.states.proofs.count_test.Tie as tie
 
@@ -15,16 +15,16 @@ cast-left : tie.Need-overflow-cast-left
 cast-left c = search rules
 
 returns : tie.Need-returns
-unfolding countTest
+unfolding count_test
 returns c =
     let a = c.before.args in
-    rw (lt-leb (a.taken + a.n) maxPeriods (omega arith))
+    rw (lt-leb (a.taken + a.n) max_periods (omega arith))
 
 returns-2 : tie.Need-returns-2
-unfolding countTest
+unfolding count_test
 returns-2 c =
     let a = c.before.args in
-    rw (le-leb (a.taken + a.n) maxPeriods (omega arith))
+    rw (le-leb (a.taken + a.n) max_periods (omega arith))
 
 pub count-test-spec : {M : Type 1} → statement M
 count-test-spec = tie.close (tie.spec sub-left cast-left returns returns-2)

@@ -9,8 +9,8 @@ use Rattle.records.proofs.get4.Reads as get4-reads
 use Rattle.records.proofs.widened.Reads as widened-reads
 use Rattle.states.proofs.sound_head.Reads as sound-head-reads
 use Rattle.states.proofs.all_at_most.Reads as all-at-most-reads
-use Rattle.states.proofs.Soundness.{HeadSound, unsound-head, sound-none-taken, sound-some-taken}
-use Rattle.records.proofs.Written.{part-rest}
+use Rattle.states.proofs.Soundness.{HeadSound, unsound_head, sound_none_taken, sound_some_taken}
+use Rattle.records.proofs.Written.{part_rest}
 use Rattle.states.proofs.sound.Statement.{statement}
 use Rattle.states.proofs.sound.Tie as tie
 use Rattle.states.proofs.sound.Reads as reads
@@ -39,16 +39,16 @@ sound-head-requires c κs = search rules
 
 -- whether the head is sound
 head-tested : (c : lts.After-sound-head (get4-reads.Asked, get4-reads.Learnt, widened-reads.Asked, widened-reads.Learnt, sound-head-reads.Asked, sound-head-reads.Learnt, all-at-most-reads.Asked, all-at-most-reads.Learnt) reads.Pre reads.Post)
-    → (c.sound-head.result ≡ true) ↔ HeadSound c.before.before.before.before.before.before.before.before.args.state.now
+    → (c.sound_head.result ≡ true) ↔ HeadSound c.before.before.before.before.before.before.before.before.args.state.now
 head-tested c =
     rw (← c.before.before.before.before.widened.ensures.0, ← c.before.before.widened2.ensures.0, ← c.before.before.before.before.before.before.get4.ensures.is, ← c.before.get42.ensures.is)
-    c.sound-head.ensures
+    c.sound_head.ensures
 
 returns : tie.Need-returns
 returns c =
     let l = c.before.before.before.before.before.before.before.before.before.args.state.now in
-    let t = not-true c.before.sound-head.result c.if1.true in
-    sym (unsound-head l (λ h. false≢true (sym t ∙ (head-tested c.before).1 h)))
+    let t = not-true c.before.sound_head.result c.if1.true in
+    sym (unsound_head l (λ h. false≢true (sym t ∙ (head-tested c.before).1 h)))
 
 sub-all-at-most : tie.Need-overflow-sub-all-at-most
 sub-all-at-most c = search rules
@@ -77,15 +77,15 @@ all-at-most-requires-2 c κs = search rules
 returns-2 : tie.Need-returns-2
 returns-2 c =
     let l = c.before.before.before.before.before.before.before.before.before.before.before.before.args.state.now in
-    let t = not-false c.before.before.before.before.sound-head.result c.before.before.before.if1.false in
-    c.all-at-most.ensures ∙ rw part-rest (sym (sound-none-taken l ((head-tested c.before.before.before.before).0 t) (cc)))
+    let t = not-false c.before.before.before.before.sound_head.result c.before.before.before.if1.false in
+    c.all-at-most.ensures ∙ rw part_rest (sym (sound_none_taken l ((head-tested c.before.before.before.before).0 t) (cc)))
 
 returns-3 : tie.Need-returns-3
 returns-3 c =
     let l = c.before.before.before.before.before.before.before.before.before.before.before.before.args.state.now in
-    let t = not-false c.before.before.before.before.sound-head.result c.before.before.before.if1.false in
+    let t = not-false c.before.before.before.before.sound_head.result c.before.before.before.if1.false in
     let e : field l 2 4 ≡ 0 → ⊥ = λ z. c.before.before.if2.false (cc) in
-    c.all-at-most2.ensures ∙ rw part-rest (sym (sound-some-taken l ((head-tested c.before.before.before.before).0 t) e))
+    c.all-at-most2.ensures ∙ rw part_rest (sym (sound_some_taken l ((head-tested c.before.before.before.before).0 t) e))
 
 pub sound-spec : {M : Type 1} → statement M
 sound-spec =

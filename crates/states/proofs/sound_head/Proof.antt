@@ -5,7 +5,7 @@ use mathlib.Core.Logic.{◌↔◌, ⊎_elim}
 use mathlib.Core.Path.{◌≡◌, ◌∙◌}
 use lib.Dec.{eqb, ltb, leb}
 use borrow.Author.Tests.{eq-eqb, ne_eqb, lt-ltb, le-ltb}
-use Rattle.states.proofs.Soundness.{undecided-iff, satisfied-iff, violated-iff, outcome≤}
+use Rattle.states.proofs.Soundness.{undecided_iff, satisfied_iff, violated_iff, outcome≤}
 use Rattle.states.proofs.sound_head.Statement.{statement}
 use Rattle.states.proofs.sound_head.Tie as tie
 use Rattle.states.proofs.sound_head.Reads as reads
@@ -18,12 +18,12 @@ tells h e = rw e h
 returns : tie.Need-returns
 returns c =
     let a = c.before.before.args in
-    rw c.before.match.keys1 (tells (undecided-iff a.blame a.periods a.decision) (rw (eq-eqb a.blame 0 c.if1.true)))
+    rw c.before.match.keys1 (tells (undecided_iff a.blame a.periods a.decision) (rw (eq-eqb a.blame 0 c.if1.true)))
 
 returns-2 : tie.Need-returns-2
 returns-2 c =
     let a = c.before.before.args in
-    rw c.before.match.keys1 (tells (undecided-iff a.blame a.periods a.decision) (rw (ne_eqb a.blame 0 c.if1.false)))
+    rw c.before.match.keys1 (tells (undecided_iff a.blame a.periods a.decision) (rw (ne_eqb a.blame 0 c.if1.false)))
 
 -- the first two tests of outcome 1
 one-joined : (c : lts.Joined2 reads.Pre reads.Post) → c.if2.if3 ≡ eqb c.before.before.args.blame 0 && ltb 0 c.before.before.args.decision
@@ -35,13 +35,13 @@ returns-3 : tie.Need-returns-3
 returns-3 c =
     let a = c.before.before.before.args in
     rw c.before.before.match.keys2
-    (tells (satisfied-iff a.blame a.periods a.decision) (rw (← one-joined c.before, c.if3.true)))
+    (tells (satisfied_iff a.blame a.periods a.decision) (rw (← one-joined c.before, c.if3.true)))
 
 returns-4 : tie.Need-returns-4
 returns-4 c =
     let a = c.before.before.before.args in
     rw c.before.before.match.keys2
-    (tells (satisfied-iff a.blame a.periods a.decision) (rw (← one-joined c.before, c.if3.false)))
+    (tells (satisfied_iff a.blame a.periods a.decision) (rw (← one-joined c.before, c.if3.false)))
 
 -- the first two tests of outcome 2, and the first three
 two-joined : (c : lts.Joined4 reads.Pre reads.Post) → c.if4.if5 ≡ ltb 0 c.before.before.args.blame && leb c.before.before.args.blame 3
@@ -57,13 +57,13 @@ returns-5 : tie.Need-returns-5
 returns-5 c =
     let a = c.before.before.before.before.args in
     rw c.before.before.before.match.keys3
-    (tells (violated-iff a.blame a.periods a.decision) (rw (← two-joined c.before.before, ← three-joined c.before, c.if6.true)))
+    (tells (violated_iff a.blame a.periods a.decision) (rw (← two-joined c.before.before, ← three-joined c.before, c.if6.true)))
 
 returns-6 : tie.Need-returns-6
 returns-6 c =
     let a = c.before.before.before.before.args in
     rw c.before.before.before.match.keys3
-    (tells (violated-iff a.blame a.periods a.decision) (rw (← two-joined c.before.before, ← three-joined c.before, c.if6.false)))
+    (tells (violated_iff a.blame a.periods a.decision) (rw (← two-joined c.before.before, ← three-joined c.before, c.if6.false)))
 
 returns-7 : tie.Need-returns-7
 returns-7 c =

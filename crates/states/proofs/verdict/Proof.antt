@@ -31,7 +31,7 @@ not-ahead : (c : lts.After-get42 (get4-reads.Asked, get4-reads.Learnt) reads.Pre
 unfolding state_of
 not-ahead c =
     le-ltb c.get42.result c.before.get4.result
-    (omega (arith, c.get42.ensures.is, c.before.get4.ensures.is, c.before.before.before.before.before.requires.decided-by-now))
+    (omega (arith, c.get42.ensures.is, c.before.get4.ensures.is, c.before.before.before.before.before.requires.decided_by_now))
 
 returns-2 : tie.Need-returns-2
 unfolding state_of

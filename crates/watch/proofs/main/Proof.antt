@@ -3,7 +3,7 @@ use borrow.Author.Rules.{rules}
 use native.Mathlib.Omega.{arith}
 use mathlib.Core.Path.{sym}
 use lib.Seq.{length-take-le}
-use Rattle.report.proofs.Texts.{puts-length}
+use Rattle.report.proofs.Texts.{puts_length}
 use Rattle.watch.proofs.main.Statement.{statement}
 use Rattle.watch.proofs.main.Tie as tie
 
@@ -32,10 +32,10 @@ put-report-requires : tie.Need-put-report-requires
 put-report-requires c κs = search rules
 
 array-share-prefix-text : tie.Need-array-share-prefix-text
-array-share-prefix-text c = let e = c.put-report.ensures in omega (arith, e.fits, puts-length e)
+array-share-prefix-text c = let e = c.put-report.ensures in omega (arith, e.fits, puts_length e)
 
 slice-aggregate-write-all-2 : tie.Need-slice-aggregate-write-all-2
-slice-aggregate-write-all-2 c = let e = c.before.put-report.ensures in sym (length-take-le _ _ (omega (arith, e.fits, puts-length e)))
+slice-aggregate-write-all-2 c = let e = c.before.put-report.ensures in sym (length-take-le _ _ (omega (arith, e.fits, puts_length e)))
 
 write-all-requires-2 : tie.Need-write-all-requires-2
 write-all-requires-2 c κs = search rules
