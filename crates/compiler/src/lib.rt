@@ -1,5 +1,7 @@
 // Compile: reads a contract and writes the image that monitors it. Document 01, "Image and row machine" and "Calls"; of windows
 // document 02, "Duties with a deadline".
+#![tactic(auto)]
+
 ghost use Rattle.std.specs.Prelude.{◌≡◌};
 ghost use Rattle.std.proofs.lemmas.List.Edits.{sets};
 ghost use Rattle.layout.specs.Images.{row_count};

@@ -1,4 +1,6 @@
 // Decide: reads a trace from its first record to the decision. Document 02, "Stop reading once it is decided".
+#![tactic(auto)]
+
 ghost use Rattle.std.specs.Prelude.{◌≡◌, ◌≤◌, length};
 ghost use Rattle.std.proofs.lemmas.List.Edits.{sets};
 ghost use Rattle.records.specs.Replies.{reply_of, Gives};

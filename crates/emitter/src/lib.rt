@@ -1,4 +1,6 @@
 // Writes the rows of a contract's clause. Document 01, "Image and row machine".
+#![tactic(auto)]
+
 ghost use Rattle.std.specs.Prelude.{◌≡◌, cond, [], map, ◌+◌, ◌*◌, ◌-◌, ◌^◌, ◌<◌, ◌≤◌, length, get_or};
 ghost use Rattle.std.proofs.Math.Option.{some};
 ghost use Rattle.records.specs.Holding.{AllBelow};
@@ -215,7 +217,7 @@ const PERIOD_ROWS: u32 = 3;
 const LEAF_COUNT: u8 = 55;
 
 // A row of a record's own: its kind and its fields x and y.
-#[derive(Drop)]
+#[derive(Clone, Copy)]
 pub struct TableRow {
     pub kind: u8,
     pub x: u8,
@@ -238,7 +240,7 @@ fn table_row(table: &[u32], j: u8) -> TableRow
 // ---- the plan of each record
 
 // The bytes of a record after its mark.
-#[derive(Drop)]
+#[derive(Clone, Copy)]
 pub struct RecordBody {
     pub kind: u8,
     pub party: u8,
@@ -262,7 +264,7 @@ fn last_record(contract: &[u8], n: usize) -> RecordBody
 }
 
 // A line of the table of plans, in the order of a plan's fields.
-#[derive(Drop)]
+#[derive(Clone, Copy)]
 pub struct PlanLine(
     pub u8,
     pub u8,
@@ -301,7 +303,7 @@ const PLANS: [PlanLine; 18] = [
 // rows that tell the right operand when it begins to read (start) and when it goes on (go), and the left operand when it goes on (keep; it
 // begins with the whole); and the rows that the block gives out, of a literal and of a deadline with its own party's blame as `one` and the
 // other's as `two`, and party 1's and party 2's where both own a duty.
-#[derive(Drop)]
+#[derive(Clone, Copy)]
 pub struct Plan {
     pub from: u8,
     pub before: u8,
@@ -369,7 +371,7 @@ fn plan_of(r: RecordBody) -> Plan
 // gives out, and the tree's code as an operand. Of a clause `sat` is that it is satisfied, `one` that it is violated with party 1, `two` with
 // party 2 to blame; of an expression they are the end of a list, that one may go on, and never; of a window's later periods `earlier`, `missed`
 // and never.
-#[derive(Drop)]
+#[derive(Clone, Copy)]
 pub struct Block {
     pub before: usize,
     pub next: u32,
@@ -588,7 +590,7 @@ fn put_window(image: &mut [u8], before: usize, at: u32, window: u8) -> Block
 // ---- the rows of a tree
 
 // The rows that tell a record's operands when they read: the right one when it begins and when it goes on, the left one when it goes on.
-#[derive(Drop)]
+#[derive(Clone, Copy)]
 pub struct Wires {
     pub start: u32,
     pub go: u32,

@@ -3,6 +3,8 @@
 // Labels: D duty, B ban, P power, with party and action; & both, ; then, / repair, R repeat, W when, U until; A any, T tries; . seq, * star.
 // "a/b" is one period, party 1 before the slash; "-" is no attempt.
 
+#![tactic(auto)]
+
 fn put(bytes: &[u8]) {
     io::write_all(libc::STDOUT_FILENO, bytes);
 }

@@ -1,4 +1,6 @@
 // Join: makes one trace of the two parties' logs. Document 02, "Join the two parties' logs".
+#![tactic(auto)]
+
 ghost use Rattle.std.specs.Prelude.{◌≡◌, ◌+◌, ◌*◌, ◌^◌, ◌<◌, ◌≤◌, length};
 ghost use Rattle.std.proofs.lemmas.List.Edits.{sets};
 ghost use Rattle.records.specs.declared.Test.TheVariants.{Passed};

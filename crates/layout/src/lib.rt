@@ -1,4 +1,6 @@
 // The image: rows, their bytes, the end record, and refusal 9. Document 01, "Image and row machine".
+#![tactic(auto)]
+
 ghost use Rattle.std.specs.Prelude.{◌≡◌, ◌+◌, ◌*◌, ◌≤◌, length};
 ghost use Rattle.std.proofs.lemmas.List.Edits.{sets};
 ghost use Rattle.records.specs.Refusals.{first_failing};

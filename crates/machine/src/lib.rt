@@ -1,4 +1,6 @@
 // The row machine: the periods that a state takes. Document 01, "Image and row machine".
+#![tactic(auto)]
+
 ghost use Rattle.std.specs.Prelude.{◌≡◌, true, false, ◌*◌, ◌<◌, ◌≤◌, length, get_or};
 ghost use Rattle.std.proofs.Math.Option;
 ghost use Rattle.periods.specs.Computing.{period_of};

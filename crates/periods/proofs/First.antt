@@ -74,7 +74,8 @@ module _ (trace : List ℕ) (k : ℕ) (h : k ≤ period_records trace) where
   pub first_periods : (j : ℕ) → j ≤ k → trace_periods front j ≡ trace_periods trace j
   unfolding periods_of
   first_periods zero i = refl
-  first_periods (suc j) i = rw (first_form (omega arith)) (part_periods form trace k h (suc j) i)
+  first_periods (suc j) i =
+      rw (first_periods j (omega arith), first_form (omega arith), part_at form trace k h j i)
 
   first_bytes : length front ≡ period_bytes (form_of front) * k
   first_bytes =

@@ -1,5 +1,7 @@
 // Periods: the period record in its forms, both parties' attempts, and traces of such records with refusal 11. Document 01, "Records"
 // and "Replies that refuse"; document 02, "Thirty-two actions".
+#![tactic(auto)]
+
 ghost use Rattle.std.specs.Prelude.{◌≡◌, ◌+◌, ◌*◌, ◌<◌, ◌≤◌, ltb, length};
 ghost use Rattle.records.specs.Holding.{HoldsField};
 ghost use Rattle.records.specs.Marks.{marked};
@@ -16,7 +18,7 @@ use records::{Fault, Test};
 pub const ACTIONS: u32 = 32;
 
 // Both parties' attempts in a period: a mask each, whose bit a is set when the party tries action a.
-#[derive(Drop)]
+#[derive(Clone, Copy)]
 pub struct Attempts {
     pub one: u32,
     pub two: u32,
@@ -51,7 +53,7 @@ pub fn tried(a: Attempts, party: u32, action: u32) -> bool
 
 // ---- the form of a period record
 
-#[derive(Drop)]
+#[derive(Clone, Copy)]
 pub enum Form {
     Narrow,
     Wide,

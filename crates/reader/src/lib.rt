@@ -1,6 +1,8 @@
 // The reader, which takes the bytes of a contract or refuses them. Document 01, "Records" and "Replies that refuse"; of
 // windows document 02, "Duties with a deadline"; of a duty's owner document 02, "Duties that both parties own"; of the count of
 // pending operands document 02, "A byte for pending operands".
+#![tactic(auto)]
+
 ghost use Rattle.std.specs.Prelude.{◌≡◌, cond, [], ◌+◌, ◌-◌, ◌≤◌, ltb, length, get_or};
 ghost use Rattle.grammar.specs.Limits.{max_records, record_bytes};
 ghost use Rattle.grammar.specs.Table.{range, within, kind_of};
@@ -83,14 +85,14 @@ const TABLE: [u32; 18] = [
 ];
 
 // The least and the greatest number that a field may be.
-#[derive(Drop)]
+#[derive(Clone, Copy)]
 pub struct Range {
     pub least: u8,
     pub greatest: u8,
 }
 
 // What a line says of its kind.
-#[derive(Drop)]
+#[derive(Clone, Copy)]
 pub struct Entry {
     pub operands: u8,
     pub first: u8,
@@ -123,7 +125,7 @@ fn unpacked_line(line: u32) -> Entry
 }
 
 // What the table has for a kind's number.
-#[derive(Drop)]
+#[derive(Clone, Copy)]
 pub enum Lookup {
     Found(Entry),
     Unknown,
@@ -223,7 +225,7 @@ pub fn completed(kind: u8, below: u8, top: u8) -> u8
 }
 
 // What a record does to the stack: a fault, or so many operands replaced by one of this code.
-#[derive(Drop)]
+#[derive(Clone, Copy)]
 pub enum Step {
     Refused(Fault),
     Completed(u8, u8),

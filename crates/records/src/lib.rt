@@ -1,4 +1,6 @@
 // Little-endian fields of byte slices, the marks of the records, refusals and replies. Document 01, "Records" and "Replies that refuse".
+#![tactic(auto)]
+
 ghost use Rattle.std.specs.Prelude.{◌≡◌, [], ◌∷◌, ◌+◌, ◌<◌, ◌≤◌, length, get_or};
 ghost use Rattle.std.proofs.lemmas.List.Edits.{sets};
 ghost use Rattle.records.specs.Fields.{bytes};
@@ -102,7 +104,7 @@ pub fn put_mark(s: &mut [u8], at: usize, mark: [u8; 2])
 // ---- refusals
 
 // Document 01's table, in its order, and what document 02 adds to it.
-#[derive(Drop)]
+#[derive(Clone, Copy)]
 pub enum Fault {
     BadLength,
     BadMark,
@@ -123,7 +125,7 @@ pub enum Fault {
 }
 
 // What a call's tests find: all passed, or the first refusal, a fault at a place.
-#[derive(Drop)]
+#[derive(Clone, Copy)]
 pub enum Test {
     Passed,
     Refused(Fault, usize),
@@ -179,7 +181,7 @@ pub fn place(t: Test) -> u64
 pub const REPLY_HEAD: usize = 16;
 
 // These fields.
-#[derive(Drop)]
+#[derive(Clone, Copy)]
 pub struct Head {
     pub number: u32,
     pub own: u32,

@@ -1,5 +1,7 @@
 // The report that `watch` prints: the input split into contract and trace, and the lines. Document 01, "Watch"; document 02,
 // "Thirty-two actions".
+#![tactic(auto)]
+
 ghost use Rattle.std.specs.Prelude.{◌≡◌, ◌+◌, ◌*◌, ◌≤◌, ◌<◌, length};
 ghost use Rattle.records.specs.Verdicts.{Verdict, verdict_number, verdict_name};
 ghost use Rattle.records.specs.Refusals.{first_failing};
@@ -153,7 +155,7 @@ fn compile(contract: &[u8], image: &mut [u8]) -> Head
     records::get_head(&reply)
 }
 
-#[derive(Drop)]
+#[derive(Clone, Copy)]
 pub struct Stepped {
     pub verdict: u32,
     pub blame: u32,

@@ -1,4 +1,6 @@
 // The runner: begins a state for an image, and takes periods. Document 01, "Calls".
+#![tactic(auto)]
+
 ghost use Rattle.std.specs.Prelude.{◌≡◌, ◌≤◌, length, replicate};
 ghost use Rattle.std.proofs.lemmas.List.Edits.{sets};
 ghost use Rattle.records.specs.Replies.{reply_of, Gives};

@@ -1,4 +1,6 @@
 // States: their bytes, whether they are sound, and the verdicts that they show. Document 01, "Image and row machine", from "State".
+#![tactic(auto)]
+
 ghost use Rattle.std.specs.Prelude.{◌≡◌, true, ◌↔◌, ◌^◌, ◌<◌, ◌≤◌, length};
 ghost use Rattle.records.specs.Verdicts.{verdict_number};
 ghost use Rattle.states.specs.Limits.{head_bytes};
