@@ -118,6 +118,7 @@ grows : (w : List Period) (p : Period) (r r' : Option ℕ) → Grown (length w) 
     × (cond (not (is_at r (length w))) (extend p (unless_past r w)) none ≡ unless_past r' (w ++ (p ∷ [])))
 grows w p none none waiting = (refl, refl)
 grows w p none (some k) happening = rw (length-snoc w p, le-ltb (suc (length w)) (suc (length w)) (le_refl (suc (length w)))) (refl, refl)
+grows w p (some j) none g = elim g [ ]
 grows w p (some j) (some k) just =
     rw (
       eq-eqb (length w) (length w) refl,

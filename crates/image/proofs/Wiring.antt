@@ -126,7 +126,7 @@ missed_unmet x false e = refl
 missed_unmet true true e = absurd (false≢true e)
 missed_unmet false true e = absurd (false≢true e)
 
-last_unmet : {a n : ℕ} {K missed earlier last : Signal} → Window a K n missed earlier last
+last_unmet : {a : ℕ} {K : Signal} {n : ℕ} {missed earlier last : Signal} → Window a K n missed earlier last
     → ((p : Period) (h : List Period) → missed p h ≡ true → Periods.succeeds p a ≡ false)
     → (p : Period) (h : List Period) → last p h ≡ true → Periods.succeeds p a ≡ false
 last_unmet (at_last e l) m p h i = m p h (sym (l p h) ∙ i)
