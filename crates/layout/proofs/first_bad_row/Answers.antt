@@ -1,4 +1,4 @@
--- `layout::first_bad_row` meets its contract. The loop's invariant: the search from k on finds what the whole search finds.
+-- `layout::first_bad_row` meets its contract: each step of the loop is a step of the search.
 use native.Mathlib.Nat.{sub-zero}
 use native.Mathlib.Omega.{arith}
 use mathlib.Core.Path.{sym, ◌∙◌}

@@ -1,4 +1,4 @@
--- `layout::first_bad_row` meets its contract. The loop's invariant: the search from k on finds what the whole search finds.
+-- The invariant of the loop of `layout::first_bad_row`: the search from k on finds what the whole search finds.
 use Prim.Native.Nat.{◌≤◌, ◌-◌}
 use mathlib.Core.Path.{◌≡◌}
 use Rattle.records.specs.Refusals.{first_failing}
