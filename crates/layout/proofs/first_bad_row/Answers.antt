@@ -1,10 +1,7 @@
--- `layout::first_bad_row` meets its contract. The loop's invariant: the search from k on finds what the whole search finds.
-use borrow.Author.Tests.{not-true, not-false}
-use Prim.Native.Nat.{◌≤◌, ◌-◌}
+-- `layout::first_bad_row` meets its contract: each step of the loop is a step of the search.
 use native.Mathlib.Nat.{sub-zero}
 use native.Mathlib.Omega.{arith}
-use mathlib.Core.Path.{◌≡◌, sym, ◌∙◌}
-use Rattle.records.specs.Refusals.{first_failing}
+use mathlib.Core.Path.{sym, ◌∙◌}
 use Rattle.records.proofs.Searches.{failing_next, failing_here, failing_end}
 use Rattle.layout.specs.Images.{good_row_at}
 use Rattle.layout.proofs.first_bad_row.Goals as goal
@@ -14,20 +11,17 @@ loop-k-init c = (omega arith, rw sub-zero)
 
 pub returns-then-not-good_row_at : goal.returns-then-not-good_row_at
 returns-then-not-good_row_at c =
-    let d = c in
-    let a = d.args in
-    sym (failing_here (good_row_at a.image.now a.n) d.loop-k.k a.n c.loop-k-test.true (sym c.good_row_at.ensures ∙ c.if-not-good_row_at.true)) ∙ d.loop-k.invariant.1
+    let a = c.args in
+    sym (failing_here (good_row_at a.image.now a.n) c.loop-k.k a.n c.loop-k-test.true (sym c.good_row_at.ensures ∙ c.if-not-good_row_at.true)) ∙ c.loop-k.invariant.1
 
 pub loop-k-preserved : goal.loop-k-preserved
 loop-k-preserved c =
-    let d = c in
-    let a = d.args in (
+    let a = c.args in (
       omega arith,
-      sym (failing_next (good_row_at a.image.now a.n) d.loop-k.k a.n c.loop-k-test.true (sym c.good_row_at.ensures ∙ c.if-not-good_row_at.false)) ∙ d.loop-k.invariant.1,
+      sym (failing_next (good_row_at a.image.now a.n) c.loop-k.k a.n c.loop-k-test.true (sym c.good_row_at.ensures ∙ c.if-not-good_row_at.false)) ∙ c.loop-k.invariant.1,
     )
 
 pub returns : goal.returns
 returns c =
-    let d = c in
-    let a = d.args in
-    sym (failing_end (good_row_at a.image.now a.n) d.loop-k.k a.n c.loop-k-test.false) ∙ d.loop-k.invariant.1
+    let a = c.args in
+    sym (failing_end (good_row_at a.image.now a.n) c.loop-k.k a.n c.loop-k-test.false) ∙ c.loop-k.invariant.1

@@ -1,11 +1,7 @@
--- `layout::first_bad_row` meets its contract. The loop's invariant: the search from k on finds what the whole search finds.
-use borrow.Author.Tests.{not-true, not-false}
+-- The invariant of the loop of `layout::first_bad_row`: the search from k on finds what the whole search finds.
 use Prim.Native.Nat.{◌≤◌, ◌-◌}
-use native.Mathlib.Nat.{sub-zero}
-use native.Mathlib.Omega.{arith}
-use mathlib.Core.Path.{◌≡◌, sym, ◌∙◌}
+use mathlib.Core.Path.{◌≡◌}
 use Rattle.records.specs.Refusals.{first_failing}
-use Rattle.records.proofs.Searches.{failing_next, failing_here, failing_end}
 use Rattle.layout.specs.Images.{good_row_at}
 use Rattle.layout.proofs.first_bad_row.Given as goal
 

@@ -1,5 +1,5 @@
 -- `layout::good_row_at` meets its contract: the mark, the zero byte, then the row of the kind and the fields that are read.
-use borrow.Author.Tests.{eq-eqb, ne_eqb, not-true, not-false}
+use borrow.Author.Tests.{eq-eqb, ne_eqb}
 use Rattle.layout.specs.Rows.{decode}
 use Rattle.layout.specs.Images.{good_row_at}
 use Rattle.layout.proofs.good_row_at.Goals as goal
@@ -16,8 +16,5 @@ returns-then-image-at-ne0 c =
 pub returns : goal.returns
 unfolding good_row_at decode
 returns c =
-    let g = c in
-    let e = g in
-    let m = e in
-    rw (← m.marked.ensures, m.if-not-marked.false, eq-eqb _ _ e.if-image-at-ne0.false, ← g.get2.ensures.is, ← c.get2-2.ensures.is)
+    rw (← c.marked.ensures, c.if-not-marked.false, eq-eqb _ _ c.if-image-at-ne0.false, ← c.get2.ensures.is, ← c.get2-2.ensures.is)
     c.good_row.ensures

@@ -18,9 +18,5 @@ end-written l i sat one two = simp (sets-append, length-bytes, add_assoc)
 
 pub returns : goal.returns
 returns c =
-    let p = c in
-    let q = p in
-    let r = q in
-    let m = r in
-    let a = m.args in
-    rw (p.put2-3.ensures, q.put2-2.ensures, r.put2.ensures, m.put_mark.ensures) (sym (end-written a.image.now (row_bytes * a.rows) a.sat a.one a.two))
+    let a = c.args in
+    rw (c.put2-3.ensures, c.put2-2.ensures, c.put2.ensures, c.put_mark.ensures) (sym (end-written a.image.now (row_bytes * a.rows) a.sat a.one a.two))

@@ -30,20 +30,7 @@ put2-requires c = simp length-set (omega arith)
 pub put2-requires-2 : goal.put2-requires-2
 put2-requires-2 c = rw (c.put2.ensures, length-sets) (simp length-set (omega arith))
 
--- NOT PLACED same_length : same-length
--- same_length : tie.Need-same-length
--- same_length c =
---     let p = c.before.before in
---     let q = p.before.before.before.before in
---     let m = q.before.before.before.before in
---     let a = m.before.before.before.args in
---     rw (p.put22.ensures, length-sets, q.put2.ensures, length-sets)
---     (simp length-set (rw m.put-mark.ensures (length-sets a.image.now (row_bytes * a.at) row_mark)))
-
 pub returns : goal.returns
 returns c =
-    let p = c in
-    let q = p in
-    let m = q in
-    let a = m.args in
-    rw (p.put2-2.ensures, q.put2.ensures, m.put_mark.ensures) (sym (row_written a.image.now (row_bytes * a.at) a.kind a.x a.y))
+    let a = c.args in
+    rw (c.put2-2.ensures, c.put2.ensures, c.put_mark.ensures) (sym (row_written a.image.now (row_bytes * a.at) a.kind a.x a.y))
