@@ -1,10 +1,7 @@
 -- `states::all_at_most` meets its contract: at value k the values are all at most `top` as those from k on are.
-use Prim.Native.Nat.{◌≤◌, ◌-◌}
 use native.Mathlib.Numerals.{add-one}
 use native.Mathlib.Omega.{arith}
-use mathlib.Core.Path.{◌≡◌, refl, sym, ◌∙◌}
-use lib.ListN.{length, drop}
-use Rattle.states.specs.States.{all_at_most}
+use mathlib.Core.Path.{refl, sym, ◌∙◌}
 use Rattle.states.proofs.Values.{scan_step, scan_fails, scan_ends}
 use Rattle.states.proofs.all_at_most.Goals as goal
 

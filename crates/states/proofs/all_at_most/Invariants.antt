@@ -1,11 +1,8 @@
 -- `states::all_at_most` meets its contract: at value k the values are all at most `top` as those from k on are.
 use Prim.Native.Nat.{◌≤◌, ◌-◌}
-use native.Mathlib.Numerals.{add-one}
-use native.Mathlib.Omega.{arith}
-use mathlib.Core.Path.{◌≡◌, refl, sym, ◌∙◌}
+use mathlib.Core.Path.{◌≡◌}
 use lib.ListN.{length, drop}
 use Rattle.states.specs.States.{all_at_most}
-use Rattle.states.proofs.Values.{scan_step, scan_fails, scan_ends}
 use Rattle.states.proofs.all_at_most.Given as goal
 
 abbrev pub invariant-loop-k : goal.invariant-loop-k

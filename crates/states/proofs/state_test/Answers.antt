@@ -1,15 +1,10 @@
 -- `states::state_test` meets its contract: the length, and then whether the state is sound.
 use native.Mathlib.Omega.{arith}
 use mathlib.Core.Path.{◌≡◌, sym, ◌∙◌}
-use borrow.Author.Tests.{not-true, not-false}
 use Rattle.records.specs.declared.Test.TheVariants.{Passed}
 use Rattle.records.proofs.Refusals.{refused_first}
 use Rattle.states.specs.Refusals.{state_length_test, state_test}
 use Rattle.states.proofs.Refusals.{length-passed}
-use Rattle.states.proofs.state_test.Reads as reads
-use Rattle.states.proofs.state_test.Lts as lts
-use Rattle.states.proofs.length_test.Reads as length-test-reads
-use Rattle.states.proofs.sound.Reads as sound-reads
 use Rattle.states.proofs.state_test.Goals as goal
 
 pub returns-in_default : goal.returns-in_default
@@ -18,20 +13,22 @@ returns-in_default c =
     let t = c.length_test-t in
     refused_first t.result _ _ t.ensures c.in_default.is
 
--- past the test of its length
-passed : (c : lts.After-enum-told (length-test-reads.Asked, length-test-reads.Learnt, sound-reads.Asked, sound-reads.Learnt) reads.Pre reads.Post)
-    → let a = c.args in state_length_test a.n a.state.now ≡ Passed
-passed c = sym c.length_test-t.ensures ∙ c.in-Passed.is
-
 pub sound-requires : goal.sound-requires
 sound-requires c =
     let a = c.args in
-    omega (arith, length-passed a.n a.state.now (passed c))
+    let passed : state_length_test a.n a.state.now ≡ Passed = sym c.length_test-t.ensures ∙ c.in-Passed.is in
+    omega (arith, length-passed a.n a.state.now passed)
 
 pub returns-then-not-sound : goal.returns-then-not-sound
 unfolding state_test
-returns-then-not-sound c = rw (passed c, ← c.sound.ensures, c.if-not-sound.true)
+returns-then-not-sound c =
+    let a = c.args in
+    let passed : state_length_test a.n a.state.now ≡ Passed = sym c.length_test-t.ensures ∙ c.in-Passed.is in
+    rw (passed, ← c.sound.ensures, c.if-not-sound.true)
 
 pub returns : goal.returns
 unfolding state_test
-returns c = rw (passed c, ← c.sound.ensures, c.if-not-sound.false)
+returns c =
+    let a = c.args in
+    let passed : state_length_test a.n a.state.now ≡ Passed = sym c.length_test-t.ensures ∙ c.in-Passed.is in
+    rw (passed, ← c.sound.ensures, c.if-not-sound.false)

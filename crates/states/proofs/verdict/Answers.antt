@@ -5,51 +5,45 @@ use mathlib.Core.Path.{◌≡◌}
 use lib.Dec.{ltb}
 use lib.ListN.{get_or}
 use borrow.Author.Tests.{lt-ltb, le-ltb, eq-eqb, ne_eqb}
-use Rattle.records.proofs.get4.Reads as get4-reads
 use Rattle.states.specs.States.{state_of}
-use Rattle.states.proofs.verdict.Reads as reads
-use Rattle.states.proofs.verdict.Lts as lts
 use Rattle.states.proofs.verdict.Goals as goal
 
 pub returns-then-outcome-eq0 : goal.returns-then-outcome-eq0
 unfolding state_of
 returns-then-outcome-eq0 c = rw (eq-eqb (get_or c.args.state.now 0 0) 0 c.if-outcome-eq0.true)
 
--- the decision period is not above periods taken
-not-ahead : (c : lts.After-get42 (get4-reads.Asked, get4-reads.Learnt) reads.Pre reads.Post) → ltb c.get4-2.result c.get4.result ≡ false
-unfolding state_of
-not-ahead c =
-    le-ltb c.get4-2.result c.get4.result
-    (omega (arith, c.get4-2.ensures.is, c.get4.ensures.is, c.requires.decided_by_now))
-
 pub returns-then-outcome-eq1 : goal.returns-then-outcome-eq1
 unfolding state_of
 returns-then-outcome-eq1 c =
     let g = c.get4 in
     let h = c.get4-2 in
+    let behind : ltb h.result g.result ≡ false = le-ltb h.result g.result (omega (arith, h.ensures.is, g.ensures.is, c.requires.decided_by_now)) in
     let o = get_or c.args.state.now 0 0 in
-    rw (ne_eqb o 0 c.if-outcome-eq0.false, eq-eqb o 1 c.if-outcome-eq1.true, ← g.ensures.is, ← h.ensures.is, not-ahead c, lt-ltb g.result h.result c.if-get4.true)
+    rw (ne_eqb o 0 c.if-outcome-eq0.false, eq-eqb o 1 c.if-outcome-eq1.true, ← g.ensures.is, ← h.ensures.is, behind, lt-ltb g.result h.result c.if-get4.true)
 
 pub returns-else-outcome-eq1 : goal.returns-else-outcome-eq1
 unfolding state_of
 returns-else-outcome-eq1 c =
     let g = c.get4 in
     let h = c.get4-2 in
+    let behind : ltb h.result g.result ≡ false = le-ltb h.result g.result (omega (arith, h.ensures.is, g.ensures.is, c.requires.decided_by_now)) in
     let o = get_or c.args.state.now 0 0 in
-    rw (ne_eqb o 0 c.if-outcome-eq0.false, ne_eqb o 1 c.if-outcome-eq1.false, ← g.ensures.is, ← h.ensures.is, not-ahead c, lt-ltb g.result h.result c.if-get4.true)
+    rw (ne_eqb o 0 c.if-outcome-eq0.false, ne_eqb o 1 c.if-outcome-eq1.false, ← g.ensures.is, ← h.ensures.is, behind, lt-ltb g.result h.result c.if-get4.true)
 
 pub returns-then-outcome-eq1-2 : goal.returns-then-outcome-eq1-2
 unfolding state_of
 returns-then-outcome-eq1-2 c =
     let g = c.get4 in
     let h = c.get4-2 in
+    let behind : ltb h.result g.result ≡ false = le-ltb h.result g.result (omega (arith, h.ensures.is, g.ensures.is, c.requires.decided_by_now)) in
     let o = get_or c.args.state.now 0 0 in
-    rw (ne_eqb o 0 c.if-outcome-eq0.false, eq-eqb o 1 c.if-outcome-eq1-2.true, ← g.ensures.is, ← h.ensures.is, not-ahead c, le-ltb g.result h.result c.if-get4.false)
+    rw (ne_eqb o 0 c.if-outcome-eq0.false, eq-eqb o 1 c.if-outcome-eq1-2.true, ← g.ensures.is, ← h.ensures.is, behind, le-ltb g.result h.result c.if-get4.false)
 
 pub returns-else-outcome-eq1-2 : goal.returns-else-outcome-eq1-2
 unfolding state_of
 returns-else-outcome-eq1-2 c =
     let g = c.get4 in
     let h = c.get4-2 in
+    let behind : ltb h.result g.result ≡ false = le-ltb h.result g.result (omega (arith, h.ensures.is, g.ensures.is, c.requires.decided_by_now)) in
     let o = get_or c.args.state.now 0 0 in
-    rw (ne_eqb o 0 c.if-outcome-eq0.false, ne_eqb o 1 c.if-outcome-eq1-2.false, ← g.ensures.is, ← h.ensures.is, not-ahead c, le-ltb g.result h.result c.if-get4.false)
+    rw (ne_eqb o 0 c.if-outcome-eq0.false, ne_eqb o 1 c.if-outcome-eq1-2.false, ← g.ensures.is, ← h.ensures.is, behind, le-ltb g.result h.result c.if-get4.false)
