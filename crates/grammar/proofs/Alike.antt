@@ -65,6 +65,7 @@ record Joined (u s v : List Period) : Type 0 where
 
 alike_split : (u s v : List Period) → AllAlike (u ++ s) v → Joined u s v
 alike_split [] s v a = record { front = []; rest = v; whole = refl; front_alike = end; rest_alike = a }
+alike_split (x ∷ u) s [] a = elim a [ ]
 alike_split (x ∷ u) s (y ∷ v) (next b a) =
     let j = alike_split u s v a in
     record { front = y ∷ j.front; rest = j.rest; whole = ap (λ (l : List Period). y ∷ l) j.whole; front_alike = next b j.front_alike; rest_alike = j.rest_alike }
@@ -176,11 +177,15 @@ literal_action (power p) n r = allowed_action (literal_record (power p) n) r
 module _ (n : ℕ) (h : n < actions) where
   literal_alike : (l : Literal) → MeansAlike (literal_meaning l n)
   literal_alike l [] [] end = refl
+  literal_alike l [] (y ∷ v) a = elim a [ ]
+  literal_alike l (x ∷ w) [] a = elim a [ ]
   literal_alike l (x ∷ w) (y ∷ v) (next s a) = rw (s.same (tested_first l) n h, s.same (other (tested_first l)) n h)
 
   success_alike : MeansAlike (first_success n)
   unfolding first_success Periods.succeeds
   success_alike [] [] end = refl
+  success_alike [] (y ∷ v) a = elim a [ ]
+  success_alike (x ∷ w) [] a = elim a [ ]
   success_alike (x ∷ w) (y ∷ v) (next s a) = rw (s.same party1 n h, s.same party2 n h, success_alike w v a)
 
 pub meaning_alike : (c : Clause) → InRange c → MeansAlike (meaning c)
