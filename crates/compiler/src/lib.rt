@@ -70,8 +70,7 @@ fn compile_test(contract: &[u8], image: &[u8]) -> Test
 
 // Reads a contract and writes its image into the buffer's first bytes. The result is 1, or 0 where the reply area is too short.
 // Which rows an image has document 01 leaves open; the contract says which ones ours has, and that they do what it asks.
-#[unsafe(no_mangle)]
-pub extern "C" fn monitor_compile(contract: &[u8], image: &mut [u8], reply: &mut [u8]) -> u32
+pub fn monitor_compile(contract: &[u8], image: &mut [u8], reply: &mut [u8]) -> u32
     ensures { Compiles contract.now image.old reply.old result image.new reply.new }
 {
     if reply.len() < COMPILE_REPLY_BYTES {

@@ -79,8 +79,7 @@ fn read_trace(image: &[u8], state: &mut [u8], trace: &[u8], reply: &mut [u8])
 }
 
 // Reads a trace from its first record to the decision. The result is 1, or 0 where the reply area is too short.
-#[unsafe(no_mangle)]
-pub extern "C" fn monitor_decide(image: &[u8], trace: &[u8], reply: &mut [u8]) -> u32
+pub fn monitor_decide(image: &[u8], trace: &[u8], reply: &mut [u8]) -> u32
     ensures { Gives (decide image.now trace.now reply.old) result tt reply.new }
 {
     if reply.len() < DECIDE_REPLY_BYTES {

@@ -112,8 +112,7 @@ fn clear(state: &mut [u8])
 }
 
 // Begins a state for an image. The result is 1, or 0 where the reply area is too short.
-#[unsafe(no_mangle)]
-pub extern "C" fn monitor_begin(image: &[u8], state: &mut [u8], reply: &mut [u8]) -> u32
+pub fn monitor_begin(image: &[u8], state: &mut [u8], reply: &mut [u8]) -> u32
     ensures { Gives (begin image.now state.old reply.old) result state.new reply.new }
 {
     if reply.len() < BEGIN_REPLY_BYTES {
@@ -129,13 +128,7 @@ pub extern "C" fn monitor_begin(image: &[u8], state: &mut [u8], reply: &mut [u8]
 }
 
 // Takes one period record. The result is 1, or 0 where the reply area is too short.
-#[unsafe(no_mangle)]
-pub extern "C" fn monitor_step(
-    image: &[u8],
-    state: &mut [u8],
-    period: &[u8],
-    reply: &mut [u8],
-) -> u32
+pub fn monitor_step(image: &[u8], state: &mut [u8], period: &[u8], reply: &mut [u8]) -> u32
     ensures { Gives (step image.now state.old period.now reply.old) result state.new reply.new }
 {
     if reply.len() < STEP_REPLY_BYTES {
@@ -152,8 +145,7 @@ pub extern "C" fn monitor_step(
 }
 
 // Takes a trace of zero or more period records. The result is 1, or 0 where the reply area is too short.
-#[unsafe(no_mangle)]
-pub extern "C" fn monitor_run(image: &[u8], state: &mut [u8], trace: &[u8], reply: &mut [u8]) -> u32
+pub fn monitor_run(image: &[u8], state: &mut [u8], trace: &[u8], reply: &mut [u8]) -> u32
     ensures { Gives (run image.now state.old trace.now reply.old) result state.new reply.new }
 {
     if reply.len() < STEP_REPLY_BYTES {

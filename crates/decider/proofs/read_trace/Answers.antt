@@ -1,0 +1,58 @@
+-- `decider::read_trace` meets its contract: where the loop stops the reply is decide's.
+use native.Mathlib.Nat.{le_refl}
+use native.Mathlib.Omega.{arith}
+use mathlib.Core.Bool.{true}
+use borrow.Author.Tests.{eq-eqb}
+use Prim.Native.Nat.{◌≤◌}
+use lib.ListN.{length}
+use Rattle.periods.specs.Traces.{form_of, period_records}
+use Rattle.layout.specs.Images.{row_count}
+use Rattle.states.specs.Limits.{head_bytes}
+use Rattle.states.specs.States.{fresh_bytes}
+use Rattle.machine.specs.Premises.{Takes}
+use Rattle.calls.proofs.Refusals.{unread_passed, unread_ready}
+use Rattle.decider.proofs.Loop.{stops_within, left_long, replies_refused, replies_read}
+use Rattle.decider.proofs.read_trace.Goals as goal
+use Rattle.decider.proofs.read_trace.Goals.{else-read-n-via-then-read-n+else-state-eq0, else-read-n-via-else-read-n}
+
+pub take_while_undecided-read-requires : goal.take_while_undecided-read-requires
+take_while_undecided-read-requires c =
+    let s = c in
+    let a = c.args in
+    rw (c.period_records-n.ensures, c.requires.state_value) (unread_ready a.image.now a.trace.now c.requires.trace_value, le_refl _)
+
+pub bounds-state-0 : goal.bounds-state-0
+bounds-state-0 c =
+    let took : let a = c.args in Takes true a.image.now (fresh_bytes (row_count a.image.now)) (form_of a.trace.now) a.trace.now (period_records a.trace.now) c.take_while_undecided-read.new.state c.take_while_undecided-read.result = rw (← c.requires.state_value, ← c.period_records-n.ensures) c.take_while_undecided-read.ensures in
+    let long : head_bytes ≤ length c.take_while_undecided-read.new.state = left_long c.args.image.now c.args.trace.now c.requires.trace_value c.take_while_undecided-read.result _ took in
+    let h = long in omega arith
+
+pub returns-then-state-eq0 : goal.returns-then-state-eq0
+returns-then-state-eq0 c =
+    let took : let a = c.args in Takes true a.image.now (fresh_bytes (row_count a.image.now)) (form_of a.trace.now) a.trace.now (period_records a.trace.now) c.take_while_undecided-read.new.state c.take_while_undecided-read.result = rw (← c.requires.state_value, ← c.period_records-n.ensures) c.take_while_undecided-read.ensures in
+    rw c.put_decide_reply.ensures
+    (replies_refused c.args.image.now c.args.trace.now c.requires.trace_value c.take_while_undecided-read.result _ took c.args.reply.now c.requires.decide_reply_bytes_in_bounds (let e = c.period_records-n.ensures in omega arith) (eq-eqb _ _ c.if-state-eq0.true))
+
+pub overflow_cast-read : goal.overflow_cast-read
+overflow_cast-read c =
+    let took : let a = c.args in Takes true a.image.now (fresh_bytes (row_count a.image.now)) (form_of a.trace.now) a.trace.now (period_records a.trace.now) c.take_while_undecided-read.new.state c.take_while_undecided-read.result = rw (← c.requires.state_value, ← c.period_records-n.ensures) c.take_while_undecided-read.ensures in
+    let few = stops_within c.args.image.now c.args.trace.now c.requires.trace_value c.take_while_undecided-read.result _ took in
+    let most = (unread_passed c.args.image.now c.args.trace.now c.requires.trace_value).2 in
+    omega arith
+
+pub put_outcome-requires : goal.put_outcome-requires
+put_outcome-requires c =
+    let took : let a = c.args in Takes true a.image.now (fresh_bytes (row_count a.image.now)) (form_of a.trace.now) a.trace.now (period_records a.trace.now) c.take_while_undecided-read.new.state c.take_while_undecided-read.result = rw (← c.requires.state_value, ← c.period_records-n.ensures) c.take_while_undecided-read.ensures in
+    let long : head_bytes ≤ length c.take_while_undecided-read.new.state = left_long c.args.image.now c.args.trace.now c.requires.trace_value c.take_while_undecided-read.result _ took in
+    (c.requires.decide_reply_bytes_in_bounds, long)
+
+pub returns : goal.returns
+returns c =
+    let took : let a = c.args in Takes true a.image.now (fresh_bytes (row_count a.image.now)) (form_of a.trace.now) a.trace.now (period_records a.trace.now) c.take_while_undecided-read.new.state c.take_while_undecided-read.result = rw (← c.requires.state_value, ← c.period_records-n.ensures) c.take_while_undecided-read.ensures in
+    rw c.put_outcome.ensures
+    (replies_read c.args.image.now c.args.trace.now c.requires.trace_value c.take_while_undecided-read.result _ took c.args.reply.now c.requires.decide_reply_bytes_in_bounds
+    (λ h.
+    elim c.else-read-n.branch [
+      | else-read-n-via-then-read-n+else-state-eq0 w ↦ absurd (w.if-state-eq0.false h.1)
+      | else-read-n-via-else-read-n w ↦ let e = c.period_records-n.ensures in absurd (omega (arith, w.if-read-n.false, h.0))
+    ]))
