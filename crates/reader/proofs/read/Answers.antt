@@ -1,9 +1,8 @@
 -- `reader::read` meets its contract: the length, then the records.
 use borrow.Author.Tests.{ne_eqb, eq-eqb, lt-ltb, le-leb, lt-leb}
-use Prim.Native.Nat.{◌*◌, ◌%◌, ◌<◌}
+use Prim.Native.Nat.{◌*◌, ◌%◌}
 use native.Mathlib.Omega.{arith}
 use mathlib.Core.Bool.{◌&&◌, and-false}
-use mathlib.Core.Path.{◌≡◌}
 use lib.Dec.{eqb, ltb}
 use lib.ListN.{length}
 use Rattle.grammar.specs.Limits.{record_bytes, max_records}
