@@ -1,5 +1,6 @@
 -- `reader::empty_under` meets its contract, kind by kind.
 use borrow.Author.Tests.{ne_eqb}
+use native.Mathlib.Omega.{arith}
 use Rattle.reader.specs.Codes.{empty_under}
 use Rattle.reader.proofs.empty_under.Goals as goal
 
@@ -13,4 +14,4 @@ returns-in-9 c = rw c.in-9.is
 
 pub returns-in_default : goal.returns-in_default
 unfolding empty_under
-returns-in_default c = rw (ne_eqb _ _ c.in_default.rest.0.1, ne_eqb _ _ c.in_default.rest.1)
+returns-in_default c = rw (ne_eqb c.args.kind 8 (omega arith), ne_eqb c.args.kind 9 (omega arith))

@@ -1,5 +1,4 @@
 -- `reader::good_fields` meets its contract: the three ranges, one after the other.
-use borrow.Author.Tests.{not-true, not-false}
 use mathlib.Core.Path.{sym, ◌∙◌}
 use Rattle.reader.specs.Codes.{in_ranges}
 use Rattle.reader.proofs.good_fields.Goals as goal
@@ -11,12 +10,9 @@ returns-then-not-within c = rw (sym c.within.ensures ∙ c.if-not-within.true)
 pub returns-then-not-within-2 : goal.returns-then-not-within-2
 unfolding in_ranges
 returns-then-not-within-2 c =
-    let b = c in
-    rw (sym b.within.ensures ∙ b.if-not-within.false, sym c.within-2.ensures ∙ c.if-not-within-2.true)
+    rw (sym c.within.ensures ∙ c.if-not-within.false, sym c.within-2.ensures ∙ c.if-not-within-2.true)
 
 pub returns : goal.returns
 unfolding in_ranges
 returns c =
-    let a = c in
-    let b = a in
-    rw (sym b.within.ensures ∙ b.if-not-within.false, sym a.within-2.ensures ∙ a.if-not-within-2.false) c.within-3.ensures
+    rw (sym c.within.ensures ∙ c.if-not-within.false, sym c.within-2.ensures ∙ c.if-not-within-2.false) c.within-3.ensures

@@ -1,5 +1,6 @@
 -- `reader::good_operands` meets its contract, by how many there are.
 use borrow.Author.Tests.{eq-eqb, ne_eqb}
+use native.Mathlib.Omega.{arith}
 use Rattle.reader.specs.Codes.{good_operands}
 use Rattle.reader.proofs.good_operands.Goals as goal
 
@@ -14,18 +15,20 @@ returns-in-1 c = rw (c.in-1.is, ← c.sort.ensures)
 pub returns-then-sort-e : goal.returns-then-sort-e
 unfolding good_operands
 returns-then-sort-e c =
-    let t = c in
-    let s = t in
     rw (
-      ne_eqb _ _ s.in_default.rest.0.1,
-      ne_eqb _ _ s.in_default.rest.1,
-      ← s.sort-in_default.ensures,
-      eq-eqb _ _ t.if-sort-e.true,
+      ne_eqb c.args.e.operands 0 (omega arith),
+      ne_eqb c.args.e.operands 1 (omega arith),
+      ← c.sort-in_default.ensures,
+      eq-eqb _ _ c.if-sort-e.true,
       ← c.sort-then-sort-e.ensures,
     )
 
 pub returns-else-sort-e : goal.returns-else-sort-e
 unfolding good_operands
 returns-else-sort-e c =
-    let s = c in
-    rw (ne_eqb _ _ s.in_default.rest.0.1, ne_eqb _ _ s.in_default.rest.1, ← s.sort-in_default.ensures, ne_eqb _ _ c.if-sort-e.false)
+    rw (
+      ne_eqb c.args.e.operands 0 (omega arith),
+      ne_eqb c.args.e.operands 1 (omega arith),
+      ← c.sort-in_default.ensures,
+      ne_eqb _ _ c.if-sort-e.false,
+    )

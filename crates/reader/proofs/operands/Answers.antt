@@ -16,11 +16,7 @@ not_found none h = refl
 not_found (some k) h = cc
 
 pub returns-in-Found : goal.returns-in-Found
-returns-in-Found c =
-    let b = c in
-    found (kind_of b.args.kind) _ (sym b.entry_of-found.ensures ∙ c.in-Found.is)
+returns-in-Found c = found (kind_of c.args.kind) _ (sym c.entry_of-found.ensures ∙ c.in-Found.is)
 
 pub returns-in-Unknown : goal.returns-in-Unknown
-returns-in-Unknown c =
-    let b = c in
-    sym (not_found (kind_of b.args.kind) (sym b.entry_of-found.ensures ∙ c.in-Unknown.is))
+returns-in-Unknown c = sym (not_found (kind_of c.args.kind) (sym c.entry_of-found.ensures ∙ c.in-Unknown.is))

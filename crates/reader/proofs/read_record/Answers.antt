@@ -1,5 +1,4 @@
 -- `reader::read_record` meets its contract: each way out by the tests that led to it.
-use borrow.Author.Tests.{not-true, not-false}
 use mathlib.Core.Path.{sym, ◌∙◌}
 use Rattle.reader.specs.Codes.{step_of}
 use Rattle.reader.proofs.read_record.Goals as goal
@@ -10,67 +9,46 @@ returns-then-not-marked c = rw (sym c.marked.ensures ∙ c.if-not-marked.true)
 
 pub returns-in_default : goal.returns-in_default
 unfolding step_of
-returns-in_default c =
-    let k = c in
-    let m = k in
-    rw (sym m.marked.ensures ∙ m.if-not-marked.false, sym k.entry_of-found.ensures ∙ c.in_default.is)
+returns-in_default c = rw (sym c.marked.ensures ∙ c.if-not-marked.false, sym c.entry_of-found.ensures ∙ c.in_default.is)
 
 pub returns-then-not-good_fields : goal.returns-then-not-good_fields
 unfolding step_of
 returns-then-not-good_fields c =
-    let n = c in
-    let k = n in
-    let m = k in
     rw (
-      sym m.marked.ensures ∙ m.if-not-marked.false,
-      sym k.entry_of-found.ensures ∙ n.in-Found.is,
+      sym c.marked.ensures ∙ c.if-not-marked.false,
+      sym c.entry_of-found.ensures ∙ c.in-Found.is,
       sym c.good_fields.ensures ∙ c.if-not-good_fields.true,
     )
 
 pub returns-then-not-good_operands : goal.returns-then-not-good_operands
 unfolding step_of
 returns-then-not-good_operands c =
-    let g = c in
-    let n = g in
-    let k = n in
-    let m = k in
     rw (
-      sym m.marked.ensures ∙ m.if-not-marked.false,
-      sym k.entry_of-found.ensures ∙ n.in-Found.is,
-      sym g.good_fields.ensures ∙ g.if-not-good_fields.false,
+      sym c.marked.ensures ∙ c.if-not-marked.false,
+      sym c.entry_of-found.ensures ∙ c.in-Found.is,
+      sym c.good_fields.ensures ∙ c.if-not-good_fields.false,
       sym c.good_operands.ensures ∙ c.if-not-good_operands.true,
     )
 
 pub returns-then-empty_under : goal.returns-then-empty_under
 unfolding step_of
 returns-then-empty_under c =
-    let o = c in
-    let g = o in
-    let n = g in
-    let k = n in
-    let m = k in
     rw (
-      sym m.marked.ensures ∙ m.if-not-marked.false,
-      sym k.entry_of-found.ensures ∙ n.in-Found.is,
-      sym g.good_fields.ensures ∙ g.if-not-good_fields.false,
-      sym o.good_operands.ensures ∙ o.if-not-good_operands.false,
+      sym c.marked.ensures ∙ c.if-not-marked.false,
+      sym c.entry_of-found.ensures ∙ c.in-Found.is,
+      sym c.good_fields.ensures ∙ c.if-not-good_fields.false,
+      sym c.good_operands.ensures ∙ c.if-not-good_operands.false,
       sym c.empty_under.ensures ∙ c.if-empty_under.true,
     )
 
 pub returns : goal.returns
 unfolding step_of
 returns c =
-    let u = c in
-    let o = u in
-    let g = o in
-    let n = g in
-    let k = n in
-    let m = k in
     rw (
-      sym m.marked.ensures ∙ m.if-not-marked.false,
-      sym k.entry_of-found.ensures ∙ n.in-Found.is,
-      sym g.good_fields.ensures ∙ g.if-not-good_fields.false,
-      sym o.good_operands.ensures ∙ o.if-not-good_operands.false,
-      sym u.empty_under.ensures ∙ c.if-empty_under.false,
+      sym c.marked.ensures ∙ c.if-not-marked.false,
+      sym c.entry_of-found.ensures ∙ c.in-Found.is,
+      sym c.good_fields.ensures ∙ c.if-not-good_fields.false,
+      sym c.good_operands.ensures ∙ c.if-not-good_operands.false,
+      sym c.empty_under.ensures ∙ c.if-empty_under.false,
       ← c.completed.ensures,
     )
