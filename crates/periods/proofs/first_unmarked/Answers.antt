@@ -1,9 +1,7 @@
 -- `periods::first_unmarked` meets its contract: the records before k have the mark.
-use Prim.Native.Nat.{◌-◌, ◌≤◌}
 use native.Mathlib.Nat.{sub-zero}
 use native.Mathlib.Omega.{arith}
-use mathlib.Core.Path.{◌≡◌, sym, ◌∙◌}
-use Rattle.records.specs.Refusals.{first_failing}
+use mathlib.Core.Path.{sym, ◌∙◌}
 use Rattle.records.proofs.Searches.{failing_next, failing_here, failing_end}
 use Rattle.periods.specs.Traces.{marked_at}
 use Rattle.periods.proofs.first_unmarked.Goals as goal
@@ -13,18 +11,18 @@ loop-k-init c = (omega arith, rw sub-zero)
 
 pub loop-k-preserved : goal.loop-k-preserved
 loop-k-preserved c =
-    let p = c in
-    let a = p.args in
-    (omega arith, p.loop-k.invariant.1 ∙ failing_next (marked_at a.form a.s.now) p.loop-k.k a.n c.loop-k-test.true (sym c.is_marked.ensures ∙ c.if-is_marked.true))
+    let a = c.args in
+    let l = c.loop-k in
+    (omega arith, l.invariant.1 ∙ failing_next (marked_at a.form a.s.now) l.k a.n (omega arith) (cc))
 
 pub returns-else-is_marked : goal.returns-else-is_marked
 returns-else-is_marked c =
-    let p = c in
-    let a = p.args in
-    sym (p.loop-k.invariant.1 ∙ failing_here (marked_at a.form a.s.now) p.loop-k.k a.n c.loop-k-test.true (sym c.is_marked.ensures ∙ c.if-is_marked.false))
+    let a = c.args in
+    let l = c.loop-k in
+    sym (l.invariant.1 ∙ failing_here (marked_at a.form a.s.now) l.k a.n (omega arith) (cc))
 
 pub returns-after-loop-k : goal.returns-after-loop-k
 returns-after-loop-k c =
-    let p = c in
-    let a = p.args in
-    sym (p.loop-k.invariant.1 ∙ failing_end (marked_at a.form a.s.now) p.loop-k.k a.n c.loop-k-test.false)
+    let a = c.args in
+    let l = c.loop-k in
+    sym (l.invariant.1 ∙ failing_end (marked_at a.form a.s.now) l.k a.n (omega arith))

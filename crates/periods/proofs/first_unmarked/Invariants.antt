@@ -1,10 +1,7 @@
 -- `periods::first_unmarked` meets its contract: the records before k have the mark.
 use Prim.Native.Nat.{◌-◌, ◌≤◌}
-use native.Mathlib.Nat.{sub-zero}
-use native.Mathlib.Omega.{arith}
-use mathlib.Core.Path.{◌≡◌, sym, ◌∙◌}
+use mathlib.Core.Path.{◌≡◌}
 use Rattle.records.specs.Refusals.{first_failing}
-use Rattle.records.proofs.Searches.{failing_next, failing_here, failing_end}
 use Rattle.periods.specs.Traces.{marked_at}
 use Rattle.periods.proofs.first_unmarked.Given as goal
 

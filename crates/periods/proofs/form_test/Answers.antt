@@ -1,7 +1,6 @@
 -- `periods::form_test` meets its contract: no byte passes, one doesn't, and more are tested for their mark.
 use Prim.Native.Nat.{◌≤◌}
 use native.Mathlib.Omega.{arith}
-use borrow.Author.Tests.{not-true, not-false}
 use mathlib.Core.Path.{sym}
 use lib.ListN.{length}
 use Rattle.periods.specs.Traces.{form_test}
