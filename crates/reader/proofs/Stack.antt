@@ -10,10 +10,11 @@ use mathlib.Core.Path.{◌≡◌, refl, sym, ap, ◌∙◌}
 use lib.Dec.{eqb, ltb}
 use lib.ListN.{length, drop, get_or, set, replicate, length-set, length-drop, length-map}
 use lib.Seq.{get_or-drop, get_or-set_same, get_or-set_other, drop-drop}
-use borrow.Author.Tests.{ltb-true, ltb-false, lt-ltb, le-ltb}
+use borrow.Author.Tests.{ne_eqb, ltb-true, ltb-false, lt-ltb, le-ltb}
 use Rattle.records.specs.declared.Fault.{Fault}
 use Rattle.records.specs.Refusals.{require}
 use Rattle.records.specs.declared.Fault.TheVariants.{NotOneClause}
+use Rattle.records.specs.declared.Test.TheVariants as test
 use Rattle.reader.specs.declared.Step.{Step}
 use Rattle.reader.specs.declared.Step.TheVariants.{Refused, Completed}
 use Rattle.grammar.specs.Limits.{max_records, record_bytes}
@@ -135,3 +136,19 @@ module _ {l : List ℕ} {n : ℕ} {stack : List ℕ} {pending k : ℕ} (r : Stac
     pub ended : test_of (next (read_records 0 n [] l) (just_one n))
         ≡ require (eqb pending 1 && eqb (code_below stack pending 0) (sort_number clause)) NotOneClause n
     ended = rw (read_all, end_test n r.operands, r.count, r.codes 0)
+
+-- what the stack says once all n records are read: the program's tests are those of the reader
+pub record Ended (l : List ℕ) (n : ℕ) (stack : List ℕ) (pending k : ℕ) : Type 0 where
+  pub one_clause : n ≤ k → pending ≡ 1 → get_or stack 0 0 ≡ sort_number clause
+      → test.Passed ≡ test_of (next (read_records 0 n [] l) (just_one n))
+  pub another_count : n ≤ k → ¬ pending ≡ 1 → test.Refused NotOneClause n ≡ test_of (next (read_records 0 n [] l) (just_one n))
+  pub another_sort : n ≤ k → pending ≡ 1 → ¬ get_or stack 0 0 ≡ sort_number clause
+      → test.Refused NotOneClause n ≡ test_of (next (read_records 0 n [] l) (just_one n))
+
+pub ended_by : {l : List ℕ} {n : ℕ} {stack : List ℕ} {pending k : ℕ} → StackAfter l n stack pending k → Ended l n stack pending k
+ended_by {stack = stack} {pending = pending} r =
+    record {
+      one_clause = λ h p c. rw (ended r h, p, c);
+      another_count = λ h p. rw (ended r h, ne_eqb pending 1 p);
+      another_sort = λ h p c. rw (ended r h, p, ne_eqb (get_or stack 0 0) (sort_number clause) c);
+    }
