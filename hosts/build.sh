@@ -1,48 +1,26 @@
 #!/usr/bin/env bash
-# Writes target/libmonitor.a, which has every call, and for each crate with calls an archive of its own, target/staticlib/libNAME.a.
+# Writes target/libmonitor.a, which has every call, and archives of some calls, target/staticlib/libNAME.a: the compiler's, the
+# runner's (begin, step, run and decide) and the joiner's.
 set -euo pipefail
 cd "$(dirname "${BASH_SOURCE[0]}")/.."
 
-# The crates with calls.
-crates=(compiler runner decider joiner)
+# Each is built from the static library crates/NAME_c.
+names=(compiler runner joiner)
 
 rm -f target/libmonitor.a
+rm -rf target/staticlib
+mkdir -p target/staticlib
 
-# What they rest on is proved first, where it isn't yet, so that no two archives prove the same crate.
-below=()
-for crate in "${crates[@]}"; do
-    for name in $(sed -n "s/^$crate://p" crates.txt); do
-        if test -d "crates/$name"; then below+=("$name"); fi
-    done
+# `rt lib` proves a static library and all that it rests on, where that isn't proved yet.
+for name in "${names[@]}"; do
+    (cd "crates/${name}_c" && rt lib)
+    cp "crates/${name}_c/out/lib${name}_c.a" "target/staticlib/lib$name.a"
 done
-rt check "${below[@]}"
 
-# An archive proves its own crate once more. They are written side by side, one for each processor, but start one after the other:
-# `rt staticlib` first looks through the crates below, which two must not do at once, and then begins its log.
-cores=$(nproc)
-started=()
-failed=0
-for crate in "${crates[@]}"; do
-    if test "${#started[@]}" -ge "$cores"; then
-        wait "${started[0]}" || failed=1
-        started=("${started[@]:1}")
-    fi
-    log=target/log/$crate.say
-    rm -f "$log"
-    rt staticlib "$crate" &
-    started+=($!)
-    while test ! -e "$log" && kill -0 $! 2>/dev/null; do sleep 0.1; done
-done
-for one in "${started[@]}"; do wait "$one" || failed=1; done
-test "$failed" -eq 0
-
-# Adds archives to one that is there or is created; members of the same name stay apart.
-add() {
-    printf '%s\n' "$1"
-    printf 'addlib target/staticlib/lib%s.a\n' "${@:2}"
+# All of them in one archive.
+{
+    echo 'create target/libmonitor.a'
+    printf 'addlib target/staticlib/lib%s.a\n' "${names[@]}"
     echo 'save'
-}
-add 'create target/libmonitor.a' "${crates[@]}" | ar -M
-# Decide is the runner's too.
-add 'open target/staticlib/librunner.a' decider | ar -M
+} | ar -M
 echo "target/libmonitor.a has every call"

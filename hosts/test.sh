@@ -4,11 +4,12 @@ set -euo pipefail
 cd "$(dirname "${BASH_SOURCE[0]}")/.."
 
 bash hosts/build.sh
-rt check watch
+# `rt run` proves and builds it, and runs it once.
+(cd crates/watch && rt run <stdin >/dev/null)
 runner=target/staticlib/librunner.a
 joiner=target/staticlib/libjoiner.a
 monitor=target/libmonitor.a
-watch=$PWD/target/bin/watch
+watch=$PWD/crates/watch/out/watch
 built=$PWD/target/hosts
 mkdir -p "$built"
 

@@ -174,3 +174,10 @@ if test -e /dev/full; then
     "$watch" <"$work/input" >/dev/full 2>"$work/error"
     fails 'a full output' 'standard output cannot be written'
 fi
+
+# Where nobody reads the output any more, it says nothing, and a shell has the status of a program that SIGPIPE ended.
+status=0
+{ sleep 0.2; "$watch" <"$work/input" 2>"$work/error"; } | true || status=$?
+test "$status" -eq 141
+test ! -s "$work/error"
+echo "ok watch, an output that nobody reads"

@@ -3,6 +3,9 @@
 
 ghost use Rattle.std.specs.Prelude.{◌≤◌, length};
 
+use std::io::{ErrorKind, Read};
+use std::process::ExitCode;
+
 // What was read: how many bytes, and whether a read failed.
 #[derive(Clone, Copy)]
 pub struct Input {
@@ -10,20 +13,21 @@ pub struct Input {
     pub failed: bool,
 }
 
+// The exit status where nobody reads the output any more: the one that a shell gives a program which the signal SIGPIPE ended.
+const PIPE_CLOSED: u8 = 141;
+
 // Reads until the buffer is full, the input ends or a read fails.
-fn read_input(buffer: &mut [u8]) -> Input
+fn read_input(from: &mut impl Read, buffer: &mut [u8]) -> Input
     ensures { result.length ≤ length buffer.new }
 {
     let mut length = 0;
     while length < buffer.len() {
-        let got = libc::read(libc::STDIN_FILENO, &mut buffer[length..]);
-        if got < 0 {
+        let Ok(more) = from.read(&mut buffer[length..]) else {
             return Input {
                 length: 0,
                 failed: true,
             };
-        }
-        let more = io::count(got, &buffer[length..]);
+        };
         if more == 0 {
             break;
         }
@@ -35,25 +39,23 @@ fn read_input(buffer: &mut [u8]) -> Input
     }
 }
 
-fn main() {
+fn main(rt: HostRuntime) -> ExitCode {
     // One byte more than an input may have, so that a longer one is seen.
     let mut input = [0u8; report::INPUT_BYTES + 1];
     let mut image = [0u8; report::IMAGE_BYTES];
     let mut state = [0u8; report::STATE_BYTES];
     let mut text = [0u8; report::TEXT_BYTES];
-    let got = read_input(&mut input);
+    let got = read_input(&mut rt.stdin(), &mut input);
     if got.failed {
-        io::write_all(
-            libc::STDERR_FILENO,
-            b"watch: standard input cannot be read\n",
-        );
-        return;
+        let _ = rt.eprintln("watch: standard input cannot be read");
+        return ExitCode::SUCCESS;
     }
     let length = report::put_report(&input[..got.length], &mut image, &mut state, &mut text);
-    if !io::write_all(libc::STDOUT_FILENO, &text[..length]) {
-        io::write_all(
-            libc::STDERR_FILENO,
-            b"watch: standard output cannot be written\n",
-        );
+    if let Err(error) = rt.write_all(&text[..length]) {
+        if error.kind() == ErrorKind::BrokenPipe {
+            return ExitCode::from(PIPE_CLOSED);
+        }
+        let _ = rt.eprintln("watch: standard output cannot be written");
     }
+    ExitCode::SUCCESS
 }
