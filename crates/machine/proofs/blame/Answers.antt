@@ -1,3 +1,4 @@
+-- `machine::blame` meets its contract: 1 for V1, 2 for V2 and 3 for both.
 use native.Mathlib.Omega.{arith}
 use Rattle.machine.proofs.Deciding.{blame_of_lem, blame_small}
 use Rattle.machine.proofs.blame.Goals as goal

@@ -67,10 +67,6 @@ loop-k-preserved c =
           (so_far_next a.first (period_of a.a) v (image_of m).rows l.k (row_count m) i (good_row_lem m (passed_good m h.good) l.k j).names),
     )
 
--- NOT PLACED same_length : same-length
--- same_length : tie.Need-same-length invariant-loop decreases-loop
--- same_length c = c.before.loop.invariant.1
-
 pub returns : goal.returns
 unfolding new_bits values_in
 returns c =

@@ -8,19 +8,11 @@ use Rattle.machine.proofs.put_decision.Goals as goal
 pub bounds-state-1 : goal.bounds-state-1
 bounds-state-1 c = simp length-set (omega arith)
 
--- NOT PLACED same_length : same-length
--- same_length : tie.Need-same-length
--- same_length c = ap length c.before.before.put4.ensures ∙ simp (length-sets, length-set)
-
 pub returns-then-o-eq0 : goal.returns-then-o-eq0
 unfolding with_decision
 returns-then-o-eq0 c =
     let a = c.args in
     cc (decision_none a.sat a.v1 a.v2 a.period (cc))
-
--- NOT PLACED same-length-2 : same-length-2
--- same-length-2 : tie.Need-same-length-2
--- same-length-2 c = ap length c.before.before.put42.ensures ∙ simp (length-sets, length-set)
 
 pub returns-else-o-eq0 : goal.returns-else-o-eq0
 unfolding with_decision

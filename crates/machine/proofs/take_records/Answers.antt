@@ -18,58 +18,48 @@ loop-k-init c =
 
 pub takes_next-requires : goal.takes_next-requires
 takes_next-requires c =
+    let a = c.args in
     let l = c.loop-k in
-    let s = c in
-    let a = s.args in
-    (took_head a.image.now a.state.now a.form a.trace.now a.n s.requires.0 l.k _ l.invariant.1, omega (arith, s.requires.1))
+    (took_head a.image.now a.state.now a.form a.trace.now a.n c.requires.0 l.k _ l.invariant.1, omega (arith, c.requires.1))
 
 pub read_period-requires : goal.read_period-requires
 read_period-requires c = omega (arith, c.requires.1)
 
 pub advance-requires : goal.advance-requires
 advance-requires c =
-    let p = c in
-    let s = p in
-    let a = s.args in
-    let l = p.loop-k in
-    took_working a.image.now a.state.now a.form a.trace.now a.n s.requires.0 l.k _ l.invariant.1 (omega arith)
+    let a = c.args in
+    let l = c.loop-k in
+    took_working a.image.now a.state.now a.form a.trace.now a.n c.requires.0 l.k _ l.invariant.1 (omega arith)
 
 pub loop-k-preserved : goal.loop-k-preserved
 loop-k-preserved c =
-    let m = c in
-    let p = m in
-    let s = p in
-    let a = s.args in
-    let l = p.loop-k in
+    let a = c.args in
+    let l = c.loop-k in
     let t = c.advance in
-    let g = sym (takes_next_lem a.image.now a.state.now a.form a.trace.now a.n s.requires.0 l.k _ l.invariant.1 a.stops) ∙ sym m.takes_next.ensures ∙ m.if-takes_next.true in (
+    let g = sym (takes_next_lem a.image.now a.state.now a.form a.trace.now a.n c.requires.0 l.k _ l.invariant.1 a.stops) ∙ sym c.takes_next.ensures ∙ c.if-takes_next.true in (
       omega arith,
-      took_next a.image.now a.state.now a.form a.trace.now a.n s.requires.0 l.k _ l.invariant.1 (omega arith) _ t.auto.state (rw (← c.read_period.ensures.is) t.ensures),
+      took_next a.image.now a.state.now a.form a.trace.now a.n c.requires.0 l.k _ l.invariant.1 (omega arith) _ t.auto.state (rw (← c.read_period.ensures.is) t.ensures),
       l.invariant.2 ∙ failing_next (goes_on a.stops a.image.now a.state.now a.form a.trace.now) l.k a.n (omega arith) g,
     )
 
 pub trim-requires : goal.trim-requires
 trim-requires c =
-    let p = c in
-    let s = p in
-    let a = s.args in
-    let l = p.loop-k in
-    took_head a.image.now a.state.now a.form a.trace.now a.n s.requires.0 l.k _ l.invariant.1
+    let a = c.args in
+    let l = c.loop-k in
+    took_head a.image.now a.state.now a.form a.trace.now a.n c.requires.0 l.k _ l.invariant.1
 
 pub returns : goal.returns
 returns c =
-    let p = c in
-    let s = p in
-    let a = s.args in
-    let l = p.loop-k in
+    let a = c.args in
+    let l = c.loop-k in
     let g = goes_on a.stops a.image.now a.state.now a.form a.trace.now in
     record {
       count = sym (l.invariant.2
           ∙ elim c.loop-k-test.branch [
             | then-loop-k-test+else-takes_next w ↦
-                failing_here g l.k a.n w.loop-k-test.true
-                (sym (takes_next_lem a.image.now a.state.now a.form a.trace.now a.n s.requires.0 l.k _ l.invariant.1 a.stops) ∙ sym w.takes_next.ensures ∙ w.if-takes_next.false)
-            | else-loop-k-test w ↦ failing_end g l.k a.n w.loop-k-test.false
+                failing_here g l.k a.n (omega arith)
+                (sym (takes_next_lem a.image.now a.state.now a.form a.trace.now a.n c.requires.0 l.k _ l.invariant.1 a.stops) ∙ sym w.takes_next.ensures ∙ w.if-takes_next.false)
+            | else-loop-k-test w ↦ failing_end g l.k a.n (omega arith)
           ]);
       leaves = c.trim.ensures ∙ l.invariant.1.stands;
     }
