@@ -25,7 +25,7 @@ pub record Handed (log1 log2 trace reply : List ℕ) : Type 0 where
       → period_in (record_at Wide (written_trace log1 log2 trace reply) k) ≡ joined_period log1 log2 (suc k)
 
 -- a wide record's bytes with the parties' attempts exchanged: the mark, the last four bytes, the four before them
-abbrev pub exchanged : (record_bytes_lem : List ℕ) → List ℕ
+abbrev pub exchanged : (record_bytes : List ℕ) → List ℕ
 exchanged r = take 2 r ++ take 4 (drop 6 r) ++ take 4 (drop 2 r)
 
 -- "For two good logs, exchanging them exchanges the parties in each period and nothing else.": the result, the reply and the bytes past the trace

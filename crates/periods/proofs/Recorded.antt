@@ -21,10 +21,10 @@ use Rattle.periods.specs.Making.{record_of}
 
 -- some record holds this period
 pub record Recorded (x : Period) : Type 0 where
-  pub record_bytes_lem : List ℕ
-  pub are_bytes : AllBytes record_bytes_lem
-  pub passes : period_test record_bytes_lem ≡ Passed
-  pub holds : period_in record_bytes_lem ≡ x
+  pub record_bytes : List ℕ
+  pub are_bytes : AllBytes record_bytes
+  pub passes : period_test record_bytes ≡ Passed
+  pub holds : period_in record_bytes ≡ x
 
 -- the period without the bits above the last action
 abbrev pub masked : Period → Period
@@ -57,7 +57,7 @@ pub masked_recorded : (x : Period) → Recorded (masked x)
 unfolding record_of period_test form_test either_mark form_of marked period_at period_from field value bytes
 masked_recorded x =
     record {
-      record_bytes_lem = record_of Wide x;
+      record_bytes = record_of Wide x;
       are_bytes = all_below_cons (lit< tt) (all_below_cons (lit< tt) (bytes_before 4 x.attempts1 (bytes 4 x.attempts2) (all_bytes_bytes 4 x.attempts2)));
       passes = refl;
       holds = rw (value_bytes 4 x.attempts1, value_bytes 4 x.attempts2);

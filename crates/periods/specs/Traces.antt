@@ -73,7 +73,7 @@ trace_test trace = first_of (start_test trace) (marks_test (form_of trace) trace
 -- ---- a step's one record
 
 -- the period that it holds
-abbrev pub period_in : (record_bytes_lem : List ℕ) → Period
+abbrev pub period_in : (record_bytes : List ℕ) → Period
 period_in r = period_at (form_of r) r 0
 
 -- 11 in step: what comes first, then the length of one record of that form
