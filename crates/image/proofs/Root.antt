@@ -24,7 +24,7 @@ use Rattle.grammar.specs.Spelling.{records, InRange}
 use Rattle.image.specs.Widths.{first_row, later_row, fixed_rows}
 use Rattle.image.specs.Images.{rows_for, image}
 use Rattle.image.specs.Rightness.{Shows}
-use Rattle.image.proofs.Signals.{Signal, at, is_first, ◌≐◌, Obeys, is_met, blames, is_broken, Says}
+use Rattle.image.proofs.Signals.{Signal, is_first, ◌≐◌, Obeys, is_met, blames, is_broken, Says}
 use Rattle.image.proofs.RowLaws.{values, signal, obeys}
 use Rattle.image.proofs.Goodness.{writable}
 use Rattle.image.proofs.Wiring.{wired_clause}

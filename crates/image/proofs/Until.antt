@@ -20,7 +20,7 @@ use Rattle.contract.specs.Meaning.{Clause, until, Decision, undecided, satisfied
 use Rattle.contract.proofs.Expressions.{empty_iff}
 use Rattle.contract.proofs.Stretches.{ends_iff, acceptance_iff, unaccepted_iff, after_any, member_after_any}
 use Rattle.contract.proofs.Meaning.{Within, decision_within}
-use Rattle.image.proofs.Signals.{Signal, at, ◌≐◌, nothing, met, broken, is_met, is_broken, report_of, Says, exactly, UntilDone, JoinsOn, Remembers, where_empty, WiredExpression, wired_atom, wired_seq, wired_star}
+use Rattle.image.proofs.Signals.{Signal, ◌≐◌, nothing, met, broken, is_met, is_broken, report_of, Says, exactly, UntilDone, JoinsOn, Remembers, where_empty, WiredExpression, wired_atom, wired_seq, wired_star}
 use Rattle.image.proofs.Once.{is_some}
 use Rattle.image.proofs.Threads.{thread}
 use Rattle.image.proofs.Reports.{decided_at, said_by, NotBefore, timely, someone_blamed}
