@@ -18,7 +18,7 @@ use Rattle.layout.specs.Images.{row_count}
 use Rattle.layout.specs.Refusals.{image_test}
 use Rattle.layout.proofs.Images.{image_faults, image_only}
 use Rattle.states.specs.Limits.{head_bytes, max_periods}
-use Rattle.states.specs.States.{state_of, sound, fresh_bytes}
+use Rattle.states.specs.States.{state_of, fresh_bytes}
 use Rattle.states.specs.Refusals.{state_length_test, state_test, count_test}
 use Rattle.states.proofs.Fresh.{fresh_read, fresh_passes}
 use Rattle.states.proofs.Refusals.{length-passed, state_passed, passed_count, passes_count, state_faults, count_faults, length_only, state_only, count_only}

@@ -3,6 +3,4 @@ use Rattle.decider.proofs.Calls.{decide_written_by_field}
 use Rattle.decider.proofs.put_decide_reply.Goals as goal
 
 pub returns : goal.returns
-returns c =
-    let a = c.args in
-    cc (decide_written_by_field a.reply.now a.t a.outcome a.blame a.decision a.read)
+returns c = rw (c.put4-4.ensures, c.put4-3.ensures, c.put4-2.ensures, c.put4.ensures, c.put_head.ensures, decide_written_by_field)

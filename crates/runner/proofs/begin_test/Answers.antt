@@ -17,13 +17,12 @@ returns-in_default c =
 pub row_count-requires : goal.row_count-requires
 row_count-requires c =
     let passed : image_test c.args.image.now ≡ Passed = sym c.image_test-t.ensures ∙ c.in-Passed.is in
-    let g = passed_good _ passed in omega (arith, g.count)
+    omega (arith, (passed_good _ passed).count)
 
 pub length_test-requires : goal.length_test-requires
 length_test-requires c =
     let passed : image_test c.args.image.now ≡ Passed = sym c.image_test-t.ensures ∙ c.in-Passed.is in
-    let g = passed_good _ passed in
-    omega (arith, g.few_rows, c.row_count.ensures)
+    omega (arith, (passed_good _ passed).few_rows, c.row_count.ensures)
 
 pub returns : goal.returns
 unfolding begin_test

@@ -11,17 +11,12 @@ returns-then-reply-lt-BEGIN_REPLY_BYTES c = gives_no_room _ _ _ _ _ c.if-reply-l
 pub returns-in_default : goal.returns-in_default
 unfolding begin
 returns-in_default c =
-    let p = c in
-    let b = p in
-    rw (← b.begin_test-t.ensures)
-    (gives_refused b.begin_test-t.result _ _ _ _ b.if-reply-lt-BEGIN_REPLY_BYTES.false (is_refused c.in_default.is) _ p.put_head.ensures)
+    let t = c.begin_test-t in
+    rw (← t.ensures) (gives_refused t.result _ _ _ _ c.if-reply-lt-BEGIN_REPLY_BYTES.false (is_refused c.in_default.is) _ c.put_head.ensures)
 
 pub returns : goal.returns
 unfolding begin
 returns c =
-    let z = c in
-    let p = c in
-    let b = p in
+    let t = c.begin_test-t in
     let passed = c.in-Passed.is in
-    rw (← b.begin_test-t.ensures)
-    (gives_passed b.begin_test-t.result _ _ _ _ b.if-reply-lt-BEGIN_REPLY_BYTES.false passed _ _ z.clear.ensures (rw passed at p.put_head.ensures))
+    rw (← t.ensures) (gives_passed t.result _ _ _ _ c.if-reply-lt-BEGIN_REPLY_BYTES.false passed _ _ c.clear.ensures (rw passed at c.put_head.ensures))

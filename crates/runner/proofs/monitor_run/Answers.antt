@@ -21,22 +21,20 @@ returns-then-reply-lt-STEP_REPLY_BYTES c = gives_no_room _ _ _ _ _ c.if-reply-lt
 pub returns-in_default : goal.returns-in_default
 unfolding run
 returns-in_default c =
-    let p = c in
-    let b = c in
-    rw (← b.run_test-t.ensures)
-    (gives_refused b.run_test-t.result _ _ _ _ b.if-reply-lt-STEP_REPLY_BYTES.false (is_refused c.in_default.is) _ p.put_step_reply.ensures)
+    let t = c.run_test-t in
+    rw (← t.ensures) (gives_refused t.result _ _ _ _ c.if-reply-lt-STEP_REPLY_BYTES.false (is_refused c.in_default.is) _ c.put_step_reply.ensures)
 
 pub take_periods-requires : goal.take_periods-requires
 take_periods-requires c =
-    let passed : let a = c.args in run_test a.image.now a.state.now a.trace.now ≡ Passed = sym c.run_test-t.ensures ∙ c.in-Passed.is in
     let a = c.args in
+    let passed : run_test a.image.now a.state.now a.trace.now ≡ Passed = sym c.run_test-t.ensures ∙ c.in-Passed.is in
     rw c.period_records.ensures (run_ready a.image.now a.state.now a.trace.now passed, le_refl _)
 
 pub put_answer-requires : goal.put_answer-requires
 put_answer-requires c =
-    let passed : let a = c.args in run_test a.image.now a.state.now a.trace.now ≡ Passed = sym c.run_test-t.ensures ∙ c.in-Passed.is in
     let a = c.args in
     let t = a.trace.now in
+    let passed : run_test a.image.now a.state.now a.trace.now ≡ Passed = sym c.run_test-t.ensures ∙ c.in-Passed.is in
     let h = run_ready a.image.now a.state.now t passed in
     let w = trace_periods t (period_records t) in
     let e : length w ≡ period_records t = length-periods_of (form_of t) t (period_records t) in (
@@ -47,15 +45,13 @@ put_answer-requires c =
 pub returns : goal.returns
 unfolding run
 returns c =
-    let passed : let a = c.args in run_test a.image.now a.state.now a.trace.now ≡ Passed = sym c.run_test-t.ensures ∙ c.in-Passed.is in
     let a = c.args in
     let t = a.trace.now in
-    let n = c in
-    let b = n in
+    let passed : run_test a.image.now a.state.now a.trace.now ≡ Passed = sym c.run_test-t.ensures ∙ c.in-Passed.is in
     let h = run_ready a.image.now a.state.now t passed in
     let took = rw c.period_records.ensures at c.take_periods.ensures in
     let w = trace_periods t (period_records t) in
     let e : length w ≡ period_records t = length-periods_of (form_of t) t (period_records t) in
-    rw (← b.run_test-t.ensures)
-    (gives_passed b.run_test-t.result _ _ _ _ b.if-reply-lt-STEP_REPLY_BYTES.false n.in-Passed.is _ _ took
+    rw (← c.run_test-t.ensures)
+    (gives_passed c.run_test-t.result _ _ _ _ c.if-reply-lt-STEP_REPLY_BYTES.false c.in-Passed.is _ _ took
     (rw (took, later_read a.image.now a.state.now (period_records t) h w (omega arith)) at c.put_answer.ensures))

@@ -19,35 +19,30 @@ returns-then-reply-lt-STEP_REPLY_BYTES c = gives_no_room _ _ _ _ _ c.if-reply-lt
 pub returns-in_default : goal.returns-in_default
 unfolding step
 returns-in_default c =
-    let p = c in
-    let b = c in
-    rw (← b.step_test-t.ensures)
-    (gives_refused b.step_test-t.result _ _ _ _ b.if-reply-lt-STEP_REPLY_BYTES.false (is_refused c.in_default.is) _ p.put_step_reply.ensures)
+    let t = c.step_test-t in
+    rw (← t.ensures) (gives_refused t.result _ _ _ _ c.if-reply-lt-STEP_REPLY_BYTES.false (is_refused c.in_default.is) _ c.put_step_reply.ensures)
 
 pub take_periods-requires : goal.take_periods-requires
 take_periods-requires c =
-    let passed : let a = c.args in step_test a.image.now a.state.now a.period.now ≡ Passed = sym c.step_test-t.ensures ∙ c.in-Passed.is in
     let a = c.args in
-    let t = passed in
-    (step_ready a.image.now a.state.now a.period.now t, omega (arith, step_record a.image.now a.state.now a.period.now t))
+    let passed : step_test a.image.now a.state.now a.period.now ≡ Passed = sym c.step_test-t.ensures ∙ c.in-Passed.is in
+    (step_ready a.image.now a.state.now a.period.now passed, omega (arith, step_record a.image.now a.state.now a.period.now passed))
 
 pub put_answer-requires : goal.put_answer-requires
 unfolding periods_of after_periods
 put_answer-requires c =
-    let passed : let a = c.args in step_test a.image.now a.state.now a.period.now ≡ Passed = sym c.step_test-t.ensures ∙ c.in-Passed.is in
     let a = c.args in
+    let passed : step_test a.image.now a.state.now a.period.now ≡ Passed = sym c.step_test-t.ensures ∙ c.in-Passed.is in
     let h = step_ready a.image.now a.state.now a.period.now passed in
     (c.if-reply-lt-STEP_REPLY_BYTES.false, rw c.take_periods.ensures (step_answering a.image.now a.state.now h (period_in a.period.now)))
 
 pub returns : goal.returns
 unfolding step periods_of after_periods
 returns c =
-    let passed : let a = c.args in step_test a.image.now a.state.now a.period.now ≡ Passed = sym c.step_test-t.ensures ∙ c.in-Passed.is in
     let a = c.args in
-    let n = c in
-    let b = n in
+    let passed : step_test a.image.now a.state.now a.period.now ≡ Passed = sym c.step_test-t.ensures ∙ c.in-Passed.is in
     let h = step_ready a.image.now a.state.now a.period.now passed in
     let took = c.take_periods.ensures in
-    rw (← b.step_test-t.ensures)
-    (gives_passed b.step_test-t.result _ _ _ _ b.if-reply-lt-STEP_REPLY_BYTES.false n.in-Passed.is _ _ took
+    rw (← c.step_test-t.ensures)
+    (gives_passed c.step_test-t.result _ _ _ _ c.if-reply-lt-STEP_REPLY_BYTES.false c.in-Passed.is _ _ took
     (rw (took, step_read a.image.now a.state.now h (period_in a.period.now)) at c.put_answer.ensures))

@@ -3,6 +3,4 @@ use Rattle.runner.proofs.Calls.{step-written}
 use Rattle.runner.proofs.put_step_reply.Goals as goal
 
 pub returns : goal.returns
-returns c =
-    let a = c.args in
-    cc (step-written a.reply.now a.t a.verdict a.blame a.decision)
+returns c = rw (c.put4-2.ensures, c.put4.ensures, c.put_head.ensures, step-written)

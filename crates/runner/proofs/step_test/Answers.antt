@@ -17,18 +17,18 @@ returns-in_default c =
 pub returns-in_default-u : goal.returns-in_default-u
 unfolding step_test
 returns-in_default-u c =
-    let ready : let a = c.args in ready_test a.image.now a.state.now ≡ Passed = sym c.ready_test-t.ensures ∙ c.in-Passed.is in
+    let ready : ready_test c.args.image.now c.args.state.now ≡ Passed = sym c.ready_test-t.ensures ∙ c.in-Passed.is in
     let t = c.period_test-u in
     rw ready (refused_first t.result _ _ t.ensures c.in_default-u.is)
 
 pub get4-requires : goal.get4-requires
 get4-requires c =
-    let ready : let a = c.args in ready_test a.image.now a.state.now ≡ Passed = sym c.ready_test-t.ensures ∙ c.in-Passed.is in
-    let h = ready_head _ _ ready in omega arith
+    let ready : ready_test c.args.image.now c.args.state.now ≡ Passed = sym c.ready_test-t.ensures ∙ c.in-Passed.is in
+    omega (arith, ready_head _ _ ready)
 
 pub returns : goal.returns
 unfolding step_test state_of
 returns c =
-    let ready : let a = c.args in ready_test a.image.now a.state.now ≡ Passed = sym c.ready_test-t.ensures ∙ c.in-Passed.is in
+    let ready : ready_test c.args.image.now c.args.state.now ≡ Passed = sym c.ready_test-t.ensures ∙ c.in-Passed.is in
     let t = c.period_test-u in
     rw (ready, ← t.ensures, c.in-Passed-u.is, ← c.get4.ensures.is) c.count_test.ensures
