@@ -12,7 +12,7 @@ use Rattle.records.specs.declared.Fault.{Fault}
 use Rattle.records.specs.declared.Fault.TheVariants.{ShortBuffer}
 use Rattle.records.specs.declared.Test.{Test}
 use Rattle.records.specs.declared.Test.TheVariants.{Passed, Refused}
-use Rattle.records.specs.Refusals.{fault_number, number_of, require, first_of}
+use Rattle.records.specs.Refusals.{fault_number, number_of, require}
 use Rattle.records.proofs.Refusals.{first_passed, require-passed, fault_bounds, only_for, only_require, only_append}
 use Rattle.contract.specs.Meaning.{Clause}
 use Rattle.grammar.specs.Limits.{max_records, max_window}
@@ -44,16 +44,13 @@ module _ (contract buffer : List ℕ) where
   unfolding compile_test read_test
   taken_number = (there (read_test contract) refl, back)
     where
-      room : Test
-      room = require (leb (buffer_for contract) (length buffer)) ShortBuffer 0
-
-      there : (t : Test) → read_test contract ≡ t → (number_of (first_of (read_test contract) room) ≡ 0) ⊎ (number_of (first_of (read_test contract) room) ≡ 8)
+      there : (t : Test) → read_test contract ≡ t → (number_of (compile_test contract buffer) ≡ 0) ⊎ (number_of (compile_test contract buffer) ≡ 8)
           → (c : Clause) × Spells contract c
       there Passed e n = let k = test_passed contract e in (k.clause, k.spells)
       there (Refused f p) e (inl n) = absurd (omega (arith, rw e at n, (fault_bounds f).0))
       there (Refused f p) e (inr n) = let o = rw e at (read_only contract) in let i : fault_number f ≡ 8 = rw e at n in absurd (false≢true (rw i at o))
 
-      back : (c : Clause) × Spells contract c → (number_of (first_of (read_test contract) room) ≡ 0) ⊎ (number_of (first_of (read_test contract) room) ≡ 8)
+      back : (c : Clause) × Spells contract c → (number_of (compile_test contract buffer) ≡ 0) ⊎ (number_of (compile_test contract buffer) ≡ 8)
       back s = rw (spells_taken contract s.0 s.1) (short (leb (buffer_for contract) (length buffer)))
 
   -- and the image of one that passes them may be written

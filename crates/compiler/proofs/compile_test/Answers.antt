@@ -22,9 +22,7 @@ returns-in_default c =
     refused_first t.result _ _ t.ensures c.in_default.is
 
 pub windows-windows-requires : goal.windows-windows-requires
-windows-windows-requires c =
-    let passed : read_test c.args.contract.now ≡ Passed = sym c.read-t.ensures ∙ c.in-Passed.is in
-    rw c.contract_records-n.ensures (has_records _ passed)
+windows-windows-requires c = rw c.contract_records-n.ensures (has_records _ (sym c.read-t.ensures ∙ c.in-Passed.is))
 
 -- a contract that is taken has few records and windows: these are what the program counts
 record Counted (contract : List ℕ) (n windows : ℕ) : Type 0 where
@@ -60,7 +58,7 @@ pub returns-then-image-n : goal.returns-then-image-n
 unfolding compile_test
 returns-then-image-n c =
     let a = c.args in
-    let passed : read_test a.contract.now ≡ Passed = sym c.read-t.ensures ∙ c.in-Passed.is in
+    let passed = sym c.read-t.ensures ∙ c.in-Passed.is in
     let few = counted a.contract.now c.read-t.ensures c.in-Passed.is c.contract_records-n.ensures c.windows-windows.ensures in
     rw (passed, lt-leb (buffer_for a.contract.now) (length a.image.now) (omega (arith, c.if-image-n.true)))
 
@@ -68,6 +66,6 @@ pub returns : goal.returns
 unfolding compile_test
 returns c =
     let a = c.args in
-    let passed : read_test a.contract.now ≡ Passed = sym c.read-t.ensures ∙ c.in-Passed.is in
+    let passed = sym c.read-t.ensures ∙ c.in-Passed.is in
     let few = counted a.contract.now c.read-t.ensures c.in-Passed.is c.contract_records-n.ensures c.windows-windows.ensures in
     rw (passed, le-leb (buffer_for a.contract.now) (length a.image.now) (omega (arith, c.if-image-n.false)))

@@ -1,8 +1,6 @@
 -- `compiler::monitor_compile` meets its contract: no room for the reply, refused, or accepted.
-use mathlib.Core.Path.{◌≡◌, sym, ◌∙◌}
-use Rattle.records.specs.declared.Test.TheVariants.{Passed}
+use mathlib.Core.Path.{sym, ◌∙◌}
 use Rattle.records.proofs.Refusals.{is_refused}
-use Rattle.compiler.specs.Refusals.{compile_test}
 use Rattle.compiler.proofs.Refusals.{may_write}
 use Rattle.compiler.proofs.Calls.{no_room, turned_away, served}
 use Rattle.compiler.proofs.monitor_compile.Goals as goal
@@ -16,12 +14,10 @@ returns-in_default c =
     turned_away _ _ _ c.if-reply-lt-COMPILE_REPLY_BYTES.false (λ e. is_refused c.in_default.is (t ∙ e)) _ (rw t at c.put_head.ensures)
 
 pub put_image-rows-requires : goal.put_image-rows-requires
-put_image-rows-requires c =
-    let passed : let a = c.args in compile_test a.contract.now a.image.now ≡ Passed = sym c.compile_test-t.ensures ∙ c.in-Passed.is in
-    rw c.contract_records.ensures (may_write _ _ passed)
+put_image-rows-requires c = rw c.contract_records.ensures (may_write _ _ (sym c.compile_test-t.ensures ∙ c.in-Passed.is))
 
 pub returns : goal.returns
 returns c =
-    let passed : let a = c.args in compile_test a.contract.now a.image.now ≡ Passed = sym c.compile_test-t.ensures ∙ c.in-Passed.is in
+    let passed = sym c.compile_test-t.ensures ∙ c.in-Passed.is in
     let i = c.put_image-rows.ensures in
     served _ _ _ c.if-reply-lt-COMPILE_REPLY_BYTES.false passed _ _ i.written (rw (c.in-Passed.is, i.count) at c.put_head-2.ensures)

@@ -25,8 +25,7 @@ module _ (r : RecordBody) (k : Kind) (e : kind_of r.kind ≡ some k) where
 
 pub returns-then-party-eq-BOTH_PARTIES : goal.returns-then-party-eq-BOTH_PARTIES
 returns-then-party-eq-BOTH_PARTIES c k e =
-    let t = c in
-    c.named.ensures ∙ joint t.args.r k e t.if-kind-eq-DUTY.true (eq-eqb _ _ c.if-party-eq-BOTH_PARTIES.true)
+    c.named.ensures ∙ joint c.args.r k e c.if-kind-eq-DUTY.true (eq-eqb _ _ c.if-party-eq-BOTH_PARTIES.true)
 
 pub returns : goal.returns
 returns c k e =

@@ -52,12 +52,6 @@ loop-j-preserved c =
           (rw (← r) c.put_row.ensures)),
     )
 
--- NOT PLACED same_length : same-length
--- same_length : tie.Need-same-length invariant-loop decreases-loop
--- same_length c =
---     let a = c.before.before.before.before.args in
---     rw c.before.loop.invariant.1 (length-written a.image.now a.at (table_rows a.bases.now (map unpacked a.table.now) a.from c.before.loop.j))
-
 pub returns : goal.returns
 returns c =
     let e : c.loop-j.j ≡ c.args.count = omega arith in

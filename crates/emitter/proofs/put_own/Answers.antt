@@ -4,8 +4,7 @@ use Rattle.emitter.proofs.Writing.{length-written}
 use Rattle.emitter.proofs.put_own.Goals as goal
 
 pub put_rows-requires-2 : goal.put_rows-requires-2
-put_rows-requires-2 c =
-    rw (c.put_rows.ensures, length-written) c.requires.second
+put_rows-requires-2 c = rw (c.put_rows.ensures, length-written) c.requires.second
 
 pub returns : goal.returns
 unfolding record_written

@@ -3,8 +3,4 @@ use Rattle.emitter.proofs.Periods.{written_period}
 use Rattle.emitter.proofs.put_period.Goals as goal
 
 pub returns : goal.returns
-returns c =
-    let third = c in
-    let second = third in
-    let first = second in
-    written_period _ _ _ _ _ _ _ _ first.put_row.ensures second.put_row-2.ensures third.put_row-3.ensures
+returns c = written_period _ _ _ _ _ _ _ _ c.put_row.ensures c.put_row-2.ensures c.put_row-3.ensures

@@ -4,27 +4,18 @@ use Rattle.emitter.specs.Blocks.{no_block, bases_of, wires_of}
 use Rattle.emitter.proofs.wires_of.Goals as goal
 
 pub value_at-requires : goal.value_at-requires
-value_at-requires c =
-    let t = c in
-    rw (t.bases-meant.ensures, t.no_block-2.ensures, t.no_block.ensures) t.requires
+value_at-requires c = rw (c.bases-meant.ensures, c.no_block-2.ensures, c.no_block.ensures) c.requires
 
 pub value_at-requires-2 : goal.value_at-requires-2
-value_at-requires-2 c =
-    let t = c in
-    rw (t.bases-meant.ensures, t.no_block-2.ensures, t.no_block.ensures) t.requires
+value_at-requires-2 c = rw (c.bases-meant.ensures, c.no_block-2.ensures, c.no_block.ensures) c.requires
 
 pub value_at-requires-3 : goal.value_at-requires-3
-value_at-requires-3 c =
-    let t = c in
-    rw (t.bases-meant.ensures, t.no_block-2.ensures, t.no_block.ensures) t.requires
+value_at-requires-3 c = rw (c.bases-meant.ensures, c.no_block-2.ensures, c.no_block.ensures) c.requires
 
 pub returns : goal.returns
 unfolding wires_of
 returns c =
-    let q = c in
-    let p = q in
-    let t = p in
-    let a = t.args in
-    let e : t.bases-meant.result ≡ bases_of a.at a.s a.k (no_block 0 0) (no_block 0 0) 0 0 =
-    rw (t.bases-meant.ensures, t.no_block-2.ensures, t.no_block.ensures) in
-    rw (c.value_at-3.ensures, q.value_at-2.ensures, p.value_at.ensures, e)
+    let a = c.args in
+    let e : c.bases-meant.result ≡ bases_of a.at a.s a.k (no_block 0 0) (no_block 0 0) 0 0 =
+    rw (c.bases-meant.ensures, c.no_block-2.ensures, c.no_block.ensures) in
+    rw (c.value_at-3.ensures, c.value_at-2.ensures, c.value_at.ensures, e)

@@ -6,17 +6,12 @@ use Rattle.report.proofs.Split.{found_within, none_found, one_found}
 use Rattle.report.proofs.contract_length.Goals as goal
 
 pub returns-then-k-n : goal.returns-then-k-n
-returns-then-k-n c =
-    let n = c.whole_periods-n in
-    none_found _ _ _ n.ensures c.first_period-k.ensures c.if-k-n.true
+returns-then-k-n c = none_found _ _ _ c.whole_periods-n.ensures c.first_period-k.ensures c.if-k-n.true
 
 pub overflow_mul-result : goal.overflow_mul-result
 overflow_mul-result c =
-    let n = c.whole_periods-n in
-    let k = found_within _ _ _ n.ensures c.first_period-k.ensures in
-    omega (arith, k, n.ensures, few_whole Narrow c.args.input.now)
+    let n = c.whole_periods-n.ensures in
+    omega (arith, found_within _ _ _ n c.first_period-k.ensures, n, few_whole Narrow c.args.input.now)
 
 pub returns : goal.returns
-returns c =
-    let n = c.whole_periods-n in
-    one_found _ _ _ n.ensures c.first_period-k.ensures c.if-k-n.false
+returns c = one_found _ _ _ c.whole_periods-n.ensures c.first_period-k.ensures c.if-k-n.false

@@ -1,10 +1,8 @@
 -- `report::first_period` meets its contract: none of the sixes before k starts with a mark.
-use Prim.Native.Nat.{◌+◌, ◌*◌, ◌≤◌}
 use native.Mathlib.Nat.{sub-zero}
 use native.Mathlib.Omega.{arith}
 use mathlib.Core.Path.{sym, ap, ◌∙◌}
 use mathlib.Core.Bool.{not}
-use lib.ListN.{length}
 use Rattle.records.proofs.Searches.{failing_next, failing_here, failing_end}
 use Rattle.periods.specs.declared.Form.TheVariants.{Narrow}
 use Rattle.periods.proofs.Forms.{period_inside}
@@ -15,16 +13,10 @@ pub loop-k-init : goal.loop-k-init
 loop-k-init c = (omega arith, rw sub-zero)
 
 pub overflow_mul-k : goal.overflow_mul-k
-overflow_mul-k c =
-    let inside : let a = c.args in 6 * c.loop-k.k + 6 ≤ length a.input.now = let a = c.args in
-    period_inside Narrow a.input.now c.loop-k.k (omega (arith, c.requires)) in
-    let i = inside in omega arith
+overflow_mul-k c = omega (arith, period_inside Narrow c.args.input.now c.loop-k.k (omega (arith, c.requires)))
 
 pub either_mark-requires : goal.either_mark-requires
-either_mark-requires c =
-    let inside : let a = c.args in 6 * c.loop-k.k + 6 ≤ length a.input.now = let a = c.args in
-    period_inside Narrow a.input.now c.loop-k.k (omega (arith, c.requires)) in
-    let i = inside in omega arith
+either_mark-requires c = omega (arith, period_inside Narrow c.args.input.now c.loop-k.k (omega (arith, c.requires)))
 
 pub loop-k-preserved : goal.loop-k-preserved
 unfolding unmarked_six

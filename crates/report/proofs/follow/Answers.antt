@@ -5,8 +5,7 @@ use Rattle.report.proofs.follow.Goals as goal
 
 pub put_lines-requires : goal.put_lines-requires
 put_lines-requires c =
-    rw c.period_records.ensures
-    (may_list c.requires _ _ (omega arith) c.monitor_begin.ensures.buffers_are)
+    rw c.period_records.ensures (may_list c.requires _ _ (omega arith) c.monitor_begin.ensures.buffers_are)
 
 pub returns : goal.returns
 returns c =

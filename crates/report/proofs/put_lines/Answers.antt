@@ -11,8 +11,7 @@ loop-k-init c =
     (omega arith, omega arith, refl, refl, λ d f. held_first d a.image.now a.trace.now a.text.now a.state.now f)
 
 pub step-seen-requires : goal.step-seen-requires
-step-seen-requires c =
-    next_whole c.requires c.loop-k.k c.loop-k-test.true
+step-seen-requires c = next_whole c.requires c.loop-k.k c.loop-k-test.true
 
 pub overflow_add-k : goal.overflow_add-k
 overflow_add-k c = omega (arith, c.loop-k-test.true)

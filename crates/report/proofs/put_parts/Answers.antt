@@ -1,10 +1,9 @@
 -- `report::put_parts` meets its contract: the contract refused, the trace refused, or its lines put.
 use native.Mathlib.Omega.{arith}
 use mathlib.Core.Path.{sym, ◌∙◌}
-use lib.ListN.{take}
 use lib.Seq.{length-take-le}
 use Rattle.report.proofs.Texts.{short_refused}
-use Rattle.report.proofs.Reports.{end-within, front_length, contract_refused, Served, served, trace_refused, may_follow, followed}
+use Rattle.report.proofs.Reports.{end-within, front_length, contract_refused, served, trace_refused, may_follow, followed}
 use Rattle.report.proofs.put_parts.Goals as goal
 
 pub slice_bounds-compile-end : goal.slice_bounds-compile-end
@@ -30,27 +29,31 @@ put_refused-requires-in_default c = omega (arith, short_refused c.number.result 
 
 pub returns-in_default : goal.returns-in_default
 returns-in_default c =
-    rw (trace_refused _ _ c.contract_length-end.ensures c.compile-compiled.ensures c.requires.image_len c.if-compiled-ne0.false c.trace_test-t.result c.trace_test-t.ensures _ _ c.in_default.is, ← c.number.ensures, ← c.place.ensures) c.put_refused-in_default.ensures
+    let t = c.trace_test-t in
+    rw (
+      trace_refused _ _ c.contract_length-end.ensures c.compile-compiled.ensures c.requires.image_len c.if-compiled-ne0.false t.result t.ensures _ _ c.in_default.is,
+      ← c.number.ensures,
+      ← c.place.ensures,
+    ) c.put_refused-in_default.ensures
 
 pub slice_bounds-follow-end : goal.slice_bounds-follow-end
 slice_bounds-follow-end c =
-    let compiled : Served (take c.contract_length-end.result c.args.input.now) c.compile-compiled.new.image c.compile-compiled.result.own = served _ _ c.contract_length-end.ensures c.compile-compiled.ensures c.requires.image_len c.if-compiled-ne0.false in
-    compiled.within
+    (served _ _ c.contract_length-end.ensures c.compile-compiled.ensures c.requires.image_len c.if-compiled-ne0.false).within
 
 pub slice_bounds-follow-end-2 : goal.slice_bounds-follow-end-2
 slice_bounds-follow-end-2 c =
-    let compiled : Served (take c.contract_length-end.result c.args.input.now) c.compile-compiled.new.image c.compile-compiled.result.own = served _ _ c.contract_length-end.ensures c.compile-compiled.ensures c.requires.image_len c.if-compiled-ne0.false in
-    sym (length-take-le _ _ compiled.within)
+    let s = served _ _ c.contract_length-end.ensures c.compile-compiled.ensures c.requires.image_len c.if-compiled-ne0.false in
+    sym (length-take-le _ _ s.within)
 
 pub slice_bounds-follow-end-3 : goal.slice_bounds-follow-end-3
 slice_bounds-follow-end-3 c =
-    let compiled : Served (take c.contract_length-end.result c.args.input.now) c.compile-compiled.new.image c.compile-compiled.result.own = served _ _ c.contract_length-end.ensures c.compile-compiled.ensures c.requires.image_len c.if-compiled-ne0.false in
-    omega (arith, compiled.few, c.requires.state_len)
+    let s = served _ _ c.contract_length-end.ensures c.compile-compiled.ensures c.requires.image_len c.if-compiled-ne0.false in
+    omega (arith, s.few, c.requires.state_len)
 
 pub slice_bounds-follow-end-4 : goal.slice_bounds-follow-end-4
 slice_bounds-follow-end-4 c =
-    let compiled : Served (take c.contract_length-end.result c.args.input.now) c.compile-compiled.new.image c.compile-compiled.result.own = served _ _ c.contract_length-end.ensures c.compile-compiled.ensures c.requires.image_len c.if-compiled-ne0.false in
-    sym (length-take-le _ _ (omega (arith, compiled.few, c.requires.state_len)))
+    let s = served _ _ c.contract_length-end.ensures c.compile-compiled.ensures c.requires.image_len c.if-compiled-ne0.false in
+    sym (length-take-le _ _ (omega (arith, s.few, c.requires.state_len)))
 
 pub follow-requires : goal.follow-requires
 follow-requires c =

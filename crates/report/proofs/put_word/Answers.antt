@@ -17,9 +17,5 @@ loop-k-preserved c =
     let l = c.loop-k in
     (omega arith, puts_next a.text.now a.at a.word.now l.k (omega arith) (omega arith) l.invariant.1)
 
--- NOT PLACED same_length : same-length
--- same_length : tie.Need-same-length invariant-loop decreases-loop
--- same_length c = puts_length c.before.loop.invariant.1
-
 pub returns : goal.returns
 returns c = rw (take_all c.loop-k.k c.args.word.now (omega arith)) at c.loop-k.invariant.1
