@@ -58,7 +58,7 @@ call_vectors = (
     broken_later = refl;
     last_period = refl;
     run_of_two = refl;
-    run-of-none = refl;
+    run_of_none = refl;
     no_room = refl;
     just_room = refl;
   },
@@ -66,9 +66,9 @@ call_vectors = (
   record {
     undecided = refl;
     violated = refl;
-    each-outcome = refl;
+    each_outcome = refl;
     bad_after = refl;
-    bad-before = refl;
+    bad_before = refl;
     bad_undecided = refl;
     bad_deciding = refl;
     bad_length = refl;
@@ -83,12 +83,12 @@ call_vectors = (
   record {
     upper_action = refl;
     wide_run = refl;
-    either-form = refl;
+    either_form = refl;
     other_form_step = refl;
     other_form_run = refl;
     bad_in_both = refl;
     wide_count = refl;
-    wide-decided = refl;
+    wide_decided = refl;
     other_form_decided = refl;
     first_mark_first = λ rest. rw (other_refused rest);
     fewest = refl;

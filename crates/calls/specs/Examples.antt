@@ -82,7 +82,7 @@ pub record CallVectors : Type 0 where
   pub run_of_two : run good_image (replicate 13 0) (narrow_record 1 0 ++ narrow_record 0 0) (area 25)
       ≡ leaves (state 2 1 2 2 (0 ∷ 1 ∷ 0 ∷ [])) (reply 0 2 0 1 2)
   -- "of the state they leave, also for zero records", on a full count too
-  pub run-of-none :
+  pub run_of_none :
       map (λ (l : List ℕ). run good_image l [] (area 25)) (state 2 1 3 3 (0 ∷ 1 ∷ 0 ∷ []) ∷ state 2 1 4 3 (0 ∷ 1 ∷ 0 ∷ []) ∷ full ∷ [])
       ≡ leaves (state 2 1 3 3 (0 ∷ 1 ∷ 0 ∷ [])) (reply 0 2 0 1 3)
       ∷ leaves (state 2 1 4 3 (0 ∷ 1 ∷ 0 ∷ [])) (reply 0 4 0 1 3)
@@ -136,7 +136,7 @@ pub record DecideVectors : Type 0 where
   pub violated : map (decided good_image) (broken_at2 ∷ (broken_at2 ++ narrow_record 1 1 ++ narrow_record 0 0) ∷ (narrow_record 0 0 ++ broken_at2 ++ narrow_record 0 0) ∷ [])
       ≡ leaves tt (decide_reply 0 2 0 1 2 2) ∷ leaves tt (decide_reply 0 2 0 1 2 2) ∷ leaves tt (decide_reply 0 2 0 1 3 3) ∷ []
   -- satisfied in period 1; violated in period 2 with blame 2 and with 3; satisfied and violated at once is violated; satisfied by what both try in period 3
-  pub each-outcome :
+  pub each_outcome :
       map (λ (image : List ℕ). decided image (narrow_record 0 1 ++ narrow_record 1 0 ++ narrow_record 1 1 ++ narrow_record 0 0))
       (deciding_by 1 0 0 ∷ deciding_by 0 0 2 ∷ deciding_by 0 2 2 ∷ deciding_by 1 1 0 ∷ deciding_by 5 0 0 ∷ [])
       ≡ leaves tt (decide_reply 0 1 0 0 1 1)
@@ -149,7 +149,7 @@ pub record DecideVectors : Type 0 where
   pub bad_after : map (decided good_image) ((broken_at2 ++ other_record) ∷ (broken_at2 ++ narrow_record 0 0 ++ other_record) ∷ [])
       ≡ replicate 2 (leaves tt (decide_reply 0 2 0 1 2 2))
   -- before it: record 0, record 1 of three, the first of two
-  pub bad-before :
+  pub bad_before :
       map (decided good_image)
       ((other_record ++ narrow_record 0 0) ∷ (narrow_record 0 0 ++ other_record ++ narrow_record 0 0) ∷ (narrow_record 0 0 ++ other_record ++ other_record) ∷ [])
       ≡ leaves tt (decide_reply 11 0 0 0 0 0) ∷ leaves tt (decide_reply 11 0 1 0 0 0) ∷ leaves tt (decide_reply 11 0 1 0 0 0) ∷ []
@@ -199,7 +199,7 @@ pub record WideVectors : Type 0 where
       ≡ replicate 2 (leaves (state 1 0 1 1 (1 ∷ 0 ∷ [])) (reply 0 1 0 0 1)) ++ replicate 2 (leaves (state 0 0 1 0 (0 ∷ 0 ∷ [])) (reply 0 0 0 0 0))
   -- a run of two wide records, and steps in either form, one after the other
   pub wide_run : run good_image (replicate 13 0) (wide_record 1 0 ++ wide_record 0 0) (area 25) ≡ leaves (state 2 1 2 2 (0 ∷ 1 ∷ 0 ∷ [])) (reply 0 2 0 1 2)
-  pub either-form :
+  pub either_form :
       map (λ rs. state_after good_image (replicate 13 0) (calls_with rs)) ((narrow_record 1 0 ∷ wide_record 0 0 ∷ []) ∷ (wide_record 1 0 ∷ narrow_record 0 0 ∷ []) ∷ [])
       ≡ replicate 2 (state 2 1 2 2 (0 ∷ 1 ∷ 0 ∷ []))
   -- a step's record with the other form's mark; "refusal 11 meets a later record of the other"
@@ -216,7 +216,7 @@ pub record WideVectors : Type 0 where
       ∷ []
       ≡ leaves one_left (reply 12 0 1 0 0) ∷ leaves full (reply 0 0 0 0 0) ∷ []
   -- decide reads records of the first one's form up to the decision
-  pub wide-decided :
+  pub wide_decided :
       map (decided good_image)
       ((wide_record 1 0 ++ wide_record 0 0 ++ wide_record 1 1) ∷ (wide_record 1 0 ++ wide_record 0 0 ++ narrow_long) ∷ (broken_at2 ++ wide_cut) ∷ [])
       ≡ replicate 3 (leaves tt (decide_reply 0 2 0 1 2 2))

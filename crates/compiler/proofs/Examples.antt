@@ -21,4 +21,4 @@ pub compile_vectors : CompileVectors
 unfolding
     compile compile_test call fields_bytes read_test read Reader.good_contract_length Reader.contract_records Reader.contract_windows Reader.windows_of read_records read_record first_numbered kind_of good_fields operands_of node image_for image
     rows_for window_rows clause_rows outputs_of after_clause image_bytes rows_bytes end_bytes encode row_count marked bytes holds_empty
-compile_vectors = record { taken = refl; joint_taken = refl; small-inputs = refl; small-inputs-with-room = refl; short_for_one = refl; short_for_two = refl; enough_for_two = refl; deadline_taken = refl; short_for_window = refl; short-for-windows = refl; room = refl; no_room = refl }
+compile_vectors = record { taken = refl; joint_taken = refl; small_inputs_lem = refl; small_inputs_with_room = refl; short_for_one = refl; short_for_two = refl; enough_for_two = refl; deadline_taken = refl; short_for_window = refl; short_for_windows = refl; room = refl; no_room = refl }

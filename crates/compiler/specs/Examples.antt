@@ -76,7 +76,7 @@ pub record CompileVectors : Type 0 where
   pub taken : compile duty_bytes (area 776) (area 17) ≡ leaves (duty_image ++ area 680) (head 0 11 0)
   pub joint_taken : compile (six 1 3 0) (area 776) (area 17) ≡ leaves (joint_image ++ area 680) (head 0 11 0)
   -- the table's small inputs, 1 to 8: "every other field is 0 and every lent buffer but the reply's area is unchanged"
-  pub small-inputs :
+  pub small_inputs_lem :
       map refusal
       ((0x54 ∷ 0x43 ∷ 0x01 ∷ 0x01 ∷ 0x00 ∷ [])
       ∷ (0x54 ∷ 0x44 ∷ 0x01 ∷ 0x01 ∷ 0x00 ∷ 0x00 ∷ [])
@@ -89,7 +89,7 @@ pub record CompileVectors : Type 0 where
       ≡ map (leaves (area 3))
       (head 1 0 0 ∷ head 2 0 0 ∷ head 3 0 0 ∷ head 4 0 0 ∷ head 5 0 0 ∷ head 6 0 1 ∷ head 7 0 3 ∷ head 8 0 0 ∷ [])
   -- also with room for the image of four records
-  pub small-inputs-with-room :
+  pub small_inputs_with_room :
       map (with_buffer 1544) small_inputs
       ≡ map (leaves (area 1544)) (head 1 0 0 ∷ head 2 0 0 ∷ head 3 0 0 ∷ head 4 0 0 ∷ head 5 0 0 ∷ head 6 0 1 ∷ head 7 0 3 ∷ [])
   -- 8: "under 8 × (32 × records + 65) bytes", 776 for one record and 1,032 for two
@@ -99,7 +99,7 @@ pub record CompileVectors : Type 0 where
   -- "4 rows for each period of each window" more: 840 bytes for one deadline of window 2, 1,832 for those of 2 and 15 under `both`
   pub deadline_taken : compile (six_with 10 1 0 2) (area 840) (area 17) ≡ leaves (deadline_image ++ area 688) (head 0 18 0)
   pub short_for_window : compile (six_with 10 1 0 2) (area 839) (area 17) ≡ leaves (area 839) (head 8 0 0)
-  pub short-for-windows :
+  pub short_for_windows :
       map (λ b. (compile (joined (six_with 10 1 0 2 ∷ six_with 10 2 0 15 ∷ six 4 0 0 ∷ [])) (area b) (area 16)).reply) (1831 ∷ 1832 ∷ [])
       ≡ head 8 0 0 ∷ head 0 86 0 ∷ []
   -- the reply has 16 bytes. If the area is shorter, "the call writes nothing anywhere"

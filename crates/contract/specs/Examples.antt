@@ -81,9 +81,9 @@ pub record WorkedExamples : Type 0 where
   pub repaired : meaning (repair (duty party1 a) (duty party1 b)) (-/- ∷ b/b ∷ []) ≡ satisfied 2
   pub repeated : meaning (repeat (duty party1 a)) (a/a ∷ []) ≡ undecided
   pub when_rejected : meaning (when (atom (tries party1 b)) (duty party2 a)) (-/- ∷ []) ≡ satisfied 1
-  pub until-accepted :
+  pub until_accepted :
       meaning (until (repeat (duty party1 a)) (seq (star (atom any)) (atom (tries party1 b)))) (a/a ∷ ab/a ∷ []) ≡ satisfied 2
-  pub until-violated :
+  pub until_violated :
       meaning (until (repeat (duty party1 a)) (seq (star (atom any)) (atom (tries party1 b)))) (a/a ∷ b/a ∷ []) ≡ violated 2 (only party1)
 
 -- one for each point of "What students hand in", two where it names two; the student's answer stands in brackets
@@ -91,7 +91,7 @@ pub record StudentExamples : Type 0 where
   -- party 2's later breach in the other half adds no blame (violated at 1, blame 3)
   pub no_later_blame : meaning (both (duty party1 a) (then (ban party2 b) (duty party2 b))) (-/a ∷ b/- ∷ []) ≡ violated 1 (only party1)
   -- the half that owes b in period 3 dies with the whole in period 1, so nothing is to be repaired in period 4 (violated at 4, blame 1)
-  pub no-living-half :
+  pub no_living_half :
       meaning (repeat (repair (both (duty party1 a) (then (ban party1 b) (then (ban party1 b) (duty party2 b)))) (ban party1 a)))
       (-/- ∷ -/- ∷ a/a ∷ a/a ∷ [])
       ≡ undecided
@@ -149,10 +149,10 @@ pub record ExpressionExamples : Type 0 where
   pub succeeds_b : readings_b (atom (succeeds b)) ≡ rejected 1 ∷ accepted 1 ∷ rejected 1 ∷ rejected 1 ∷ []
   pub fails_b : readings_b (atom (fails b)) ≡ accepted 1 ∷ rejected 1 ∷ accepted 1 ∷ accepted 1 ∷ []
   -- "the one-period lists": each kind holds one period, so b is due in period 2
-  pub one-period-each :
+  pub one_period_each :
       map (λ e. reading (seq e tries_b) (-/- ∷ -/- ∷ [])) (atom any ∷ atom (idle party1 a) ∷ atom (idle party2 a) ∷ atom (fails a) ∷ [])
       ≡ replicate 4 (rejected 2)
-  pub one-period-tried :
+  pub one_period_tried :
       map (λ e. reading (seq e tries_b) (a/a ∷ a/a ∷ [])) (atom (tries party1 a) ∷ atom (tries party2 a) ∷ atom (succeeds a) ∷ [])
       ≡ replicate 3 (rejected 2)
   -- "`seq` joins a list of each"
@@ -164,21 +164,21 @@ pub record ExpressionExamples : Type 0 where
   pub or_left_goes_on : map (reading (or (seq tries_a tries_b) tries_b)) ((a/- ∷ []) ∷ (a/- ∷ a/- ∷ []) ∷ []) ≡ pending ∷ rejected 2 ∷ []
   pub or_right_goes_on : map (reading (or tries_b (seq tries_a tries_b))) ((a/- ∷ []) ∷ (a/- ∷ a/- ∷ []) ∷ []) ≡ pending ∷ rejected 2 ∷ []
   -- "`star` joins zero or more lists"
-  pub star-in :
+  pub star_in :
       map (reading (seq (star tries_a) tries_b)) ((b/- ∷ []) ∷ (a/- ∷ a/- ∷ []) ∷ (a/- ∷ a/- ∷ b/- ∷ []) ∷ (a/- ∷ -/- ∷ []) ∷ [])
       ≡ accepted 1 ∷ pending ∷ accepted 3 ∷ rejected 2 ∷ []
   -- the left of `seq`, and each list under `star`, may be longer than its first end: a and b, and not a alone
-  pub seq-longer :
+  pub seq_longer :
       map (reading (seq a_or_ab tries_a)) ((a/- ∷ b/- ∷ []) ∷ (a/- ∷ b/- ∷ a/- ∷ []) ∷ (a/- ∷ b/- ∷ b/- ∷ []) ∷ (a/- ∷ a/- ∷ []) ∷ [])
       ≡ pending ∷ accepted 3 ∷ rejected 3 ∷ accepted 2 ∷ []
-  pub star-longer :
+  pub star_longer :
       map (reading (seq (star a_or_ab) (atom (tries party2 a))))
       ((a/- ∷ b/- ∷ []) ∷ (a/- ∷ b/- ∷ -/a ∷ []) ∷ (a/- ∷ b/- ∷ b/- ∷ []) ∷ (a/- ∷ a/- ∷ b/- ∷ -/a ∷ []) ∷ [])
       ≡ pending ∷ accepted 3 ∷ rejected 3 ∷ accepted 4 ∷ []
   -- "at the least k", and "provided it wasn't accepted before"
   pub accepted_once : map (reading (or tries_a (seq tries_a tries_a))) ((a/- ∷ a/- ∷ []) ∷ (a/- ∷ b/- ∷ []) ∷ []) ≡ accepted 1 ∷ accepted 1 ∷ []
   -- which hold the empty list
-  pub empty-in :
+  pub empty_in :
       map holds_empty
       (tries_a ∷ any* ∷ seq tries_a tries_a ∷ seq any* tries_a ∷ seq tries_a any* ∷ seq any* any*
       ∷ or tries_a tries_a ∷ or any* tries_a ∷ or tries_a any* ∷ [])
@@ -205,31 +205,31 @@ pub record ClauseExamples : Type 0 where
   pub both_left_open : meaning (both (repeat (duty party1 a)) (ban party1 a)) (a/a ∷ []) ≡ violated 1 (only party1)
   pub both_right_open : meaning (both (ban party1 a) (repeat (duty party1 a))) (a/a ∷ []) ≡ violated 1 (only party1)
   -- "the two blames are united if they fall in the same period"
-  pub both-blames :
+  pub both_blames :
       map (λ c. blame (meaning c (a/a ∷ [])))
       (both (ban party1 a) (ban party1 a) ∷ both (ban party2 a) (ban party2 a)
       ∷ both (ban party1 a) (ban party2 a) ∷ both (ban party2 a) (ban party1 a)
       ∷ both (ban party1 a) (both (ban party2 a) (ban party1 a)) ∷ both (both (ban party1 a) (ban party2 a)) (ban party2 a) ∷ [])
       ≡ 1 ∷ 2 ∷ 3 ∷ 3 ∷ 3 ∷ 3 ∷ []
   -- also in a later period than the first; equal blames are one
-  pub both-blames-later :
+  pub both_blames_later :
       map (λ c. meaning c (ab/ab ∷ -/- ∷ []))
       (both (repeat (duty party1 a)) (repeat (duty party2 b)) ∷ both (repeat (duty party2 a)) (repeat (duty party1 b))
       ∷ both (repeat (duty party1 a)) (repeat (duty party1 b)) ∷ both (repeat (duty party2 a)) (repeat (duty party2 b)) ∷ [])
       ≡ violated 2 both_parties ∷ violated 2 both_parties ∷ violated 2 (only party1) ∷ violated 2 (only party2) ∷ []
   -- "Otherwise satisfied when the later half is satisfied."
-  pub both-at-right :
+  pub both_at_right :
       map (meaning (both (duty party1 a) (then (duty party1 a) (duty party2 a)))) ((a/a ∷ []) ∷ (a/a ∷ a/a ∷ []) ∷ [])
       ≡ undecided ∷ satisfied 2 ∷ []
-  pub both-at-left :
+  pub both_at_left :
       map (meaning (both (then (duty party1 a) (duty party2 a)) (duty party1 a))) ((a/a ∷ []) ∷ (a/a ∷ a/a ∷ []) ∷ [])
       ≡ undecided ∷ satisfied 2 ∷ []
   -- "a left violation is the violation of the whole"; open after the left's satisfaction; the right's own violation
-  pub then-decides :
+  pub then_decides :
       map (meaning (then (duty party1 a) (duty party1 b))) ((-/- ∷ []) ∷ (a/a ∷ []) ∷ (a/a ∷ b/- ∷ []) ∷ [])
       ≡ violated 1 (only party1) ∷ undecided ∷ violated 2 (only party2) ∷ []
   -- "a left satisfaction satisfies the whole"; open after the left's violation; "its blame alone counts"
-  pub repair-decides :
+  pub repair_decides :
       map (meaning (repair (duty party1 a) (duty party2 b))) ((a/a ∷ []) ∷ (-/- ∷ []) ∷ (-/- ∷ -/- ∷ []) ∷ [])
       ≡ satisfied 1 ∷ undecided ∷ violated 2 (only party2) ∷ []
   -- "each satisfaction at k begins the clause anew at k+1; never satisfied; its first violation is the whole's"
@@ -241,10 +241,10 @@ pub record ClauseExamples : Type 0 where
   pub when_accepted : map (meaning (when tries_b (duty party2 a))) ((b/a ∷ []) ∷ (b/- ∷ a/- ∷ []) ∷ []) ≡ undecided ∷ violated 2 (only party2) ∷ []
   pub when_rejected_later : meaning (when (seq (atom any) tries_b) (duty party2 a)) (-/- ∷ a/a ∷ b/b ∷ []) ≡ satisfied 2
   -- "the clause's own decision if it comes no later than acceptance; otherwise satisfied at acceptance"
-  pub until-own :
+  pub until_own :
       map (meaning (until (duty party1 a) (seq (atom any) tries_b))) ((a/a ∷ []) ∷ (a/a ∷ b/b ∷ []) ∷ (-/- ∷ []) ∷ (-/- ∷ b/b ∷ []) ∷ [])
       ≡ satisfied 1 ∷ satisfied 1 ∷ violated 1 (only party1) ∷ violated 1 (only party1) ∷ []
-  pub until-over :
+  pub until_over :
       map (meaning (until (then (duty party1 a) (duty party1 a)) tries_b)) ((ab/a ∷ a/a ∷ []) ∷ (ab/a ∷ -/- ∷ []) ∷ [])
       ≡ satisfied 1 ∷ satisfied 1 ∷ []
 
@@ -257,10 +257,10 @@ told c w n =
 -- "open (0) while undecided; met (1) or broken (2) when n is the decision period; met-after (3) or broken-after (4) later"; "blame: 1, 2, or 3 for
 -- both parties"
 pub record VerdictExamples : Type 0 where
-  pub met-at-2 :
+  pub met_at_2 :
       map (told (then (duty party1 a) (duty party1 b)) (a/a ∷ b/b ∷ -/- ∷ [])) (0 ∷ 1 ∷ 2 ∷ 3 ∷ [])
       ≡ ("open", 0, 0, 0) ∷ ("open", 0, 0, 0) ∷ ("met", 1, 0, 2) ∷ ("met-after", 3, 0, 2) ∷ []
-  pub broken-at-2 :
+  pub broken_at_2 :
       map (told (then (duty party1 a) (duty party1 b)) (a/a ∷ -/- ∷ b/b ∷ [])) (0 ∷ 1 ∷ 2 ∷ 3 ∷ [])
       ≡ ("open", 0, 0, 0) ∷ ("open", 0, 0, 0) ∷ ("broken", 2, 1, 2) ∷ ("broken-after", 4, 1, 2) ∷ []
   pub broken_by_both : told (both (power party1 a) (duty party1 b)) (a/- ∷ []) 1 ≡ ("broken", 2, 3, 1)
@@ -274,11 +274,11 @@ pub record VerdictExamples : Type 0 where
 -- document 02, "Duties with a deadline"; what a wrong reading would give stands in brackets
 pub record DeadlineExamples : Type 0 where
   -- "satisfied in the first of its d periods in which both try"
-  pub met-in-window :
+  pub met_in_window :
       map (meaning (deadline party1 a 3)) ((a/a ∷ []) ∷ (-/- ∷ a/a ∷ []) ∷ (a/- ∷ -/a ∷ a/a ∷ []) ∷ [])
       ≡ satisfied 1 ∷ satisfied 2 ∷ satisfied 3 ∷ []
   -- open before the d-th period, also where the parties try in different periods or another action succeeds
-  pub open-in-window :
+  pub open_in_window :
       map (meaning (deadline party1 a 3)) ([] ∷ (-/- ∷ []) ∷ (a/- ∷ -/a ∷ []) ∷ (b/b ∷ b/b ∷ []) ∷ [])
       ≡ undecided ∷ undecided ∷ undecided ∷ undecided ∷ []
   -- "violated at the d-th, with a plain duty's blame for that period" (the other party, by an earlier period; both, by all periods)
@@ -289,7 +289,7 @@ pub record DeadlineExamples : Type 0 where
       map (meaning (deadline party2 a 3)) ((-/a ∷ -/a ∷ -/- ∷ []) ∷ (-/a ∷ -/a ∷ a/- ∷ []) ∷ (-/- ∷ a/- ∷ -/a ∷ []) ∷ [])
       ≡ violated 3 (only party2) ∷ violated 3 (only party2) ∷ violated 3 (only party1) ∷ []
   -- no period after the decision counts (satisfied at 3; violated at 3 or at 5; satisfied at 4)
-  pub nothing-after :
+  pub nothing_after :
       map (meaning (deadline party1 a 3)) ((a/a ∷ a/a ∷ a/a ∷ []) ∷ (-/- ∷ a/a ∷ -/- ∷ -/- ∷ -/- ∷ []) ∷ (-/- ∷ -/- ∷ a/- ∷ a/a ∷ []) ∷ [])
       ≡ satisfied 1 ∷ satisfied 2 ∷ violated 3 (only party2) ∷ []
   -- the least window and the greatest
@@ -301,69 +301,69 @@ pub record DeadlineExamples : Type 0 where
       map (meaning (deadline party1 a 15)) (replicate 14 -/- ∷ (replicate 14 -/- ++ (a/a ∷ [])) ∷ (replicate 14 a/- ++ (-/- ∷ [])) ∷ [])
       ≡ undecided ∷ satisfied 15 ∷ violated 15 (only party1) ∷ []
   -- met in period 2, it is begun anew in period 3 (violated at 3, counted from period 1; at 4, from period 2)
-  pub begun-anew :
+  pub begun_anew :
       map (meaning (repeat (deadline party1 a 3)))
       ((-/- ∷ a/a ∷ a/- ∷ a/- ∷ []) ∷ (-/- ∷ a/a ∷ a/- ∷ a/- ∷ a/a ∷ []) ∷ (-/- ∷ a/a ∷ a/- ∷ a/- ∷ -/a ∷ []) ∷ [])
       ≡ undecided ∷ undecided ∷ violated 5 (only party1) ∷ []
   -- the deadline of period 1 dies with `both` in period 1: it is not missed in period 3, so nothing is to be repaired in period 4 (violated at 4)
-  pub no-living-window :
+  pub no_living_window :
       map (meaning (repeat (repair (both (duty party1 b) (deadline party1 a 3)) (ban party1 b))))
       ((-/- ∷ -/- ∷ b/b ∷ b/b ∷ []) ∷ (-/- ∷ -/- ∷ b/b ∷ b/b ∷ -/- ∷ b/b ∷ []) ∷ [])
       ≡ undecided ∷ violated 6 (only party1) ∷ []
   -- nor is it met in period 2, so `both` is not satisfied in period 3 and b is not owed in period 4 (violated at 5)
-  pub no-living-success :
+  pub no_living_success :
       map (meaning (repeat (repair (both (deadline party1 a 3) (duty party1 b)) (ban party1 b))))
       ((-/- ∷ a/a ∷ b/b ∷ -/- ∷ b/b ∷ []) ∷ (-/- ∷ a/a ∷ b/b ∷ -/- ∷ b/b ∷ b/b ∷ []) ∷ [])
       ≡ undecided ∷ violated 6 (only party1) ∷ []
   -- it dies with the `until` that finished in period 1 (violated at 3)
-  pub no-living-deadline :
+  pub no_living_deadline :
       map (meaning (repeat (until (deadline party1 a 3) tries_b))) ((b/- ∷ -/- ∷ -/- ∷ []) ∷ (b/- ∷ -/- ∷ -/- ∷ a/- ∷ []) ∷ [])
       ≡ undecided ∷ violated 4 (only party2) ∷ []
   -- missed, it is repaired from period d + 1 on (satisfied or violated at 1, 2 or 3)
-  pub repaired-after-window :
+  pub repaired_after_window :
       map (meaning (repair (deadline party1 a 3) (duty party2 b)))
       ((-/- ∷ -/- ∷ a/a ∷ []) ∷ (b/b ∷ b/b ∷ b/b ∷ []) ∷ (b/b ∷ b/b ∷ b/b ∷ b/- ∷ []) ∷ (b/- ∷ b/- ∷ b/- ∷ []) ∷ (b/- ∷ b/- ∷ b/- ∷ b/b ∷ []) ∷ [])
       ≡ satisfied 3 ∷ undecided ∷ violated 4 (only party2) ∷ undecided ∷ satisfied 4 ∷ []
   -- begun in period 2 by `then`, `repair` and `when`, its window is counted from there (satisfied at 1, violated at 2)
-  pub begun-later :
+  pub begun_later :
       map
       (λ c. map (meaning c) ((a/a ∷ -/- ∷ []) ∷ (a/a ∷ -/- ∷ a/a ∷ []) ∷ (a/a ∷ a/- ∷ -/a ∷ []) ∷ []))
       (then (duty party1 a) (deadline party1 a 2) ∷ repair (duty party1 b) (deadline party1 a 2) ∷ when tries_a (deadline party1 a 2) ∷ [])
       ≡ replicate 3 (undecided ∷ satisfied 3 ∷ violated 3 (only party1) ∷ [])
   -- acceptance in the d-th period does not undo its violation there (satisfied at 3); acceptance before satisfies
-  pub accepted-in-window :
+  pub accepted_in_window :
       map (meaning (until (deadline party1 a 3) (seq any* tries_b)))
       ((-/- ∷ -/- ∷ b/a ∷ []) ∷ (-/- ∷ -/- ∷ ab/a ∷ []) ∷ (-/- ∷ b/- ∷ -/- ∷ []) ∷ (a/a ∷ b/- ∷ []) ∷ (-/- ∷ -/- ∷ a/- ∷ b/- ∷ []) ∷ [])
       ≡ violated 3 (only party1) ∷ satisfied 3 ∷ satisfied 2 ∷ satisfied 1 ∷ violated 3 (only party2) ∷ []
   -- what is told of it
-  pub told-missed :
+  pub told_missed :
       map (told (deadline party1 a 2) (a/- ∷ -/- ∷ a/a ∷ [])) (0 ∷ 1 ∷ 2 ∷ 3 ∷ [])
       ≡ ("open", 0, 0, 0) ∷ ("open", 0, 0, 0) ∷ ("broken", 2, 1, 2) ∷ ("broken-after", 4, 1, 2) ∷ []
 
 -- document 02, "Duties that both parties own"; what a wrong reading would give stands in brackets
 pub record JointExamples : Type 0 where
   -- "It is satisfied when both try; otherwise the blame is on each party that didn't try, so -/- blames both." (1 for -/-, as party 1's duty)
-  pub joint-blames :
+  pub joint_blames :
       meanings (joint a) ≡ satisfied 1 ∷ violated 1 (only party2) ∷ violated 1 (only party1) ∷ violated 1 both_parties ∷ []
   -- open on no period; another action does not count
   pub joint_action : map (meaning (joint a)) ([] ∷ (b/b ∷ []) ∷ (b/a ∷ []) ∷ []) ≡ undecided ∷ violated 1 both_parties ∷ violated 1 (only party1) ∷ []
   -- period 1 alone counts (satisfied at 2; violated at 2; both to blame)
-  pub joint-once :
+  pub joint_once :
       map (meaning (joint a)) ((-/- ∷ a/a ∷ []) ∷ (a/a ∷ -/- ∷ []) ∷ (a/- ∷ -/a ∷ []) ∷ [])
       ≡ violated 1 both_parties ∷ satisfied 1 ∷ violated 1 (only party2) ∷ []
   -- "Clauses above it treat that blame as any other": both unites it with the other half's in the same period
   pub joint_united :
       map (λ c. meaning c (b/a ∷ [])) (both (joint a) (power party1 b) ∷ both (power party1 b) (joint a) ∷ both (joint a) (duty party2 a) ∷ [])
       ≡ violated 1 both_parties ∷ violated 1 both_parties ∷ violated 1 (only party1) ∷ []
-  pub joint-united-both :
+  pub joint_united_both :
       map (λ c. meaning c (-/- ∷ [])) (both (joint a) (duty party1 b) ∷ both (duty party2 b) (joint a) ∷ both (joint a) (joint b) ∷ [])
       ≡ replicate 3 (violated 1 both_parties)
   -- and adds nothing of a later period, be it the other half's or its own (blame 3)
-  pub joint-no-later-blame :
+  pub joint_no_later_blame :
       map (λ c. meaning c (-/a ∷ -/- ∷ [])) (both (joint a) (then (power party1 b) (duty party2 b)) ∷ both (duty party1 a) (then (ban party1 a) (joint a)) ∷ [])
       ≡ violated 1 (only party1) ∷ violated 1 (only party1) ∷ []
   -- then: its violation is the whole's; its satisfaction begins the right in period 2
-  pub joint-then :
+  pub joint_then :
       map (meaning (then (joint a) (joint b))) ((-/- ∷ b/b ∷ []) ∷ (a/a ∷ b/b ∷ []) ∷ (a/a ∷ -/- ∷ []) ∷ (a/a ∷ b/- ∷ []) ∷ [])
       ≡ violated 1 both_parties ∷ satisfied 2 ∷ violated 2 both_parties ∷ violated 2 (only party2) ∷ []
   -- repair: the right's blame alone counts (blame 3, the left's)
@@ -371,23 +371,23 @@ pub record JointExamples : Type 0 where
       map (meaning (repair (joint a) (duty party2 b))) ((a/a ∷ []) ∷ (-/- ∷ []) ∷ (-/- ∷ b/b ∷ []) ∷ (-/- ∷ -/- ∷ []) ∷ [])
       ≡ satisfied 1 ∷ undecided ∷ satisfied 2 ∷ violated 2 (only party2) ∷ []
   -- also where it is the joint duty's (blame 1, the left's)
-  pub joint-repairs :
+  pub joint_repairs :
       map (meaning (repair (duty party1 b) (joint a))) ((-/- ∷ a/a ∷ []) ∷ (-/- ∷ a/- ∷ []) ∷ (-/- ∷ -/- ∷ []) ∷ [])
       ≡ satisfied 2 ∷ violated 2 (only party2) ∷ violated 2 both_parties ∷ []
   -- repeat: its first violation is the whole's (blame 3, with that of period 3)
-  pub joint-repeated :
+  pub joint_repeated :
       map (meaning (repeat (joint a))) ((a/a ∷ a/a ∷ []) ∷ (a/a ∷ -/- ∷ []) ∷ (a/a ∷ a/- ∷ -/a ∷ []) ∷ [])
       ≡ undecided ∷ violated 2 both_parties ∷ violated 2 (only party2) ∷ []
   -- when: begun in the period after acceptance
-  pub joint-when :
+  pub joint_when :
       map (meaning (when tries_a (joint a))) ((-/- ∷ []) ∷ (a/- ∷ []) ∷ (a/- ∷ a/a ∷ []) ∷ (a/a ∷ -/- ∷ []) ∷ [])
       ≡ satisfied 1 ∷ undecided ∷ satisfied 2 ∷ violated 2 both_parties ∷ []
   -- until: acceptance in the same period does not undo its violation (satisfied at 1 or 2)
-  pub joint-until :
+  pub joint_until :
       map (meaning (until (repeat (joint a)) (seq any* tries_b))) ((b/- ∷ []) ∷ (a/a ∷ b/- ∷ []) ∷ (a/a ∷ b/a ∷ []) ∷ (a/a ∷ ab/a ∷ -/- ∷ []) ∷ [])
       ≡ violated 1 both_parties ∷ violated 2 both_parties ∷ violated 2 (only party1) ∷ satisfied 2 ∷ []
   -- what is told of it
-  pub told-joint :
+  pub told_joint :
       map (told (joint a) (-/- ∷ a/a ∷ [])) (0 ∷ 1 ∷ 2 ∷ [])
       ≡ ("open", 0, 0, 0) ∷ ("broken", 2, 3, 1) ∷ ("broken-after", 4, 3, 1) ∷ []
 
@@ -399,7 +399,7 @@ endless = repeat (ban party1 2)
 pub record EndingExamples : Type 0 where
   -- "the stretch from some period of this `until` to period k is in its set": it may begin in any period (none, from period 1 alone), and has no gap (3)
   pub notice_in_2 : map (acceptance tries_b) ([] ∷ (-/- ∷ []) ∷ (-/- ∷ b/- ∷ []) ∷ (-/- ∷ -/- ∷ b/- ∷ []) ∷ []) ≡ none ∷ none ∷ some 2 ∷ some 3 ∷ []
-  pub notice-from-2 :
+  pub notice_from_2 :
       map (acceptance (seq tries_a tries_b)) ((-/- ∷ a/- ∷ []) ∷ (-/- ∷ a/- ∷ b/- ∷ []) ∷ (a/- ∷ -/- ∷ b/- ∷ []) ∷ (b/- ∷ a/- ∷ []) ∷ [])
       ≡ none ∷ some 3 ∷ none ∷ none ∷ []
   -- "the least k": the stretch of period 1 alone, not that of periods 1 and 2, nor period 3 (2, 3)
@@ -408,26 +408,26 @@ pub record EndingExamples : Type 0 where
   -- begins only when the last has failed)
   pub later_completes : meaning (until endless (seq tries_a (seq tries_a tries_b))) (a/- ∷ a/- ∷ a/- ∷ b/- ∷ []) ≡ satisfied 4
   -- the stretch from period 2 ends in period 3, while that from period 1 is still possible, which ends in period 4 (satisfied at 4)
-  pub ends-before-first :
+  pub ends_before_first :
       meaning (until endless (or (seq tries_a (seq (atom any) (seq (atom any) tries_b))) (seq tries_b tries_b))) (a/- ∷ b/- ∷ b/- ∷ b/- ∷ [])
       ≡ satisfied 3
   -- "It is never rejected." (undecided)
-  pub never-rejected :
+  pub never_rejected :
       map (meaning (until (repeat (duty party1 a)) tries_b)) ((a/a ∷ []) ∷ (a/a ∷ ab/a ∷ []) ∷ (a/a ∷ a/a ∷ ab/a ∷ []) ∷ [])
       ≡ undecided ∷ satisfied 2 ∷ satisfied 3 ∷ []
   -- the clause's own decision if it comes no later: a violation in the accepting period (satisfied at 2, at 3), a satisfaction before it (satisfied at 3)
   pub violated_at_acceptance : meaning (until (repeat (duty party1 a)) tries_b) (a/a ∷ b/a ∷ []) ≡ violated 2 (only party1)
-  pub violated-at-end :
+  pub violated_at_end :
       map (meaning (until (repeat (duty party1 a)) (seq tries_b tries_b))) ((a/a ∷ ab/a ∷ b/a ∷ []) ∷ (a/a ∷ ab/a ∷ ab/a ∷ []) ∷ [])
       ≡ violated 3 (only party1) ∷ satisfied 3 ∷ []
   pub decided_before_end : meaning (until (then (duty party1 a) (duty party1 a)) (seq tries_b tries_b)) (a/a ∷ ab/a ∷ b/- ∷ []) ≡ satisfied 2
   -- "of this `until`": begun anew in period 3, it doesn't count the stretch of periods 2 and 3, so b is owed in period 4 (violated at 4; undecided)
-  pub not-of-last-round :
+  pub not_of_last_round :
       map (meaning (repeat (until (then (duty party1 a) (duty party1 b)) (seq tries_b tries_a))))
       ((a/a ∷ b/b ∷ a/a ∷ b/b ∷ []) ∷ (a/a ∷ b/b ∷ a/a ∷ a/a ∷ []) ∷ [])
       ≡ undecided ∷ violated 4 (only party1) ∷ []
   -- begun in period 3 by `then`, `repair` and `when`, it doesn't count the stretch of periods 2 and 3 (satisfied at 3)
-  pub not-before-begun :
+  pub not_before_begun :
       map
       (λ c. map (meaning c) ((a/a ∷ ab/a ∷ b/- ∷ []) ∷ (a/a ∷ ab/a ∷ b/- ∷ b/- ∷ []) ∷ []))
       (then (then (duty party1 a) (duty party1 a)) (until endless (seq tries_b tries_b))
@@ -438,6 +438,6 @@ pub record EndingExamples : Type 0 where
   pub when_from_first : meaning (when tries_b (duty party1 a)) (-/- ∷ b/- ∷ -/- ∷ []) ≡ satisfied 1
   pub when_not_from_2 : meaning (when (seq tries_a tries_b) (duty party1 a)) (-/- ∷ a/- ∷ b/- ∷ -/- ∷ []) ≡ satisfied 1
   -- what is told of it
-  pub told-ended :
+  pub told_ended :
       map (told (until (repeat (duty party1 a)) tries_b) (a/a ∷ ab/a ∷ -/- ∷ [])) (0 ∷ 1 ∷ 2 ∷ 3 ∷ [])
       ≡ ("open", 0, 0, 0) ∷ ("open", 0, 0, 0) ∷ ("met", 1, 0, 2) ∷ ("met-after", 3, 0, 2) ∷ []

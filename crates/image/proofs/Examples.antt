@@ -33,10 +33,10 @@ unfolding
 student_vectors =
     record {
       no_later_blame = refl;
-      no-living-half = refl;
+      no_living_half = refl;
       no_living_clause = refl;
-      right-of-then = refl;
-      right-of-repair = refl;
+      right_of_then = refl;
+      right_of_repair = refl;
       violation_first = refl;
     }
 
@@ -45,7 +45,7 @@ unfolding
     lines lines_from image rows_for clause_rows expression_rows outputs_of end_row live_row holds_empty after_clause after_expression state_of after_period
     values_after new_values computed counted tries bit field value
 kind_vectors =
-    record { powers_and_duties = refl; accepted-second = refl; rejected_fails = refl; accepted-odd = refl }
+    record { powers_and_duties = refl; accepted_second = refl; rejected_fails = refl; accepted_odd = refl }
 
 pub deadline_vectors : DeadlineVectors
 unfolding
@@ -53,21 +53,21 @@ unfolding
     values_after new_values computed counted tries bit field value
 deadline_vectors =
     record {
-      missed-by-own = refl;
-      missed-by-other = refl;
+      missed_by_own = refl;
+      missed_by_other = refl;
       met_in_last = refl;
       window_of_1 = refl;
       window_of_15 = refl;
-      no-life-after-success = refl;
-      no-living-window = refl;
-      no-living-success = refl;
+      no_life_after_success = refl;
+      no_living_window = refl;
+      no_living_success = refl;
     }
 
 pub joint_vectors : JointVectors
 unfolding
     lines lines_from image rows_for clause_rows outputs_of after_clause state_of after_period values_after new_values computed counted tries bit field value
 joint_vectors =
-    record { joint-alone = refl; joint-repeated = refl; joint_united = refl; joint_repaired = refl; joint_begun_later = refl }
+    record { joint_alone = refl; joint_repeated = refl; joint_united = refl; joint_repaired = refl; joint_begun_later = refl }
 
 pub ending_vectors : EndingVectors
 unfolding
@@ -78,11 +78,11 @@ ending_vectors =
       notice_in_2 = refl;
       violated_at_acceptance = refl;
       later_completes = refl;
-      ends-before-first = refl;
-      not-of-last-round = refl;
-      nothing-before-begun = refl;
-      not-from-before-begun = refl;
-      no-living-expression = refl;
+      ends_before_first = refl;
+      not_of_last_round = refl;
+      nothing_before_begun = refl;
+      not_from_before_begun = refl;
+      no_living_expression = refl;
     }
 
 pub watch_vector : WatchVector
@@ -91,7 +91,7 @@ unfolding
     rows_for clause_rows outputs_of after_clause image_bytes rows_bytes end_bytes encode begin step call begin_test step_test ready_test fields_bytes
     image_test good_image_length row_count first_failing good_row_at good_end decode row_of image_of rows_of state_test state_of state_bytes sound all_at_most all_zero
     period_test form_test start_test marks_test either_mark form_of whole_periods marked_at count_test after_period values_after new_values computed counted period_at period_from tries bit marked bytes field value
-watch_vector = record { replied = refl; replied-wide = refl; decided = refl; decided_wide = refl; upper_action = refl }
+watch_vector = record { replied = refl; replied_wide = refl; decided = refl; decided_wide = refl; upper_action = refl }
 
 pub earlier_vectors : EarlierVectors
 unfolding
@@ -110,13 +110,13 @@ unfolding
     rows_for clause_rows window_rows expression_rows outputs_of end_row holds_empty after_clause after_expression image_bytes rows_bytes end_bytes encode row_count marked bytes field value
 row_vectors =
     record {
-      rows-of-window-1 = refl;
-      rows-of-window-3 = refl;
-      rows-of-joint = refl;
-      rows-of-duty-2 = refl;
-      rows-of-until = refl;
+      rows_of_window_1 = refl;
+      rows_of_window_3 = refl;
+      rows_of_joint = refl;
+      rows_of_duty_2 = refl;
+      rows_of_until = refl;
       row_counts = refl;
-      most-rows = refl;
+      most_rows = refl;
     }
 
 pub room_vectors : RoomVectors

@@ -43,13 +43,13 @@ pub record KindVectors : Type 0 where
   -- both violated in one period: the blames are united
   pub powers_and_duties : lines (both (power party1 a) (duty party1 b)) (a/- ∷ []) ≡ (broken, 3, 1) ∷ []
   -- accepted in period 2, by the second of the two that may follow; party 1 is barred from b in period 3
-  pub accepted-second :
+  pub accepted_second :
       lines (when (seq (atom (idle party1 b)) (or (atom (tries party2 b)) (atom (succeeds a)))) (ban party1 b)) (a/- ∷ a/a ∷ b/b ∷ [])
       ≡ («open», 0, 0) ∷ («open», 0, 0) ∷ (broken, 1, 3) ∷ []
   -- a succeeds, so the expression is rejected
   pub rejected_fails : lines (when (atom (fails a)) (duty party2 a)) (a/a ∷ []) ≡ (met, 0, 1) ∷ []
   -- accepted in the first odd period in which party 1 tries a
-  pub accepted-odd :
+  pub accepted_odd :
       lines (when (seq (star (seq (atom any) (atom any))) (atom (tries party1 a))) (ban party1 b)) (-/- ∷ a/- ∷ a/- ∷ b/b ∷ [])
       ≡ («open», 0, 0) ∷ («open», 0, 0) ∷ («open», 0, 0) ∷ (broken, 1, 4) ∷ []
 
@@ -61,7 +61,7 @@ pub record StudentVectors : Type 0 where
       lines (both (duty party1 a) (then (ban party2 b) (duty party2 b))) (-/a ∷ b/- ∷ [])
       ≡ (broken, 1, 1) ∷ (broken_after, 1, 1) ∷ []
   -- the half that bars b in period 2 dies with the whole in period 1, so the repair is not begun again in period 3 (broken there, blame 1)
-  pub no-living-half :
+  pub no_living_half :
       lines (repeat (repair (both (ban party1 a) (then (ban party1 b) (ban party2 b))) (then (ban party1 a) (ban party1 b)))) (a/a ∷ b/b ∷ a/a ∷ [])
       ≡ («open», 0, 0) ∷ («open», 0, 0) ∷ («open», 0, 0) ∷ []
   -- the clause that owes a in period 2 dies with the `until` that finished in period 1 (broken in 2, blame 2)
@@ -69,10 +69,10 @@ pub record StudentVectors : Type 0 where
       lines (repeat (then (until (then (ban party1 a) (duty party2 a)) (atom (tries party1 b))) (ban party1 b))) (b/- ∷ -/- ∷ [])
       ≡ («open», 0, 0) ∷ («open», 0, 0) ∷ []
   -- party 1 owes b only from period 2 on (broken in 1, blame 1)
-  pub right-of-then :
+  pub right_of_then :
       lines (then (duty party1 a) (duty party1 b)) (a/a ∷ b/b ∷ [])
       ≡ («open», 0, 0) ∷ (met, 0, 2) ∷ []
-  pub right-of-repair :
+  pub right_of_repair :
       lines (repair (duty party1 a) (duty party1 b)) (-/- ∷ b/b ∷ [])
       ≡ («open», 0, 0) ∷ (met, 0, 2) ∷ []
   -- the violation in the accepting period counts, so it is repaired from period 2 on (met in 1)
@@ -84,10 +84,10 @@ pub record StudentVectors : Type 0 where
 
 pub record DeadlineVectors : Type 0 where
   -- the blame goes by period 3 alone (blame 2, by the periods before; broken in 1 or 2)
-  pub missed-by-own :
+  pub missed_by_own :
       lines (deadline party1 a 3) (a/- ∷ a/- ∷ -/a ∷ [])
       ≡ («open», 0, 0) ∷ («open», 0, 0) ∷ (broken, 1, 3) ∷ []
-  pub missed-by-other :
+  pub missed_by_other :
       lines (deadline party2 a 3) (a/- ∷ -/- ∷ -/a ∷ [])
       ≡ («open», 0, 0) ∷ («open», 0, 0) ∷ (broken, 1, 3) ∷ []
   -- both try in no period before the last
@@ -96,15 +96,15 @@ pub record DeadlineVectors : Type 0 where
   pub window_of_1 : lines (deadline party1 a 1) (a/- ∷ []) ≡ (broken, 2, 1) ∷ []
   pub window_of_15 : lines (deadline party2 a 15) (replicate 15 a/-) ≡ replicate 14 («open», 0, 0) ++ ((broken, 2, 15) ∷ [])
   -- met in period 2, it is not missed in period 3, in which the other half goes on (broken there, blame 1)
-  pub no-life-after-success :
+  pub no_life_after_success :
       lines (both (deadline party1 a 3) (repeat (ban party1 b))) (-/- ∷ a/a ∷ -/- ∷ [])
       ≡ («open», 0, 0) ∷ («open», 0, 0) ∷ («open», 0, 0) ∷ []
   -- begun in period 1, it dies with the `until` that finished there and is not missed in period 3 (broken there, blame 1)
-  pub no-living-window :
+  pub no_living_window :
       lines (repeat (until (deadline party1 a 3) (atom (tries party1 b)))) (b/- ∷ -/- ∷ -/- ∷ [])
       ≡ («open», 0, 0) ∷ («open», 0, 0) ∷ («open», 0, 0) ∷ []
   -- nor is it met in period 2, so the right of `then` is not begun again in period 3 (open there)
-  pub no-living-success :
+  pub no_living_success :
       lines (then (until (deadline party1 a 2) (atom (tries party1 b))) (deadline party1 b 2)) (b/- ∷ a/a ∷ -/- ∷ [])
       ≡ («open», 0, 0) ∷ («open», 0, 0) ∷ (broken, 1, 3) ∷ []
 
@@ -112,11 +112,11 @@ pub record DeadlineVectors : Type 0 where
 
 pub record JointVectors : Type 0 where
   -- "the blame is on each party that didn't try" (blame 1 for -/-)
-  pub joint-alone :
+  pub joint_alone :
       map (λ x. lines (joint a) (x ∷ [])) (a/a ∷ a/- ∷ -/a ∷ -/- ∷ [])
       ≡ ((met, 0, 1) ∷ []) ∷ ((broken, 2, 1) ∷ []) ∷ ((broken, 1, 1) ∷ []) ∷ ((broken, 3, 1) ∷ []) ∷ []
   -- begun anew in each period, and told once (blame 3 from period 3 on)
-  pub joint-repeated :
+  pub joint_repeated :
       lines (repeat (joint a)) (a/a ∷ a/- ∷ -/a ∷ [])
       ≡ («open», 0, 0) ∷ (broken, 2, 2) ∷ (broken_after, 2, 2) ∷ []
   -- united with the other half's blame, and repaired by a clause whose blame alone counts (blame 3 in 2)
@@ -139,22 +139,22 @@ pub record EndingVectors : Type 0 where
       lines (until endless (seq tries_a (seq tries_a tries_b))) (a/- ∷ a/- ∷ a/- ∷ b/- ∷ [])
       ≡ («open», 0, 0) ∷ («open», 0, 0) ∷ («open», 0, 0) ∷ (met, 0, 4) ∷ []
   -- the stretch from period 2 ends before that from period 1 (met in 4)
-  pub ends-before-first :
+  pub ends_before_first :
       lines (until endless (or (seq tries_a (seq (atom any) (seq (atom any) tries_b))) (seq tries_b tries_b))) (a/- ∷ b/- ∷ b/- ∷ b/- ∷ [])
       ≡ («open», 0, 0) ∷ («open», 0, 0) ∷ (met, 0, 3) ∷ (met_after, 0, 3) ∷ []
   -- the stretch of periods 2 and 3 began in the last round, so b is owed in period 4 (broken there)
-  pub not-of-last-round :
+  pub not_of_last_round :
       lines (repeat (until (then (duty party1 a) (duty party1 b)) (seq tries_b tries_a))) (a/a ∷ b/b ∷ a/a ∷ b/b ∷ [])
       ≡ replicate 4 («open», 0, 0)
   -- begun in period 3, it counts nothing that was tried in period 2: alone (met in 2), or as the beginning of a stretch (met in 3)
-  pub nothing-before-begun :
+  pub nothing_before_begun :
       lines (then (then (duty party1 a) (duty party1 a)) (until endless tries_b)) (a/a ∷ ab/a ∷ -/- ∷ b/- ∷ [])
       ≡ («open», 0, 0) ∷ («open», 0, 0) ∷ («open», 0, 0) ∷ (met, 0, 4) ∷ []
-  pub not-from-before-begun :
+  pub not_from_before_begun :
       lines (then (then (duty party1 a) (duty party1 a)) (until endless (seq tries_b tries_b))) (a/a ∷ ab/a ∷ b/- ∷ b/- ∷ [])
       ≡ («open», 0, 0) ∷ («open», 0, 0) ∷ («open», 0, 0) ∷ (met, 0, 4) ∷ []
   -- accepted in period 1, it ends there with its expression: the stretch of periods 1 and 2 does not begin the right of `then` again (broken in 3)
-  pub no-living-expression :
+  pub no_living_expression :
       lines (then (until endless (or tries_b (seq tries_b tries_a))) (then (ban party1 b) (duty party1 b))) (b/- ∷ a/- ∷ b/b ∷ [])
       ≡ («open», 0, 0) ∷ («open», 0, 0) ∷ (met, 0, 3) ∷ []
 
@@ -208,7 +208,7 @@ pub record WatchVector : Type 0 where
       replies watched_bytes watched_records
       ≡ reply 0 0 0 0 0 ∷ reply 0 0 0 0 0 ∷ reply 0 2 0 2 3 ∷ reply 0 4 0 2 3 ∷ []
   -- in wide records, and in narrow ones and then wide ones
-  pub replied-wide :
+  pub replied_wide :
       map (replies watched_bytes) (watched_wide ∷ (take 2 watched_records ++ drop 2 watched_wide) ∷ [])
       ≡ replicate 2 (reply 0 0 0 0 0 ∷ reply 0 0 0 0 0 ∷ reply 0 2 0 2 3 ∷ reply 0 4 0 2 3 ∷ [])
   -- number, outcome, place, blame, decision period, records read
@@ -258,7 +258,7 @@ pub record EarlierVectors : Type 0 where
 
 pub record RowVectors : Type 0 where
   -- kind and fields of each row: the fixed rows, the deadline's six before its window's rows and six after them
-  pub rows-of-window-1 :
+  pub rows_of_window_1 :
       image_for (six_with 10 1 0 1)
       ≡ joined
       (row 0 0 0 ∷ row 1 0 0 ∷ row 3 1 0
@@ -266,7 +266,7 @@ pub record RowVectors : Type 0 where
       ∷ row 4 2 0 ∷ row 5 1 9 ∷ row 4 10 5 ∷ row 3 3 0 ∷ row 4 8 12 ∷ row 4 8 3
       ∷ end 11 13 14 ∷ [])
   -- of party 2, with three rows for each of periods 2 and 3
-  pub rows-of-window-3 :
+  pub rows_of_window_3 :
       image_for (six_with 10 2 1 3)
       ≡ joined
       (row 0 0 0 ∷ row 1 0 0 ∷ row 3 1 0
@@ -276,21 +276,21 @@ pub record RowVectors : Type 0 where
       ∷ row 4 2 13 ∷ row 5 1 15 ∷ row 4 16 5 ∷ row 3 3 0 ∷ row 4 14 18 ∷ row 4 14 3
       ∷ end 17 20 19 ∷ [])
   -- as many as party 1's duty has, of which the last differs: `row 4 1 9` for `row 4 5 9`
-  pub rows-of-joint :
+  pub rows_of_joint :
       image_for (six 1 3 2)
       ≡ joined
       (row 0 0 0 ∷ row 1 0 0 ∷ row 3 1 0
       ∷ row 2 1 2 ∷ row 2 2 2 ∷ row 4 1 3 ∷ row 4 5 4 ∷ row 3 3 0 ∷ row 4 1 7 ∷ row 3 4 0 ∷ row 4 1 9
       ∷ end 6 8 10 ∷ [])
   -- party 2's duty, which tests party 2 first
-  pub rows-of-duty-2 :
+  pub rows_of_duty_2 :
       image_for (six 1 2 2)
       ≡ joined
       (row 0 0 0 ∷ row 1 0 0 ∷ row 3 1 0
       ∷ row 2 2 2 ∷ row 2 1 2 ∷ row 4 1 3 ∷ row 4 5 4 ∷ row 3 3 0 ∷ row 4 1 7 ∷ row 3 4 0 ∷ row 4 5 9
       ∷ end 6 10 8 ∷ [])
   -- rows 6 to 8 tell that the `until` reads, and the expression's rows 9 and 10 start with row 8 for row 1
-  pub rows-of-until :
+  pub rows_of_until :
       image_for notice_bytes
       ≡ joined
       (row 0 0 0 ∷ row 1 0 0 ∷ row 3 1 0
@@ -302,7 +302,7 @@ pub record RowVectors : Type 0 where
       ∷ end 27 21 23 ∷ [])
   pub row_counts : map (λ (d : ℕ). row_count (image_for (six_with 10 1 0 d))) (1 ∷ 2 ∷ 3 ∷ 15 ∷ []) ≡ 15 ∷ 18 ∷ 21 ∷ 57 ∷ []
   -- the most that 64 records have: 32 deadlines of 15 periods each, 31 times `both`, and `repeat`
-  pub most-rows :
+  pub most_rows :
       row_count (image_for (joined (replicate 32 (six_with 10 1 0 15) ++ replicate 31 (six 4 0 0) ++ (six 7 0 0 ∷ [])))) ≡ 2170
 
 -- without windows, and with a window of 1 period or 64 of 15

@@ -99,12 +99,12 @@ pub record JoinVectors : Type 0 where
   pub too_many_in_1 : (log1 log2 trace : List ℕ) → 8 * 65535 < length log1 → join_test log1 log2 trace ≡ Refused BadLog 0
   pub too_many_in_2 : (log2 trace : List ℕ) → 8 * 65535 < length log2 → map (λ (log1 : List ℕ). join_test log1 log2 trace) ([] ∷ one_and_three ∷ falling ∷ []) ≡ replicate 3 (Refused BadLog 0)
   -- 14: "a wrong mark or period 0", the first record that has either; period 0x0100 is none
-  pub bad-records :
+  pub bad_records :
       map (λ (l : List ℕ). number_and_place (log_test l 0))
       (other_log ∷ other_first ∷ period_zero ∷ (one_and_three ++ other_log) ∷ (four ++ period_zero ++ other_log) ∷ (four ++ other_first ++ period_zero) ∷ (0x54 ∷ 0x4c ∷ replicate 2 1 ++ replicate 4 0) ∷ (0x54 ∷ 0x4c ∷ 0 ∷ 1 ∷ replicate 4 0) ∷ [])
       ≡ (14, 0) ∷ (14, 0) ∷ (14, 0) ∷ (14, 2) ∷ (14, 1) ∷ (14, 1) ∷ (0, 0) ∷ (0, 0) ∷ []
   -- 15: "a number not above the one before it", equal or below, the first such record; 0x0100 is above 0x00ff
-  pub bad-orders :
+  pub bad_orders :
       map (λ (l : List ℕ). number_and_place (order_test l 0))
       ([] ∷ four ∷ one_and_three ∷ falling ∷ (four ++ four) ∷ (one_and_three ++ two_and_three) ∷ (log_record 0xff 1 ++ (0x54 ∷ 0x4c ∷ 0 ∷ 1 ∷ replicate 4 0)) ∷ ((0x54 ∷ 0x4c ∷ 0 ∷ 1 ∷ replicate 4 0) ++ log_record 0xff 1) ∷ [])
       ≡ (0, 0) ∷ (0, 0) ∷ (0, 0) ∷ (15, 1) ∷ (15, 1) ∷ (15, 2) ∷ (0, 0) ∷ (15, 1) ∷ []

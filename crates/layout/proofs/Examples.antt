@@ -26,10 +26,10 @@ image_vectors =
       row_0_of_kind_3 = refl;
       good_rows = refl;
       higher_row = refl;
-      bad-marks = refl;
+      bad_marks = refl;
       bad_attempts = refl;
-      bad-names = refl;
-      unused-fields = refl;
+      bad_names = refl;
+      unused_fields = refl;
       ends = refl;
-      first-bad = refl;
+      first_bad = refl;
     }

@@ -68,7 +68,7 @@ pub record ImageVectors : Type 0 where
       ≡ replicate 10 (0, 0)
   pub higher_row : number_and_place (image_test (row 6 1 0 ++ row 0 0 0 ++ end 0 0 0)) ≡ (0, 0)
   -- either byte of the mark; the zero byte; kind 7
-  pub bad-marks :
+  pub bad_marks :
       map of_row2
       ((0x55 ∷ 0x52 ∷ 0 ∷ 0 ∷ 0 ∷ 0 ∷ 0 ∷ 0 ∷ []) ∷ (0x54 ∷ 0x45 ∷ 0 ∷ 0 ∷ 0 ∷ 0 ∷ 0 ∷ 0 ∷ [])
       ∷ (0x54 ∷ 0x52 ∷ 0 ∷ 1 ∷ 0 ∷ 0 ∷ 0 ∷ 0 ∷ []) ∷ row 7 0 0 ∷ [])
@@ -76,11 +76,11 @@ pub record ImageVectors : Type 0 where
   -- kind 2 of parties 0 and 3, of action 32
   pub bad_attempts : map of_row2 (row 2 0 0 ∷ row 2 3 0 ∷ row 2 1 32 ∷ []) ≡ replicate 3 (9, 2)
   -- "In 3 to 5 the fields name lower rows; in 6 any row of the image."
-  pub bad-names :
+  pub bad_names :
       map of_row2 (row 3 2 0 ∷ row 3 3 0 ∷ row 4 2 0 ∷ row 4 0 2 ∷ row 5 2 0 ∷ row 5 0 2 ∷ row 6 3 0 ∷ [])
       ≡ replicate 7 (9, 2)
   -- "Unused fields are 0."
-  pub unused-fields :
+  pub unused_fields :
       map of_row2
       (row 0 1 0 ∷ row 0 0 1 ∷ row 1 1 0 ∷ row 1 0 1 ∷ row 3 0 1 ∷ row 6 0 1 ∷ (0x54 ∷ 0x52 ∷ 0 ∷ 0 ∷ 0 ∷ 1 ∷ 0 ∷ 0 ∷ []) ∷ [])
       ≡ replicate 7 (9, 2)
@@ -89,7 +89,7 @@ pub record ImageVectors : Type 0 where
       map of_end (end 1 0 0 ∷ end 0 1 0 ∷ end 0 0 1 ∷ end 2 0 0 ∷ end 0 2 0 ∷ end 0 0 2 ∷ row 0 0 0 ∷ [])
       ≡ (0, 0) ∷ (0, 0) ∷ (0, 0) ∷ (9, 2) ∷ (9, 2) ∷ (9, 2) ∷ (9, 2) ∷ []
   -- "first bad row": rows 1 and 2 are bad; row 1 and the end record
-  pub first-bad :
+  pub first_bad :
       map (λ (l : List ℕ). number_and_place (image_test l))
       ((row 0 0 0 ++ row 7 0 0 ++ row 7 0 0 ++ end 0 0 0) ∷ (row 0 0 0 ++ row 7 0 0 ++ end 2 0 0) ∷ [])
       ≡ (9, 1) ∷ (9, 1) ∷ []

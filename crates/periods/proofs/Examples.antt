@@ -47,11 +47,11 @@ period_vectors =
       wide_traces = refl;
       other_traces = refl;
       five_taken = refl;
-      narrow-marks = refl;
+      narrow_marks = refl;
       wide_marks = refl;
-      other-forms = refl;
+      other_forms = refl;
       length_first = refl;
-      first-tests = refl;
-      start-tests = refl;
+      first_tests = refl;
+      start_tests = refl;
       first_marks = refl;
     }

@@ -110,7 +110,7 @@ pub record PeriodVectors : Type 0 where
   pub other_traces : map (λ (n : ℕ). number_and_place (trace_test (take n (other_record ++ two_narrow ++ two_narrow)))) lengths ≡ (0, 0) ∷ bad 21
   pub five_taken : number_and_place (trace_test five_narrow) ≡ (0, 0)
   -- the first record of wrong mark
-  pub narrow-marks :
+  pub narrow_marks :
       map (λ (l : List ℕ). number_and_place (trace_test l))
       ((other_record ++ narrow_record 1 1) ∷ (narrow_record 1 1 ++ other_record) ∷ (narrow_record 1 1 ++ other_record ++ other_record) ∷ (two_narrow ++ other_record) ∷ [])
       ≡ (11, 0) ∷ (11, 1) ∷ (11, 1) ∷ (11, 2) ∷ []
@@ -119,7 +119,7 @@ pub record PeriodVectors : Type 0 where
       ((long_other_record ++ wide_record 1 1) ∷ (wide_record 1 1 ++ long_other_record) ∷ (wide_record 1 1 ++ long_other_record ++ long_other_record) ∷ (two_wide ++ long_other_record) ∷ [])
       ≡ (11, 0) ∷ (11, 1) ∷ (11, 1) ∷ (11, 2) ∷ []
   -- "refusal 11 meets a later record of the other"; cut to the length of the first; whole, where the length is no multiple of that one, and where it is
-  pub other-forms :
+  pub other_forms :
       map (λ (l : List ℕ). number_and_place (trace_test l))
       ((narrow_record 1 1 ++ wide_cut) ∷ (two_narrow ++ wide_cut) ∷ (wide_record 1 1 ++ narrow_long) ∷ (two_wide ++ narrow_long)
       ∷ (narrow_record 1 1 ++ wide_record 1 1) ∷ (wide_record 1 1 ++ narrow_record 1 1) ∷ (narrow_record 1 1 ++ two_wide ++ wide_record 1 1) ∷ (wide_record 1 1 ++ five_narrow) ∷ [])
@@ -128,12 +128,12 @@ pub record PeriodVectors : Type 0 where
   pub length_first : map (λ (l : List ℕ). number_and_place (trace_test l)) ((narrow_record 1 1 ++ other_record ++ (0 ∷ [])) ∷ (wide_record 1 1 ++ long_other_record ++ (0 ∷ [])) ∷ [])
       ≡ bad 2
   -- the tests before the length: none, a single byte, either mark and another, whatever follows
-  pub first-tests :
+  pub first_tests :
       map (λ (l : List ℕ). number_and_place (form_test l))
       ([] ∷ (0x54 ∷ []) ∷ (0x54 ∷ 0x50 ∷ []) ∷ (0x54 ∷ 0x51 ∷ []) ∷ (0x54 ∷ 0x52 ∷ []) ∷ (0x55 ∷ 0x50 ∷ []) ∷ (0x54 ∷ 0x50 ∷ 0 ∷ []) ∷ [])
       ≡ (0, 0) ∷ (11, 0) ∷ (0, 0) ∷ (0, 0) ∷ (11, 0) ∷ (11, 0) ∷ (0, 0) ∷ []
   -- with it, and without the later marks
-  pub start-tests :
+  pub start_tests :
       map (λ (l : List ℕ). number_and_place (start_test l))
       ([] ∷ (0x54 ∷ []) ∷ (narrow_record 1 1 ++ other_record) ∷ (wide_record 1 1 ++ long_other_record) ∷ (narrow_record 1 1 ++ long_other_record) ∷ (wide_record 1 1 ++ other_record)
       ∷ (other_record ++ narrow_record 1 1) ∷ [])

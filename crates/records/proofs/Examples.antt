@@ -10,7 +10,7 @@ unfolding bytes field value marked fields_bytes call
 record_vectors =
     record {
       marks = refl;
-      mark-bytes = refl;
+      mark_bytes = refl;
       low_byte_first = refl;
       fields_read = refl;
       verdict_numbers = refl;

@@ -35,7 +35,7 @@ pub record RecordVectors : Type 0 where
   pub marks : contract_mark ∷ narrow_mark ∷ wide_mark ∷ log_mark ∷ row_mark ∷ end_mark ∷ []
       ≡ (0x54 ∷ 0x43 ∷ []) ∷ (0x54 ∷ 0x50 ∷ []) ∷ (0x54 ∷ 0x51 ∷ []) ∷ (0x54 ∷ 0x4c ∷ []) ∷ (0x54 ∷ 0x52 ∷ []) ∷ (0x54 ∷ 0x45 ∷ []) ∷ []
   -- both bytes of a mark count, from byte `at` on
-  pub mark-bytes :
+  pub mark_bytes :
       map (λ (l : List ℕ). marked l 1 (0x54 ∷ 0x52 ∷ []))
       ((0 ∷ 0x54 ∷ 0x52 ∷ []) ∷ (0 ∷ 0x54 ∷ 0x53 ∷ []) ∷ (0 ∷ 0x55 ∷ 0x52 ∷ []) ∷ (0x54 ∷ 0x52 ∷ 0 ∷ []) ∷ [])
       ≡ true ∷ false ∷ false ∷ false ∷ []

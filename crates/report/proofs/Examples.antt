@@ -26,7 +26,7 @@ unfolding
 report_vectors =
     record {
       watched = refl;
-      watched-wide = refl;
+      watched_wide_lem = refl;
       upper_action = refl;
       wide_starts = refl;
       first_mark = refl;
@@ -41,7 +41,7 @@ report_vectors =
       decided_first = refl;
       never_decided = refl;
       both_blamed = refl;
-      small-inputs = refl;
+      small_inputs_lem = refl;
       trace_only = refl;
       cut_record = refl;
       cut_contract = refl;

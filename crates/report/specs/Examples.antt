@@ -13,7 +13,7 @@ pub record ReportVectors : Type 0 where
       report (watched_bytes ++ narrow_record 1 1 ++ narrow_record 0 0 ++ narrow_record 2 0 ++ narrow_record 1 1)
       ≡ ascii "1 open 0\n2 open 0\n3 broken 2\n4 broken-after 2\ndecided 3\n"
   -- the same attempts in wide records
-  pub watched-wide :
+  pub watched_wide_lem :
       report (watched_bytes ++ wide_record 1 1 ++ wide_record 0 0 ++ wide_record 2 0 ++ wide_record 1 1)
       ≡ ascii "1 open 0\n2 open 0\n3 broken 2\n4 broken-after 2\ndecided 3\n"
   -- a duty of action 31: both try it; all that a narrow record can try; action 32
@@ -48,7 +48,7 @@ pub record ReportVectors : Type 0 where
   -- blame 3
   pub both_blamed : report (six 1 3 0 ++ narrow_record 0 0 ++ narrow_record 1 1) ≡ ascii "1 broken 3\n2 broken-after 3\ndecided 1\n"
   -- "`refused`, number, place": 1 to 7 of compile's
-  pub small-inputs :
+  pub small_inputs_lem :
       map report
       ([]
       ∷ (0x54 ∷ 0x44 ∷ 0x01 ∷ 0x01 ∷ 0x00 ∷ 0x00 ∷ [])

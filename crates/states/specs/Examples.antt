@@ -44,7 +44,7 @@ pub record StateVectors : Type 0 where
   pub decided_values : of_states (state 1 0 3 2 (1 ∷ 1 ∷ []) ∷ state 1 0 3 2 (2 ∷ 0 ∷ []) ∷ state 1 0 3 2 (0 ∷ 2 ∷ []) ∷ state 2 1 3 2 (2 ∷ 0 ∷ []) ∷ state 2 3 3 3 (0 ∷ 2 ∷ []) ∷ [])
       ≡ (0, 0) ∷ (10, 0) ∷ (10, 0) ∷ (10, 0) ∷ (10, 0) ∷ []
   -- "blame is 1 to 3 exactly for outcome 2 and else 0"
-  pub blames-of-2 :
+  pub blames_of_2 :
       of_states (map (λ (b : ℕ). state 2 b 3 2 (0 ∷ 1 ∷ [])) (0 ∷ 1 ∷ 2 ∷ 3 ∷ 4 ∷ []))
       ≡ (10, 0) ∷ (0, 0) ∷ (0, 0) ∷ (0, 0) ∷ (10, 0) ∷ []
   pub blames_of_others : of_states (state 0 1 3 0 (0 ∷ 1 ∷ []) ∷ state 1 1 3 2 (0 ∷ 1 ∷ []) ∷ []) ≡ (10, 0) ∷ (10, 0) ∷ []

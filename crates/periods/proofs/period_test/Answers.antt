@@ -13,11 +13,9 @@ returns-in_default c =
 pub returns-then-period-period_bytes : goal.returns-then-period-period_bytes
 unfolding period_test
 returns-then-period-period_bytes c =
-    let e = c in
-    rw (← e.form_test-t.ensures, e.in-Passed.is, ← c.form_of.ensures, ← c.period_bytes.ensures, ne_eqb _ _ c.if-period-period_bytes.true)
+    rw (← c.form_test-t.ensures, c.in-Passed.is, ← c.form_of.ensures, ← c.period_bytes.ensures, ne_eqb _ _ c.if-period-period_bytes.true)
 
 pub returns : goal.returns
 unfolding period_test
 returns c =
-    let e = c in
-    rw (← e.form_test-t.ensures, e.in-Passed.is, ← c.form_of.ensures, ← c.period_bytes.ensures, eq-eqb _ _ c.if-period-period_bytes.false)
+    rw (← c.form_test-t.ensures, c.in-Passed.is, ← c.form_of.ensures, ← c.period_bytes.ensures, eq-eqb _ _ c.if-period-period_bytes.false)

@@ -13,11 +13,9 @@ returns-in_default c =
 pub returns-then-trace-period_bytes-ne0 : goal.returns-then-trace-period_bytes-ne0
 unfolding start_test
 returns-then-trace-period_bytes-ne0 c =
-    let e = c in
-    rw (← e.form_test-t.ensures, e.in-Passed.is, ← c.form_of.ensures, ← c.period_bytes.ensures, ne_eqb _ _ c.if-trace-period_bytes-ne0.true)
+    rw (← c.form_test-t.ensures, c.in-Passed.is, ← c.form_of.ensures, ← c.period_bytes.ensures, ne_eqb _ _ c.if-trace-period_bytes-ne0.true)
 
 pub returns : goal.returns
 unfolding start_test
 returns c =
-    let e = c in
-    rw (← e.form_test-t.ensures, e.in-Passed.is, ← c.form_of.ensures, ← c.period_bytes.ensures, eq-eqb _ _ c.if-trace-period_bytes-ne0.false)
+    rw (← c.form_test-t.ensures, c.in-Passed.is, ← c.form_of.ensures, ← c.period_bytes.ensures, eq-eqb _ _ c.if-trace-period_bytes-ne0.false)

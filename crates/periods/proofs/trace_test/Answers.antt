@@ -12,5 +12,4 @@ returns-in_default c =
 pub returns : goal.returns
 unfolding trace_test
 returns c =
-    let e = c in
-    rw (← e.start_test-t.ensures, e.in-Passed.is, ← c.form_of.ensures) c.marks_test.ensures
+    rw (← c.start_test-t.ensures, c.in-Passed.is, ← c.form_of.ensures) c.marks_test.ensures
