@@ -1,7 +1,7 @@
 -- What it means for an image to monitor a contract: demand 3, one claim about every list of step calls. Document 01, "Calls", from "The list
 -- in demand 3"; and that decide tells what the contract means on a trace. Document 02, "Stop reading once it is decided" and "Thirty-two
 -- actions". The calls are `begin`, `step`
--- and `decide` as the runner's own contracts have them. What document 01 says there of compile is for compile's own contract.
+-- and `decide` as these calls' own contracts have them. What document 01 says there of compile is for compile's own contract.
 use Rattle.std.specs.Prelude.{ℕ, ◌+◌, ◌≤◌, ◌<◌, Bool, true, false, cond, List, [], ◌∷◌, ◌++◌, ◌≡◌, ltb, length, replicate}
 use Rattle.std.proofs.lemmas.List.Edits.{sets}
 use Rattle.records.specs.Verdicts.{verdict_number}

@@ -3,7 +3,7 @@
 
 ghost use Rattle.std.specs.Prelude.{◌≤◌, length};
 
-use std::io::{ErrorKind, Read};
+use std::io::{Error, ErrorKind, Read};
 use std::process::ExitCode;
 
 // What was read: how many bytes, and whether a read failed.
@@ -13,7 +13,7 @@ pub struct Input {
     pub failed: bool,
 }
 
-// The exit status where nobody reads the output any more: the one that a shell gives a program which the signal SIGPIPE ended.
+// The exit status where nobody reads what is written any more: the one that a shell gives a program which the signal SIGPIPE ended.
 const PIPE_CLOSED: u8 = 141;
 
 // Reads until the buffer is full, the input ends or a read fails.
@@ -39,6 +39,14 @@ fn read_input(from: &mut impl Read, buffer: &mut [u8]) -> Input
     }
 }
 
+// The exit status after a write.
+fn status(written: Result<(), Error>) -> ExitCode {
+    match written {
+        Err(error) if error.kind() == ErrorKind::BrokenPipe => ExitCode::from(PIPE_CLOSED),
+        _ => ExitCode::SUCCESS,
+    }
+}
+
 fn main(rt: HostRuntime) -> ExitCode {
     // One byte more than an input may have, so that a longer one is seen.
     let mut input = [0u8; report::INPUT_BYTES + 1];
@@ -47,15 +55,13 @@ fn main(rt: HostRuntime) -> ExitCode {
     let mut text = [0u8; report::TEXT_BYTES];
     let got = read_input(&mut rt.stdin(), &mut input);
     if got.failed {
-        let _ = rt.eprintln("watch: standard input cannot be read");
-        return ExitCode::SUCCESS;
+        return status(rt.eprintln("watch: standard input cannot be read"));
     }
     let length = report::put_report(&input[..got.length], &mut image, &mut state, &mut text);
-    if let Err(error) = rt.write_all(&text[..length]) {
-        if error.kind() == ErrorKind::BrokenPipe {
-            return ExitCode::from(PIPE_CLOSED);
+    match rt.write_all(&text[..length]) {
+        Err(error) if error.kind() != ErrorKind::BrokenPipe => {
+            status(rt.eprintln("watch: standard output cannot be written"))
         }
-        let _ = rt.eprintln("watch: standard output cannot be written");
+        written => status(written),
     }
-    ExitCode::SUCCESS
 }
