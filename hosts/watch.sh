@@ -180,4 +180,8 @@ status=0
 { sleep 0.2; "$watch" <"$work/input" 2>"$work/error"; } | true || status=$?
 test "$status" -eq 141
 test ! -s "$work/error"
+# Nor where that is what it says of a failed read.
+status=0
+{ sleep 0.2; "$watch" <"$work" 2>&1 >/dev/null; } | true || status=$?
+test "$status" -eq 141
 echo "ok watch, an output that nobody reads"
