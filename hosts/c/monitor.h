@@ -186,7 +186,7 @@ struct monitor_join_reply {
 /* A refusal writes the reply alone. Calls keep nothing between them, so different states may be stepped in different threads. */
 
 /* Writes the contract's image into the first MONITOR_IMAGE_BYTES(rows) bytes of the buffer, and no others. */
-/* The other calls take just those bytes as the image. Needs up to 34 KB of stack. */
+/* The other calls take just those bytes as the image. Needs up to 20 KB of stack. */
 uint32_t monitor_compile(const uint8_t *contract, size_t contract_length,
                          uint8_t *image, size_t image_length,
                          uint8_t *reply, size_t reply_length);

@@ -7,8 +7,7 @@ use borrow.Author.Tests.{le-leb, lt-leb}
 use Rattle.records.specs.Fields.{value, bytes, field}
 use Rattle.records.specs.Marks.{marked}
 use Rattle.records.specs.declared.Fault.TheVariants.{BadPeriod}
-use Rattle.records.specs.declared.Test.TheVariants.{Refused}
-use Rattle.records.specs.Refusals.{first_failing}
+use Rattle.records.specs.Refusals.{Refused, first_failing}
 use Rattle.records.specs.Replies.{fields_bytes, call}
 use Rattle.periods.specs.Forms.{either_mark}
 use Rattle.periods.specs.Periods.{bit, tries, period_from}

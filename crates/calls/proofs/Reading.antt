@@ -9,8 +9,7 @@ use mathlib.Core.Logic.{⊎_elim}
 use mathlib.Core.Path.{◌≡◌, refl, sym, ◌∙◌}
 use borrow.Author.Tests.{eqb-true, eqb-false}
 use Rattle.records.specs.declared.Fault.TheVariants.{BadPeriod}
-use Rattle.records.specs.declared.Test.TheVariants.{Passed, Refused}
-use Rattle.records.specs.Refusals.{first_failing}
+use Rattle.records.specs.Refusals.{Passed, Refused, first_failing}
 use Rattle.records.proofs.Cases.{lt_or_le, true_or_false}
 use Rattle.records.proofs.Searches.{failing_max, failing_below, failing_fails, failing_is, all_pass}
 use Rattle.periods.specs.Traces.{period_at, periods_of, marked_at, form_of, period_records, trace_periods, start_test}

@@ -8,9 +8,7 @@ use mathlib.Core.List.{List, ◌++◌}
 use lib.ListN.{length}
 use borrow.Author.Tests.{eq-eqb}
 use Rattle.records.specs.declared.Fault.{Fault}
-use Rattle.records.specs.declared.Test.{Test}
-use Rattle.records.specs.declared.Test.TheVariants.{Passed}
-use Rattle.records.specs.Refusals.{first_of}
+use Rattle.records.specs.Refusals.{Test, Passed, first_of}
 use Rattle.records.proofs.Refusals.{first_passed, only_for, only_among, only_append, only_first}
 use Rattle.periods.specs.Traces.{marked_at, marks_test, form_of, period_records, start_test, trace_test, period_test}
 use Rattle.periods.proofs.Traces.{marks_passed, trace_marks, period_one, period_faults, marks_only, period_only, start_only, trace_only}

@@ -13,8 +13,7 @@ use lib.ListN.{length}
 use lib.Seq.{sets}
 use Rattle.records.specs.Holding.{AllBytes}
 use Rattle.records.specs.declared.Fault.TheVariants.{BadPeriod, FullCount}
-use Rattle.records.specs.declared.Test.TheVariants.{Passed, Refused}
-use Rattle.records.specs.Refusals.{passed}
+use Rattle.records.specs.Refusals.{Passed, Refused, passed}
 use Rattle.records.proofs.Cases.{lt_or_le}
 use Rattle.records.proofs.Fields.{field_lt}
 use Rattle.records.proofs.Refusals.{first_refused}

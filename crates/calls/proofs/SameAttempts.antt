@@ -5,7 +5,6 @@ use native.Mathlib.Omega.{arith}
 use mathlib.Core.List.{List}
 use mathlib.Core.Path.{◌≡◌, sym, ap, ◌∙◌}
 use lib.ListN.{length}
-use Rattle.records.specs.declared.Test.TheVariants.{Passed}
 use Rattle.records.specs.Holding.{AllBytes}
 use Rattle.records.proofs.Refusals.{first_passed}
 use Rattle.records.proofs.Searches.{failing_same}
@@ -24,6 +23,7 @@ use Rattle.calls.specs.Refusals.{step_test, run_test, unread_test, decide_test}
 use Rattle.calls.specs.Calls.{step, run, decide}
 use Rattle.calls.proofs.Refusals.{unread_passed, decide_unread, decide_marks}
 use Rattle.calls.proofs.Reading.{few_read}
+use Rattle.records.specs.Refusals.{Passed}
 
 -- ---- the same attempts, and marks of which the same is found: of all records by run, of the records read by decide
 

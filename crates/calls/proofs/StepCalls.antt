@@ -10,8 +10,7 @@ use mathlib.Core.Path.{◌≡◌, refl, sym, ap, ◌∙◌}
 use borrow.Author.Tests.{leb-true, le-leb}
 use lib.Dec.{leb}
 use lib.ListN.{length, replicate}
-use Rattle.records.specs.declared.Test.TheVariants.{Passed}
-use Rattle.records.specs.Refusals.{passed}
+use Rattle.records.specs.Refusals.{Passed, passed}
 use Rattle.records.proofs.Cases.{lt_or_le, true_or_false}
 use Rattle.records.proofs.Refusals.{passed_first, passed_is, passed-not}
 use Rattle.records.specs.Replies.{alone, After, written, head_size}

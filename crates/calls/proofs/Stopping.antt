@@ -5,7 +5,6 @@ use mathlib.Core.Bool.{true, false}
 use mathlib.Core.List.{List}
 use mathlib.Core.Path.{◌≡◌, sym, ap, ◌∙◌}
 use lib.ListN.{length}
-use Rattle.records.specs.declared.Test.TheVariants.{Passed}
 use Rattle.records.proofs.Replies.{call-passed}
 use Rattle.periods.specs.Traces.{marked_at, form_of, period_records, trace_periods, trace_test}
 use Rattle.periods.proofs.Traces.{length-periods_of, marks_pass}
@@ -22,6 +21,7 @@ use Rattle.calls.specs.Calls.{step_reply_bytes, decide_reply_bytes, run, decide}
 use Rattle.calls.specs.Stopping.{read_first, SameAsRun, StartsAs}
 use Rattle.calls.proofs.Refusals.{unread_passed, unread_passes, unread_ready, decide_unread, decide_marks}
 use Rattle.calls.proofs.Reading.{few_read, undecided_before, read_exactly}
+use Rattle.records.specs.Refusals.{Passed}
 
 -- ---- run over the records read
 

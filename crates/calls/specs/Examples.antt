@@ -1,7 +1,6 @@
 -- Vectors of begin, step, run and decide. What is expected stands in bytes, from the text of documents 01 and 02, but in `not_too_many`.
 use Rattle.std.specs.Prelude.{ℕ, ◌≤◌, ◌<◌, List, [], ◌∷◌, ◌++◌, map, ◌≡◌, replicate}
 use Rattle.records.specs.declared.Fault.TheVariants.{BadPeriod}
-use Rattle.records.specs.declared.Test.TheVariants.{Passed, Refused}
 use Rattle.records.specs.Replies.{After}
 use Rattle.records.specs.Examples.{area, head, leaves}
 use Rattle.periods.specs.Examples.{narrow_record, wide_record, other_record, long_other_record, wide_cut, narrow_long}
@@ -12,6 +11,7 @@ use Rattle.calls.specs.Reading.{records_read}
 use Rattle.calls.specs.Refusals.{decide_test}
 use Rattle.calls.specs.Calls.{begin, step, run, decide}
 use Rattle.calls.specs.StepCalls.{StepCall, state_after, accepted_count}
+use Rattle.records.specs.Refusals.{Passed, Refused}
 
 -- step's and run's reply: number, verdict, place, then blame (4 bytes) and decision period (4)
 abbrev pub reply : (number verdict place blame decision : ℕ) → List ℕ

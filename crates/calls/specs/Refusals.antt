@@ -1,8 +1,7 @@
 -- The tests of begin, step, run and decide, in their order. Document 01, "Replies that refuse"; document 02, "Stop reading once it is decided" and
 -- "Thirty-two actions".
 use Rattle.std.specs.Prelude.{ℕ, List}
-use Rattle.records.specs.declared.Test.{Test}
-use Rattle.records.specs.Refusals.{first_of}
+use Rattle.records.specs.Refusals.{Test, first_of}
 use Rattle.periods.specs.Traces.{marks_test, form_of, period_records, start_test, trace_test, period_test}
 use Rattle.layout.specs.Images.{row_count}
 use Rattle.layout.specs.Refusals.{image_test}

@@ -2,9 +2,7 @@
 -- and "Run .. ends as that many steps would".
 use Rattle.std.specs.Prelude.{ℕ, zero, suc, ◌+◌, Bool, ◌&&◌, cond, List, [], ◌∷◌, ◌++◌, ◌≡◌, leb, length}
 use Rattle.std.proofs.lemmas.List.Edits.{sets}
-use Rattle.records.specs.declared.Test.{Test}
-use Rattle.records.specs.declared.Test.TheVariants.{Passed}
-use Rattle.records.specs.Refusals.{passed}
+use Rattle.records.specs.Refusals.{Test, Passed, passed}
 use Rattle.records.specs.Replies.{reply_of}
 use Rattle.periods.specs.Traces.{record_at, form_of, period_records}
 use Rattle.states.specs.States.{state_of}

@@ -1,7 +1,6 @@
 -- What holds of decide's answers. Document 02, "Stop reading once it is decided".
 use Rattle.std.specs.Prelude.{ℕ, ◌≤◌, List, ◌≡◌}
 use Rattle.std.proofs.lemmas.List.Edits.{sets}
-use Rattle.records.specs.declared.Test.TheVariants.{Passed}
 use Rattle.records.specs.Replies.{reply_of}
 use Rattle.periods.specs.Traces.{first_records, form_of, period_records, start_test}
 use Rattle.layout.specs.Images.{row_count}
@@ -10,6 +9,7 @@ use Rattle.states.specs.States.{state_of, fresh_bytes}
 use Rattle.calls.specs.Reading.{records_read}
 use Rattle.calls.specs.Refusals.{run_test}
 use Rattle.calls.specs.Calls.{answer_after, run, decide}
+use Rattle.records.specs.Refusals.{Passed}
 
 -- the records that decide reads
 abbrev pub read_first : (image trace : List ℕ) → List ℕ

@@ -1,4 +1,5 @@
 -- Demand 3 from compile's contract alone.
+use Rattle.std.specs.Prelude.{Ok, Err}
 use Prim.Native.Nat.{ℕ, ◌+◌, ◌≤◌, ◌<◌}
 use native.Mathlib.Omega.{arith}
 use mathlib.Core.Bool.{Bool, true, false, ◌&&◌, cond, and-false}
@@ -12,15 +13,14 @@ use lib.Seq.{sets}
 use Rattle.records.specs.Fields.{bytes}
 use Rattle.records.specs.declared.Fault.{Fault}
 use Rattle.records.specs.declared.Fault.TheVariants.{BadPeriod, FullCount}
-use Rattle.records.specs.declared.Test.{Test}
-use Rattle.records.specs.declared.Test.TheVariants.{Passed, Refused}
-use Rattle.records.specs.Refusals.{fault_number, number_of, place_of, require, first_of, passed}
+use Rattle.records.specs.Refusals.{Test, Passed, Refused, fault_number, number_of, place_of, require, first_of, passed}
 use Rattle.records.specs.declared.Head.{Head}
 use Rattle.records.specs.Replies.{fields_bytes, reply_of, unwritten, call}
 use Rattle.records.specs.Verdicts.{verdict_number}
 use Rattle.records.proofs.Refusals.{is_refused, passed_is, passed-not}
 use Rattle.records.proofs.Replies.{call_no_room, call-passed, call_refused, call_result}
-use Rattle.periods.specs.Periods.{Period, party1, party2}
+use Rattle.periods.specs.declared.Party.TheVariants.{One as party1, Two as party2}
+use Rattle.periods.specs.Periods.{Period}
 use Rattle.periods.specs.Traces.{marks_test, form_of, period_records, start_test, period_in, period_test}
 use Rattle.periods.proofs.Traces.{start_refused, step_refused, marks_pass, marks_refused}
 use Rattle.states.specs.Limits.{max_periods}
@@ -85,8 +85,8 @@ module _ (c : Clause) (w : List Period) where
 -- ---- which steps are accepted
 
 passed_first : (t u : Test) → passed (first_of t u) ≡ (passed t && passed u)
-passed_first Passed u = refl
-passed_first (Refused f k) u = refl
+passed_first (Ok _) u = refl
+passed_first (Err r) u = refl
 
 passed-require : (b : Bool) (f : Fault) (k : ℕ) → passed (require b f k) ≡ b
 passed-require true f k = refl

@@ -5,8 +5,7 @@ use Rattle.std.specs.Prelude.{ℕ, ◌+◌, ◌*◌, ◌≤◌, ◌<◌, Bool, t
 use Rattle.std.proofs.lemmas.List.Edits.{sets}
 use Rattle.records.specs.Fields.{bytes, field}
 use Rattle.records.specs.Verdicts.{verdict_number}
-use Rattle.records.specs.declared.Test.TheVariants.{Passed}
-use Rattle.records.specs.Refusals.{passed}
+use Rattle.records.specs.Refusals.{Passed, passed}
 use Rattle.periods.specs.Periods.{Period}
 use Rattle.periods.specs.Traces.{marked_at, form_of, period_records, trace_periods, start_test, period_in, period_test}
 use Rattle.layout.specs.Refusals.{image_test}

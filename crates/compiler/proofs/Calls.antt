@@ -8,8 +8,7 @@ use mathlib.Core.Path.{◌≡◌}
 use lib.Dec.{lit<}
 use lib.ListN.{length}
 use lib.Seq.{sets}
-use Rattle.records.specs.declared.Test.TheVariants.{Passed}
-use Rattle.records.specs.Refusals.{number_of}
+use Rattle.records.specs.Refusals.{Passed, number_of}
 use Rattle.records.proofs.Refusals.{number_small}
 use Rattle.records.specs.Replies.{four, alone, reply_of, head_of, head_size}
 use Rattle.records.proofs.Replies.{field_back, head_back, gives_no_room, gives_refused, gives_passed}

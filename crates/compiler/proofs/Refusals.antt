@@ -8,11 +8,10 @@ use mathlib.Core.Path.{◌≡◌, refl}
 use lib.Dec.{leb}
 use lib.ListN.{length}
 use borrow.Author.Tests.{le-leb, leb-true}
+use Rattle.std.specs.Prelude.{Ok, Err}
 use Rattle.records.specs.declared.Fault.{Fault}
 use Rattle.records.specs.declared.Fault.TheVariants.{ShortBuffer}
-use Rattle.records.specs.declared.Test.{Test}
-use Rattle.records.specs.declared.Test.TheVariants.{Passed, Refused}
-use Rattle.records.specs.Refusals.{fault_number, number_of, require}
+use Rattle.records.specs.Refusals.{Test, Passed, fault_number, number_of, require}
 use Rattle.records.proofs.Refusals.{first_passed, require-passed, fault_bounds, only_for, only_require, only_append}
 use Rattle.contract.specs.Meaning.{Clause}
 use Rattle.grammar.specs.Limits.{max_records, max_window}
@@ -46,9 +45,9 @@ module _ (contract buffer : List ℕ) where
     where
       there : (t : Test) → read_test contract ≡ t → (number_of (compile_test contract buffer) ≡ 0) ⊎ (number_of (compile_test contract buffer) ≡ 8)
           → (c : Clause) × Spells contract c
-      there Passed e n = let k = test_passed contract e in (k.clause, k.spells)
-      there (Refused f p) e (inl n) = absurd (omega (arith, rw e at n, (fault_bounds f).0))
-      there (Refused f p) e (inr n) = let o = rw e at (read_only contract) in let i : fault_number f ≡ 8 = rw e at n in absurd (false≢true (rw i at o))
+      there (Ok _) e n = let k = test_passed contract e in (k.clause, k.spells)
+      there (Err r) e (inl n) = absurd (omega (arith, rw e at n, (fault_bounds r.fault).0))
+      there (Err r) e (inr n) = let o = rw e at (read_only contract) in let i : fault_number r.fault ≡ 8 = rw e at n in absurd (false≢true (rw i at o))
 
       back : (c : Clause) × Spells contract c → (number_of (compile_test contract buffer) ≡ 0) ⊎ (number_of (compile_test contract buffer) ≡ 8)
       back s = rw (spells_taken contract s.0 s.1) (short (leb (buffer_for contract) (length buffer)))
@@ -72,6 +71,9 @@ module _ (contract buffer : List ℕ) where
 pub has_records : (contract : List ℕ) → read_test contract ≡ Passed → HasRecords contract (contract_records contract)
 unfolding contract_records
 has_records contract e = let k = test_passed contract e in record { whole = omega arith; few = omega (arith, taken_count contract k.clause k.is, k.spells.few_records) }
+
+pub few_records : (contract : List ℕ) → read_test contract ≡ Passed → contract_records contract ≤ max_records
+few_records contract e = (has_records contract e).few
 
 pub few_windows : (contract : List ℕ) → read_test contract ≡ Passed → contract_windows contract ≤ max_window * max_records
 few_windows contract e =

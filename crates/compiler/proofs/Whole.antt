@@ -14,7 +14,7 @@ use Rattle.layout.specs.Images.{rows_bytes, end_record, end_bytes, image_bytes, 
 use Rattle.layout.proofs.ImageBytes.{length-rows_bytes, row_count-image_bytes}
 use Rattle.contract.specs.Meaning.{Clause}
 use Rattle.grammar.specs.Limits.{record_bytes}
-use Rattle.grammar.specs.Table.{clause}
+use Rattle.grammar.specs.declared.Sort.TheVariants.{Clause as clause}
 use Rattle.grammar.specs.Spelling.{records, windows}
 use Rattle.grammar.specs.Reader.{contract_records, contract_windows}
 use Rattle.grammar.proofs.Spelling.{length-spell}

@@ -2,7 +2,6 @@
 -- The contract is lent to be read only, so it is afterwards as it was; the image buffer is the one buffer beside the reply area.
 use Rattle.std.specs.Prelude.{ℕ, ◌+◌, ◌*◌, ◌≤◌, List, ◌⊎◌, ◌↔◌, ◌≡◌, length, take}
 use Rattle.std.proofs.lemmas.List.Edits.{sets}
-use Rattle.records.specs.declared.Test.TheVariants.{Passed}
 use Rattle.records.specs.Replies.{alone, head_size, head_of, After, Gives, call}
 use Rattle.layout.specs.Limits.{row_bytes}
 use Rattle.layout.specs.Images.{row_count}
@@ -13,6 +12,7 @@ use Rattle.image.specs.Limits.{allowed_for, buffer_for}
 use Rattle.image.specs.Images.{image_for}
 use Rattle.image.specs.Monitors.{Monitors}
 use Rattle.compiler.specs.Refusals.{compile_test}
+use Rattle.records.specs.Refusals.{Passed}
 
 -- "Compile gives a row count; the image is the first 8 × (count + 1) bytes of its buffer, and those beyond keep their old values."
 unfoldable pub compile : (contract buffer reply : List ℕ) → After (List ℕ)

@@ -1,8 +1,7 @@
 -- The tests of compile, in their order. Document 01, "Replies that refuse"; document 02, "Duties with a deadline".
 use Rattle.std.specs.Prelude.{ℕ, List, leb, length}
 use Rattle.records.specs.declared.Fault.TheVariants.{ShortBuffer}
-use Rattle.records.specs.declared.Test.{Test}
-use Rattle.records.specs.Refusals.{require, first_of}
+use Rattle.records.specs.Refusals.{Test, require, first_of}
 use Rattle.grammar.specs.Reader.{read_test}
 use Rattle.image.specs.Limits.{buffer_for}
 

@@ -5,12 +5,15 @@
 ghost use Rattle.std.specs.Prelude.{◌≡◌};
 ghost use Rattle.std.proofs.lemmas.List.Edits.{sets};
 ghost use Rattle.layout.specs.Images.{row_count};
+ghost use Rattle.records.specs.Refusals.{Passed};
+ghost use Rattle.grammar.specs.Reader.{read_test};
+ghost use Rattle.image.specs.Limits.{buffer_for};
 ghost use Rattle.image.specs.Images.{image_for};
 ghost use Rattle.emitter.specs.Premises.{Writes};
 ghost use Rattle.compiler.specs.Refusals.{compile_test};
 ghost use Rattle.compiler.specs.Calls.{Compiles};
 
-use layout::{INITIAL, NEVER, NOT};
+use layout::RowKind;
 use records::{Fault, Test};
 
 // ---- the image
@@ -30,9 +33,9 @@ fn put_image(contract: &[u8], n: usize, image: &mut [u8]) -> u32
     ensures written { image.new ≡ sets image.old 0 (image_for contract.now) }
     ensures count { result ≡ row_count (image_for contract.now) }
 {
-    layout::put_row(image, NEVER_ROW, NEVER, 0, 0);
-    layout::put_row(image, FIRST_ROW, INITIAL, 0, 0);
-    layout::put_row(image, LATER_ROW, NOT, FIRST_ROW, 0);
+    layout::put_row(image, NEVER_ROW, RowKind::Never as u8, 0, 0);
+    layout::put_row(image, FIRST_ROW, RowKind::Initial as u8, 0, 0);
+    layout::put_row(image, LATER_ROW, RowKind::Not as u8, FIRST_ROW, 0);
     let whole = emitter::emit(contract, n, image, FIXED_ROWS, FIRST_ROW, LATER_ROW);
     layout::put_end(image, whole.next, whole.sat, whole.one, whole.two);
     whole.next
@@ -50,22 +53,24 @@ const WINDOW_PERIOD_ROWS: usize = 4;
 
 const MORE_ROWS: usize = 65;
 
+// The bytes that an image buffer must have for a contract that is taken.
+#[tactic(auto, using(crate::proofs::Refusals::has_records, crate::proofs::Refusals::few_records, crate::proofs::Refusals::few_windows), unfolding(grammar::specs::Reader::contract_windows))]
+fn buffer_for(contract: &[u8]) -> usize
+    requires { read_test contract.now ≡ Passed }
+    ensures { result ≡ buffer_for contract.now }
+{
+    let n = reader::contract_records(contract);
+    let windows = reader::windows(contract, n);
+    layout::ROW_BYTES * (RECORD_ROWS * n + WINDOW_PERIOD_ROWS * windows + MORE_ROWS)
+}
+
 // 1 to 7 as the contract is read, then 8.
+#[tactic(auto, unfolding(crate::specs::Refusals::compile_test))]
 fn compile_test(contract: &[u8], image: &[u8]) -> Test
     ensures { result ≡ compile_test contract.now image.now }
 {
-    let t = reader::read(contract);
-    let Test::Passed = t else {
-        return t;
-    };
-    let n = reader::contract_records(contract);
-    let windows = reader::windows(contract, n);
-    if image.len()
-        < layout::ROW_BYTES * (RECORD_ROWS * n + WINDOW_PERIOD_ROWS * windows + MORE_ROWS)
-    {
-        return Test::Refused(Fault::ShortBuffer, 0);
-    }
-    Test::Passed
+    reader::read(contract)?;
+    records::require(buffer_for(contract) <= image.len(), Fault::ShortBuffer, 0)
 }
 
 // Reads a contract and writes its image into the buffer's first bytes. The result is 1, or 0 where the reply area is too short.
@@ -77,11 +82,10 @@ pub fn monitor_compile(contract: &[u8], image: &mut [u8], reply: &mut [u8]) -> u
         return 0;
     }
     let t = compile_test(contract, image);
-    let Test::Passed = t else {
-        records::put_head(reply, t, 0);
-        return 1;
+    let rows = match t {
+        Ok(()) => put_image(contract, reader::contract_records(contract), image),
+        Err(_) => 0,
     };
-    let rows = put_image(contract, reader::contract_records(contract), image);
     records::put_head(reply, t, rows);
     1
 }

@@ -9,7 +9,9 @@ use mathlib.Core.Path.{◌≡◌, refl, sym, ap, subst}
 use lib.ListN.{length, length-append}
 use Rattle.records.proofs.Cases.{or_cases}
 use Rattle.periods.specs.Periods
-use Rattle.periods.specs.Periods.{Party, party1, party2, Period}
+use Rattle.periods.specs.declared.Party.{Party}
+use Rattle.periods.specs.declared.Party.TheVariants.{One as party1, Two as party2}
+use Rattle.periods.specs.Periods.{Period}
 use Rattle.periods.proofs.Periods.{bit_own, bit-zero}
 use Rattle.contract.specs.Expressions.{Atom, any, tries, idle, succeeds, fails, holds, Expression, atom, seq, or, star, Holds, one, join, left, right, none, more, splits, joins, member, begins, holds_empty}
 

@@ -3,7 +3,8 @@ use Prim.Native.Nat.{ℕ}
 use mathlib.Core.Bool.{Bool, true, false}
 use mathlib.Core.List.{List, [], ◌∷◌}
 use mathlib.Core.Path.{◌≡◌, refl}
-use Rattle.periods.specs.Periods.{party1, party2, Period, tries}
+use Rattle.periods.specs.declared.Party.TheVariants.{One as party1, Two as party2}
+use Rattle.periods.specs.Periods.{Period, tries}
 use Rattle.contract.specs.Meaning.{only, both_parties, duty, literal, both, literal_decision, both_meaning, meaning}
 
 pub joint_both : (a : ℕ) (w : List Period)

@@ -13,7 +13,8 @@ use lib.Dec.{ltb, leb}
 use lib.ListN.{length, take, drop, length-take, length-drop}
 use Rattle.records.proofs.Cases.{lt_or_le}
 use Rattle.records.proofs.Written.{drop-take}
-use Rattle.periods.specs.Periods.{Party, other, Period, tries}
+use Rattle.periods.specs.declared.Party.{Party}
+use Rattle.periods.specs.Periods.{other, Period, tries}
 use Rattle.contract.specs.Expressions.{Expression, Holds}
 use Rattle.contract.specs.Readings.{Reading, pending, accepted, rejected, reading, acceptance}
 use Rattle.contract.specs.Meaning.{Parties, only, both_parties, Literal, duty, ban, power, Clause, literal, deadline, both, then, repair, repeat, when, until, unite, Decision, undecided, satisfied, violated, literal_decision, tested_first, literal_meaning, earlier, both_meaning, later, after, then_meaning, repair_meaning, repeat_meaning, when_meaning, no_later, until_meaning, meaning, EmptyFree}

@@ -5,7 +5,9 @@ use mathlib.Core.Bool.{Bool, true, false, ◌&&◌, and_comm, cond}
 use mathlib.Core.List.{List, [], ◌∷◌}
 use mathlib.Core.Path.{◌≡◌, refl, ap, ◌∙◌}
 use lib.ListN.{take, drop}
-use Rattle.periods.specs.Periods.{Party, party1, party2, other, Period, tries, succeeds}
+use Rattle.periods.specs.declared.Party.{Party}
+use Rattle.periods.specs.declared.Party.TheVariants.{One as party1, Two as party2}
+use Rattle.periods.specs.Periods.{other, Period, tries, succeeds}
 use Rattle.contract.specs.Meaning.{only, duty, Clause, literal, deadline, repair, Decision, undecided, satisfied, violated, literal_decision, later, first_success, or_else, repair_meaning, meaning}
 
 -- an action succeeds when its party tries it and the other does

@@ -4,7 +4,9 @@ use Rattle.std.specs.Prelude.{ℕ, true, false, List, [], ◌∷◌, ◌++◌, m
 use Prim.Native.String.{String}
 use Rattle.std.proofs.Math.Option.{none, some}
 use Rattle.records.specs.Verdicts.{verdict_number, verdict_name}
-use Rattle.periods.specs.Periods.{Party, party1, party2, Period}
+use Rattle.periods.specs.declared.Party.{Party}
+use Rattle.periods.specs.declared.Party.TheVariants.{One as party1, Two as party2}
+use Rattle.periods.specs.Periods.{Period}
 use Rattle.contract.specs.Expressions.{any, tries, idle, succeeds, fails, Expression, atom, seq, or, star, holds_empty}
 use Rattle.contract.specs.Readings.{Reading, pending, accepted, rejected, reading, acceptance}
 use Rattle.contract.specs.Meaning.{Literal, Clause, literal, deadline, both, then, repair, repeat, when, until, only, both_parties, Decision, undecided, satisfied, violated, meaning}

@@ -1,7 +1,8 @@
 -- Expressions, the set of lists of periods that each has, and tests that decide these sets. Document 01, "Expressions".
 use Rattle.std.specs.Prelude.{ℕ, zero, suc, Bool, true, false, not, ◌&&◌, ◌||◌, List, [], ◌∷◌, ◌++◌, ◌≡◌, length}
 use Rattle.periods.specs.Periods
-use Rattle.periods.specs.Periods.{Party, Period}
+use Rattle.periods.specs.declared.Party.{Party}
+use Rattle.periods.specs.Periods.{Period}
 
 -- kinds 16 to 20
 pub data Atom : Type 0 where

@@ -1,7 +1,9 @@
 -- The verdicts after some periods, and what else is reported of a decision. Document 01, "Meaning of clauses", from "Verdicts after n periods", and
 -- "Image and row machine", from "State".
 use Rattle.std.specs.Prelude.{ℕ, ◌≤◌, ◌<◌, List, [], ◌⊎◌, ◌≡◌, length, take}
-use Rattle.records.specs.Verdicts.{Verdict, «open», met, broken, met_after, broken_after, since}
+use Rattle.records.specs.declared.Verdict.{Verdict}
+use Rattle.records.specs.declared.Verdict.TheVariants.{Open, Met, Broken, MetAfter, BrokenAfter}
+use Rattle.records.specs.Verdicts.{since}
 use Rattle.periods.specs.Periods.{Period}
 use Rattle.contract.specs.Meaning.{parties_number, Clause, Decision, undecided, satisfied, violated, meaning}
 
@@ -25,9 +27,9 @@ blame (violated k b) = parties_number b
 
 -- after n periods: open while undecided; met or broken when n is the decision period; met-after or broken-after later
 abbrev pub verdict : Decision → ℕ → Verdict
-verdict undecided n = «open»
-verdict (satisfied k) n = since k n met met_after
-verdict (violated k b) n = since k n broken broken_after
+verdict undecided n = Open
+verdict (satisfied k) n = since k n Met MetAfter
+verdict (violated k b) n = since k n Broken BrokenAfter
 
 -- A clause decides a list at one period or at none: there is a decision such that each beginning of the list is open if it is
 -- shorter than the deciding period, and otherwise has exactly that decision. So a decision stands on every longer list.

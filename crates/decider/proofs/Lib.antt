@@ -1,3 +1,2 @@
--- The laws of the code's loop and of what it writes.
+-- The laws of the code's loop.
 pub mod Loop
-pub mod Calls

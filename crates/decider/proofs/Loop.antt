@@ -1,34 +1,28 @@
--- Where the code's loop stops is as far as decide reads, and the reply that follows is decide's. Document 02, "Stop reading once it is decided".
+-- Where the code's loop stops is as far as decide reads, and what follows is what decide gives. Document 02, "Stop reading once it is decided".
 use Prim.Native.Nat.{ℕ, ◌+◌, ◌≤◌, ◌<◌}
 use native.Mathlib.Nat.{zero-add}
 use native.Mathlib.Omega.{arith}
 use mathlib.Core.Bool.{true, false, and-eq-true_iff}
 use mathlib.Core.List.{List}
 use mathlib.Core.Logic.{⊎_elim}
-use mathlib.Core.Path.{◌≡◌, ap, ◌∙◌}
-use borrow.Author.Tests.{eqb-true}
-use lib.Dec.{eqb}
-use lib.ListN.{length, get_or}
-use lib.Seq.{sets}
+use mathlib.Core.Path.{◌≡◌, sym, ap, ◌∙◌}
+use borrow.Author.Tests.{eq-eqb, eqb-true}
+use lib.ListN.{length}
 use Rattle.records.specs.declared.Fault.TheVariants.{BadPeriod}
-use Rattle.records.specs.declared.Test.TheVariants.{Passed, Refused}
-use Rattle.records.specs.Refusals.{first_failing}
-use Rattle.records.specs.Replies.{reply_of}
+use Rattle.std.specs.Prelude.{Err}
+use Rattle.records.specs.Refusals.{Passed, given, first_failing}
 use Rattle.records.proofs.Cases.{true_or_false}
-use Rattle.records.proofs.Refusals.{is_refused}
-use Rattle.records.proofs.Replies.{call-passed, call_refused}
 use Rattle.records.proofs.Searches.{failing_max, failing_below, failing_fails}
 use Rattle.periods.specs.Periods.{Period}
 use Rattle.periods.specs.Traces.{marked_at, form_of, period_records, trace_periods}
 use Rattle.periods.proofs.Traces.{length-periods_of, marks_pass}
 use Rattle.layout.specs.Images.{row_count}
-use Rattle.states.specs.Limits.{head_bytes}
 use Rattle.states.specs.States.{State, state_of, fresh_bytes}
 use Rattle.machine.specs.Premises.{Ready, goes_on, Takes}
-use Rattle.machine.proofs.Steps.{later_read, later_answering}
+use Rattle.machine.proofs.Steps.{later_read}
 use Rattle.calls.specs.Reading.{state_after_records, records_read}
 use Rattle.calls.specs.Refusals.{unread_test, decide_test}
-use Rattle.calls.specs.Calls.{decide_answer, answer_after, decide_reply_bytes, decide}
+use Rattle.decider.specs.Decisions.{decision_after, decision_of}
 use Rattle.calls.proofs.Refusals.{unread_ready}
 use Rattle.calls.proofs.Reading.{undecided_after, read_exactly, bad_mark_refused}
 
@@ -72,31 +66,23 @@ module _ (image trace : List ℕ) (u : unread_test image trace ≡ Passed) where
     few_taken : length taken ≤ total
     few_taken = rw (length-periods_of (form_of trace) trace r) stops_within
 
-    pub left_long : head_bytes ≤ length later
-    left_long = rw t.leaves (later_answering image fresh total ready taken few_taken).head
-
     left_state : state_of later ≡ state_after_records image trace r
     unfolding state_after_records
     left_state = rw t.leaves (later_read image fresh total ready taken few_taken)
 
-    left_outcome : get_or later 0 0 ≡ (state_after_records image trace r).outcome
-    unfolding state_of
+    left_outcome : (state_of later).outcome ≡ (state_after_records image trace r).outcome
     left_outcome = ap (λ (s : State). s.outcome) left_state
 
-    -- ---- the reply
+    -- ---- what decide gives
 
-    module _ (area : List ℕ) (room : decide_reply_bytes ≤ length area) where
-      pub replies_refused : r < total → eqb (get_or later 0 0) 0 ≡ true
-          → sets area 0 (reply_of (Refused BadPeriod r) (decide_answer 0 0 0 0)) ≡ (decide image trace area).reply
-      unfolding decide
-      replies_refused l o =
-          let is = rw left_outcome at o in
-          let e = bad_mark_refused image trace u r l (λ i j. (went_on i j).1) (bad_next l is) is in
-          rw (call_refused (decide_test image trace) _ (tt {0}) (tt {0}) area room (λ p. is_refused e p)) (rw e)
+    pub decides_refused : r < total → (state_of later).outcome ≡ 0 → Err (record { fault = BadPeriod; place = r }) ≡ decision_of image trace
+    unfolding decision_of
+    decides_refused l o =
+        let is : undecided_after image trace r ≡ true = eq-eqb _ _ (sym left_outcome ∙ o) in
+        rw (bad_mark_refused image trace u r l (λ i j. (went_on i j).1) (bad_next l is) is)
 
-      pub replies_read : ¬ ((r < total) × (get_or later 0 0 ≡ 0))
-          → sets area 0 (reply_of Passed (answer_after (state_of later) r)) ≡ (decide image trace area).reply
-      unfolding decide
-      replies_read stop =
-          let e = stops_read (λ p. stop (p.0, left_outcome ∙ eqb-true _ _ p.1)) in
-          rw (call-passed (decide_test image trace) _ (tt {0}) (tt {0}) area room e.1, e.0, left_state)
+    pub decides_read : ¬ ((r < total) × ((state_of later).outcome ≡ 0)) → given Passed (decision_after (state_of later) r) ≡ decision_of image trace
+    unfolding decision_of
+    decides_read stop =
+        let e = stops_read (λ p. stop (p.0, left_outcome ∙ eqb-true _ _ p.1)) in
+        rw (e.1, e.0, left_state)

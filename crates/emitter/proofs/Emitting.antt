@@ -5,7 +5,9 @@ use mathlib.Core.List.{List, [], ◌∷◌, map, map-append}
 use mathlib.Core.Option.{some}
 use mathlib.Core.Path.{◌≡◌, sym, ap, ◌∙◌}
 use lib.ListN.{length, length-append, length-map}
-use Rattle.grammar.specs.Table.{Sort, Kind, line, kind_of}
+use Rattle.grammar.specs.declared.Sort.{Sort}
+use Rattle.grammar.specs.declared.Kind.{Kind}
+use Rattle.grammar.specs.Table.{line, kind_of}
 use Rattle.grammar.specs.Trees.{Tree, Trees, Fields, Record, node}
 use Rattle.grammar.specs.Spelling.{tree_records}
 use Rattle.reader.specs.Codes.{operand_count}
@@ -15,15 +17,14 @@ use Rattle.grammar.proofs.Fields.{record_of}
 use Rattle.image.specs.Widths.{later_periods, inside}
 use Rattle.emitter.specs.declared.RecordBody.{RecordBody}
 use Rattle.emitter.specs.declared.Block.{Block}
-use Rattle.emitter.specs.declared.Plan.{Plan}
 use Rattle.emitter.specs.declared.Wires.{Wires}
 use Rattle.emitter.specs.Rows.{numbers_of, written_rows}
-use Rattle.emitter.specs.Plans.{plan_of}
-use Rattle.emitter.specs.Blocks.{last_record, record_from, no_block, window_block, window_from, bases_of, record_written, record_block, wires_of, tree_rows, after_tree, block_of, EndsWith, Emitted}
+use Rattle.emitter.specs.Plans.{RowPlan, plan_of}
+use Rattle.emitter.specs.Blocks.{last_record, record_from, no_block, window_block, window_from, meant_by, record_written, record_block, wires_of, tree_rows, after_tree, block_of, EndsWith, Emitted}
 use Rattle.image.proofs.Sizes.{after_window_lem, length_window}
-use Rattle.emitter.proofs.Writing.{written_after, written_around}
-use Rattle.emitter.proofs.Plans.{left_block, right_block, operand_rows, node_bases, rows-node, block_node, after_tree_lem}
-use Rattle.emitter.proofs.Tables.{inside_is, length-kind_rows}
+use Rattle.emitter.proofs.Writing.{written_after, written_around, length-named}
+use Rattle.emitter.proofs.Plans.{left_block, right_block, operand_rows, rows-node, block_node, after_tree_lem}
+use Rattle.emitter.proofs.Tables.{inside_is}
 use Rattle.emitter.proofs.Operands.{View, view, seen, body_of, Last, ends_last, OperandsEnd, ends_operands}
 
 -- ---- the operands' rows
@@ -87,13 +88,13 @@ module _ {contract : List ℕ} {last d : ℕ} {image : List ℕ} {b S : ℕ} {w 
 -- ---- what the program knows of the last record
 
 -- its bytes, its plan and how many operands it has
-pub record RecordRead (contract : List ℕ) (n : ℕ) (r : RecordBody) (count : ℕ) (p : Plan) : Type 0 where
+pub record RecordRead (contract : List ℕ) (n : ℕ) (r : RecordBody) (count : ℕ) (p : RowPlan) : Type 0 where
   pub body_is : r ≡ last_record contract n
   pub plan_is : (k : Kind) → kind_of r.kind ≡ some k → p ≡ plan_of (record_from k r)
   pub count_is : count ≡ operand_count (kind_of r.kind)
 
 -- the same where it is this record
-pub record Known (own : Record) (r : RecordBody) (count : ℕ) (p : Plan) : Type 0 where
+pub record Known (own : Record) (r : RecordBody) (count : ℕ) (p : RowPlan) : Type 0 where
   pub body_is : r ≡ body_of own
   pub plan_is : p ≡ plan_of own
   pub count_is : length (line own.kind).operands ≡ count
@@ -108,7 +109,7 @@ next_left d (s ∷ s' ∷ []) ts m b S w h =
     (omega (arith, after_tree_lem s' ts.1.0 b w.start w.go, after_tree_lem s ts.0 (after_tree s' ts.1.0 b) S w.keep))
 next_left d (s ∷ s' ∷ s'' ∷ ss) ts m b S w h = absurd (omega arith)
 
-module _ {contract : List ℕ} {n : ℕ} {r : RecordBody} {count : ℕ} {p : Plan} (reads : RecordRead contract n r count p) where
+module _ {contract : List ℕ} {n : ℕ} {r : RecordBody} {count : ℕ} {p : RowPlan} (reads : RecordRead contract n r count p) where
   pub known : (own : Record) → Last contract n own → Known own r count p
   known own l =
       let e : r ≡ body_of own = reads.body_is ∙ l.is in
@@ -122,9 +123,9 @@ module _ {contract : List ℕ} {n : ℕ} {r : RecordBody} {count : ℕ} {p : Pla
   -- ---- the record's own rows round its operands' rows are the tree's
 
   module _ (b S K : ℕ) {image later latest : List ℕ} {left right block : Block}
-      (w : Written contract (n - 1) count (r.last - 1) image (b + p.before) S (wires_of p b S K) later left right)
-      (rows : latest ≡ record_written later (bases_of b S K left right r.party r.action) p b left.next)
-      (gives : block ≡ record_block (bases_of b S K left right r.party r.action) p r.kind r.party left right) where
+      (w : Written contract (n - 1) count (r.last - 1) image (b + length p.before) S (wires_of p b S K) later left right)
+      (rows : latest ≡ record_written later (meant_by b S K left right r.party r.action) p b left.next)
+      (gives : block ≡ record_block (meant_by b S K left right r.party r.action) p r.kind r.party left right) where
     module _ (m : ℕ) (k : Kind) (f : Fields) (ts : Trees (line k).operands) (e : EndsWith contract n m (line k).completes (node k f ts)) where
       abbrev own : Record
       own = record_of k f
@@ -141,9 +142,8 @@ module _ {contract : List ℕ} {n : ℕ} {r : RecordBody} {count : ℕ} {p : Pla
       node-rows =
           let i = known own (ends_last contract n m k f ts e) in
           let d = placed in
-          let l = length-kind_rows (node_bases k f ts m b S K) own in
           rw (rows, i.plan_is, i.body_is, d.rows_are, d.left_is, d.right_is, rows-node k f ts m b S K)
-          (written_around image b (inside k b) _ _ _ _ (rw l.0 (sym (inside_is own b)))
+          (written_around image b (inside k b) _ _ _ _ (rw length-named (sym (inside_is own b)))
           (rw length-map (next_left (later_periods own) (line k).operands ts m (inside k b) S (wires_of (plan_of own) b S K) (few_operands k))))
 
       node_block : block ≡ block_of (line k).completes (node k f ts) m b S

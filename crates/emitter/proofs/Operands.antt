@@ -7,7 +7,9 @@ use mathlib.Core.Path.{◌≡◌, refl, sym, ◌∙◌}
 use lib.ListN.{length, take, get_or, length-append}
 use lib.Seq.{take_at, take-take, get_or-take, get_or-append-add, length-take-le}
 use Rattle.grammar.specs.Limits.{record_bytes}
-use Rattle.grammar.specs.Table.{Sort, Kind, line}
+use Rattle.grammar.specs.declared.Sort.{Sort}
+use Rattle.grammar.specs.declared.Kind.{Kind}
+use Rattle.grammar.specs.Table.{line}
 use Rattle.grammar.specs.Trees.{Tree, Trees, Fields, Record, node}
 use Rattle.grammar.specs.Spelling.{spell_record, spell_tree, tree_records}
 use Rattle.reader.proofs.Codes.{few_operands}

@@ -11,7 +11,8 @@ use Rattle.image.specs.Widths.{never_row, period_rows, ◌⊹◌, after_window}
 use Rattle.image.specs.Blocks.{window_rows, last_row}
 use Rattle.image.proofs.Sizes.{after_window_lem, length_window, inside_window}
 use Rattle.emitter.specs.Rows.{numbers_of, written_rows}
-use Rattle.emitter.specs.Blocks.{window_from}
+use Rattle.emitter.specs.declared.Block.{Block}
+use Rattle.emitter.specs.Blocks.{window_block, window_from}
 use Rattle.emitter.specs.Premises.{PeriodRoom, WindowRoom}
 use Rattle.emitter.proofs.Writing.{sets_row, length-written, written_none, written_after}
 use Rattle.emitter.proofs.Plans.{window_onto}
@@ -51,34 +52,28 @@ window_next (suc n) g e m c rest =
 
 -- ---- the loop
 
--- the rows of so many later periods of a window are written from row `at` on, j being one more than they are
-pub record WindowSoFar (image₀ : List ℕ) (at window : ℕ) (image : List ℕ) (next earlier missed j : ℕ) : Type 0 where
+-- the rows of so many later periods of a window are written from row `at` on, j being one more than they are, and this is their block
+pub record WindowSoFar (image₀ : List ℕ) (before at window : ℕ) (image : List ℕ) (block : Block) (j : ℕ) : Type 0 where
   pub done : ℕ
   pub count : j ≡ done + 1
   pub few : done ≤ window - 1
   pub rows_are : image ≡ written_rows image₀ at (map numbers_of (window_from done at))
-  pub next_is : next ≡ after_window done at
-  pub earlier_is : earlier ≡ last_row done 1 never_row at
-  pub missed_is : missed ≡ last_row done 2 (at - 1) at
+  pub block_is : block ≡ window_block before done at
 
-pub none_yet : (image : List ℕ) (at window : ℕ) → WindowSoFar image at window image at 0 (at - 1) 1
+pub none_yet : (image : List ℕ) (before at window : ℕ) → WindowSoFar image before at window image (window_block before 0 at) 1
 unfolding window_rows
-none_yet image at window = record {
-  done = 0;
-  count = refl;
-  few = omega arith;
-  rows_are = sym (written_none image at);
-  next_is = refl;
-  earlier_is = refl;
-  missed_is = refl;
-}
+none_yet image before at window = record { done = 0; count = refl; few = omega arith; rows_are = sym (written_none image at); block_is = refl }
 
-module _ {image₀ : List ℕ} {at window : ℕ} {image : List ℕ} {next earlier missed j : ℕ} (w : WindowSoFar image₀ at window image next earlier missed j) where
+-- the block with the rows of one period more
+abbrev pub next_block : Block → Block
+next_block r = record { before = r.before; next = r.next + 3; sat = r.next + 1; one = r.next + 2; two = r.two; code = r.code }
+
+module _ {image₀ : List ℕ} {before at window : ℕ} {image : List ℕ} {block : Block} {j : ℕ} (w : WindowSoFar image₀ before at window image block j) where
   pub same_length : length image ≡ length image₀
   same_length = rw w.rows_are (length-written image₀ at (map numbers_of (window_from w.done at)))
 
   -- there is room for one period more
-  pub period_room : WindowRoom (length image₀) (window - 1) at → j < window → PeriodRoom (length image) next (at - 2) earlier missed
+  pub period_room : WindowRoom (length image₀) (window - 1) at → j < window → PeriodRoom (length image) block.next (at - 2) block.sat block.one
   period_room r h =
       let d = w.done in
       let c = w.count in
@@ -86,7 +81,7 @@ module _ {image₀ : List ℕ} {at window : ℕ} {image : List ℕ} {next earlie
       let e = after_window_lem (window - 1) at in
       let f = inside_window d 1 never_row at (omega arith) (omega (arith, r.one_before)) in
       let m = inside_window d 2 (at - 1) at (omega arith) (omega (arith, r.one_before)) in
-      rw (same_length, w.next_is, w.earlier_is, w.missed_is)
+      rw (same_length, w.block_is)
       record {
         room = omega (arith, r.room);
         few = omega (arith, r.few);
@@ -95,11 +90,15 @@ module _ {image₀ : List ℕ} {at window : ℕ} {image : List ℕ} {next earlie
         missed_lower = m;
       }
 
-  pub one_more : {later : List ℕ} → j < window → later ≡ written_rows image next (map numbers_of (window_rows 1 (at - 2) earlier missed next []))
-      → WindowSoFar image₀ at window later (next + 3) (next + 1) (next + 2) (j + 1)
+  pub one_more : {later : List ℕ} → j < window
+      → later ≡ written_rows image block.next (map numbers_of (window_rows 1 (at - 2) block.sat block.one block.next []))
+      → WindowSoFar image₀ before at window later (next_block block) (j + 1)
   one_more {later} h i =
       let d = w.done in
       let c = w.count in
+      let next_is : after_window d at + 3 ≡ after_window (suc d) at = sym (after_next d at) in
+      let earlier_is : after_window d at + 1 ≡ last_row (suc d) 1 never_row at = rw (last_next d 1 never_row at) (omega arith) in
+      let missed_is : after_window d at + 2 ≡ last_row (suc d) 2 (at - 1) at = rw (last_next d 2 (at - 1) at) (omega arith) in
       record {
         done = suc d;
         count = omega arith;
@@ -107,18 +106,14 @@ module _ {image₀ : List ℕ} {at window : ℕ} {image : List ℕ} {next earlie
         rows_are =
             i
             ∙ rw (
-              w.next_is,
-              w.earlier_is,
-              w.missed_is,
+              w.block_is,
               w.rows_are,
               window_next d (at - 2) never_row (at - 1) at [],
               window_onto d (at - 2) never_row (at - 1) at [] (window_rows 1 (at - 2) (last_row d 1 never_row at) (last_row d 2 (at - 1) at) (after_window d at) []),
               map-append,
             )
             (written_after image₀ at (after_window d at) _ _ (rw (length-map, length_window d) (omega (arith, after_window_lem d at))));
-        next_is = rw w.next_is (sym (after_next d at));
-        earlier_is = rw (w.next_is, last_next d 1 never_row at) (omega arith);
-        missed_is = rw (w.next_is, last_next d 2 (at - 1) at) (omega arith);
+        block_is = rw (w.block_is, next_is, earlier_is, missed_is) refl;
       }
 
   -- the loop ends with all of them

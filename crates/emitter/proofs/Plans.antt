@@ -1,4 +1,4 @@
--- The program's tables and plans give the rows of image/specs/Blocks.antt: a node's rows are its own rows round those of its operands, and its block is
+-- The plans give the rows of image/specs/Blocks.antt: a node's rows are its own rows round those of its operands, and its block is
 -- what its plan says.
 use Prim.Native.Nat.{ℕ, zero, suc, ◌+◌, ◌-◌}
 use mathlib.Core.Bool.{Bool, true, false, cond}
@@ -7,13 +7,19 @@ use mathlib.Core.Path.{◌≡◌, refl, sym, ◌∙◌}
 use native.Mathlib.Omega.{arith}
 use lib.Dec.{eqb}
 use lib.ListN.{length, take, drop, take-append-drop}
-use Rattle.periods.specs.Periods.{Party, party1, party2, party_number, other}
+use Rattle.periods.specs.declared.Party.{Party}
+use Rattle.periods.specs.declared.Party.TheVariants.{One as party1, Two as party2}
+use Rattle.periods.specs.Periods.{party_number, other}
 use Rattle.layout.specs.Rows.{Row}
 use Rattle.contract.specs.Expressions as E
 use Rattle.contract.specs.Expressions.{Expression, atom, holds_empty}
 use Rattle.contract.specs.Meaning as M
 use Rattle.contract.specs.Meaning.{Clause}
-use Rattle.grammar.specs.Table.{Sort, clause, expression, Kind, duty, ban, power, both, then, repair, repeat, when, until, deadline, any, tries, idle, succeeds, fails, seq, or, star, line}
+use Rattle.grammar.specs.declared.Sort.{Sort}
+use Rattle.grammar.specs.declared.Sort.TheVariants.{Clause as clause, Expression as expression}
+use Rattle.grammar.specs.declared.Kind.{Kind}
+use Rattle.grammar.specs.declared.Kind.TheVariants.{Duty as duty, Ban as ban, Power as power, Both as both, Then as then, Repair as repair, Repeat as repeat, When as when, Until as until, Deadline as deadline, Any as any, Tries as tries, Idle as idle, Succeeds as succeeds, Fails as fails, Seq as seq, Or as or, Star as star}
+use Rattle.grammar.specs.Table.{line}
 use Rattle.grammar.specs.Trees.{Tree, Trees, Fields, party_named, owner_named, node}
 use Rattle.reader.specs.Codes.{completed}
 use Rattle.grammar.specs.Spelling.{literal_record, tree_records}
@@ -24,9 +30,9 @@ use Rattle.image.specs.Blocks.{end_row, live_row, expression_rows, blaming, outp
 use Rattle.image.proofs.Sizes.{after_expression_lem, after_clause_lem, length_expression, length_clause}
 use Rattle.emitter.specs.declared.Block.{Block}
 use Rattle.emitter.specs.declared.Wires.{Wires}
-use Rattle.emitter.specs.Rows.{RowNumbers, numbers_of, row_table, table_rows}
+use Rattle.emitter.specs.Rows.{RowNumbers, numbers_of, Name, named_rows}
 use Rattle.emitter.specs.Plans.{plan_of}
-use Rattle.emitter.specs.Blocks.{no_block, window_block, window_from, other_number, bases_of, record_block, wires_of, tree_rows, after_tree, block_of}
+use Rattle.emitter.specs.Blocks.{no_block, window_block, window_from, other_number, meant_by, record_block, wires_of, tree_rows, after_tree, block_of}
 use Rattle.emitter.proofs.Tables.{after_is}
 
 -- ---- rows and what follows them
@@ -89,16 +95,16 @@ operand_rows n (s ∷ s' ∷ ss) ts b S w =
 
 -- ---- a duty, by its owner
 
--- what the bases stand for
-abbrev duty_bases : M.Parties → (a m b S K : ℕ) → List ℕ
-duty_bases o a m b S K = let w = window_block m 0 (inside duty b) in bases_of b S K w w (M.parties_number o) a
+-- what the names stand for
+abbrev duty_names : M.Parties → (a m b S K : ℕ) → Name → ℕ
+duty_names o a m b S K = let w = window_block m 0 (inside duty b) in meant_by b S K w w (M.parties_number o) a
 
 -- its rows
 rows_duty : (o : M.Parties) (a m b S K : ℕ)
     → let p = plan_of (literal_record (M.duty o) a) in
     map numbers_of (clause_rows (M.literal (M.duty o) a) b S K [])
-    ≡ table_rows (duty_bases o a m b S K) row_table p.from p.before ++ table_rows (duty_bases o a m b S K) row_table (p.from + p.before) p.after
-unfolding clause_rows table_rows
+    ≡ named_rows (duty_names o a m b S K) p.before ++ named_rows (duty_names o a m b S K) p.after
+unfolding clause_rows named_rows
 rows_duty (M.only party1) a m b S K = refl
 rows_duty (M.only party2) a m b S K = refl
 rows_duty M.both_parties a m b S K = refl
@@ -110,7 +116,7 @@ no_more n = omega arith
 block_duty : (o : M.Parties) (a m b S K : ℕ)
     → let w = window_block m 0 (inside duty b) in
     block_of clause (M.literal (M.duty o) a) m b S
-    ≡ record_block (duty_bases o a m b S K) (plan_of (literal_record (M.duty o) a)) (line duty).number (M.parties_number o) w w
+    ≡ record_block (duty_names o a m b S K) (plan_of (literal_record (M.duty o) a)) (line duty).number (M.parties_number o) w w
 unfolding after_clause outputs_of record_block completed
 block_duty (M.only party1) a m b S K = rw (no_more (inside duty b))
 block_duty (M.only party2) a m b S K = rw (no_more (inside duty b))
@@ -118,12 +124,12 @@ block_duty M.both_parties a m b S K = rw (no_more (inside duty b))
 
 -- ---- a node
 
--- what the bases stand for in a record with these operands
-abbrev pub node_bases : (k : Kind) → Fields → Trees (line k).operands → (m b S K : ℕ) → List ℕ
-node_bases k f ts m b S K =
+-- what the names stand for in a record with these operands
+abbrev pub node_names : (k : Kind) → Fields → Trees (line k).operands → (m b S K : ℕ) → Name → ℕ
+node_names k f ts m b S K =
     let r = record_of k f in
     let w = wires_of (plan_of r) b S K in
-    bases_of b S K (left_block (later_periods r) (line k).operands ts m (inside k b) S) (right_block (later_periods r) (line k).operands ts m (inside k b) w.start)
+    meant_by b S K (left_block (later_periods r) (line k).operands ts m (inside k b) S) (right_block (later_periods r) (line k).operands ts m (inside k b) w.start)
     r.fields.party r.fields.action
 
 -- two lists of rows are equal if they are up to an operator's operands' rows, and from there on
@@ -154,10 +160,10 @@ pub rows-node : (k : Kind) (f : Fields) (ts : Trees (line k).operands) (m b S K 
     → let r = record_of k f in
     let p = plan_of r in
     map numbers_of (tree_rows (line k).completes (node k f ts) b S K)
-    ≡ table_rows (node_bases k f ts m b S K) row_table p.from p.before
+    ≡ named_rows (node_names k f ts m b S K) p.before
     ++ (map numbers_of (operand_rows (later_periods r) (line k).operands ts (inside k b) S (wires_of p b S K))
-    ++ table_rows (node_bases k f ts m b S K) row_table (p.from + p.before) p.after)
-unfolding node window_rows clause_rows expression_rows outputs_of end_row table_rows wires_of
+    ++ named_rows (node_names k f ts m b S K) p.after)
+unfolding node window_rows clause_rows expression_rows outputs_of end_row named_rows wires_of
 rows-node duty f ts m b S K = rows_duty (owner_named f.party) f.action m b S K
 rows-node ban f ts m b S K = rw (other_number_lem (party_named f.party))
 rows-node power f ts m b S K = rw (other_number_lem (party_named f.party))
@@ -187,7 +193,7 @@ rows-node star f ts m b S K = equal_parts star refl (one (expression_onto ts.0 _
 -- where they end
 pub after_node : (k : Kind) (f : Fields) (ts : Trees (line k).operands) (m b S : ℕ)
     → let r = record_of k f in
-    after_tree (line k).completes (node k f ts) b ≡ (left_block (later_periods r) (line k).operands ts m (inside k b) S).next + (plan_of r).after
+    after_tree (line k).completes (node k f ts) b ≡ (left_block (later_periods r) (line k).operands ts m (inside k b) S).next + length (plan_of r).after
 unfolding node after_clause after_expression
 after_node duty f ts m b S = omega (arith, after_is (record_of duty f))
 after_node ban f ts m b S = omega arith
@@ -223,7 +229,7 @@ cond_same false x = refl
 pub block_node : (k : Kind) (f : Fields) (ts : Trees (line k).operands) (m b S K : ℕ)
     → let r = record_of k f in
     block_of (line k).completes (node k f ts) m b S
-    ≡ record_block (node_bases k f ts m b S K) (plan_of r) (line k).number r.fields.party
+    ≡ record_block (node_names k f ts m b S K) (plan_of r) (line k).number r.fields.party
     (left_block (later_periods r) (line k).operands ts m (inside k b) S) (right_block (later_periods r) (line k).operands ts m (inside k b) (wires_of (plan_of r) b S K).start)
 unfolding node after_clause after_expression outputs_of end_row live_row record_block wires_of completed holds_empty
 block_node duty f ts m b S K = block_duty (owner_named f.party) f.action m b S K

@@ -1,35 +1,32 @@
 -- What the recursive writer may do: there is room for the rows of a record and of its operands, and every row that they name is a small number.
-use Prim.Native.Nat.{ℕ, ◌+◌, ◌*◌, ◌-◌, ◌^◌, ◌≤◌, ◌<◌}
+use Prim.Native.Nat.{ℕ, ◌+◌, ◌*◌, ◌-◌, ◌≤◌, ◌<◌}
 use native.Mathlib.Omega.{arith}
 use mathlib.Core.Bool.{Bool, true, false, not, ◌||◌, cond}
 use mathlib.Core.List.{List, [], ◌∷◌}
-use mathlib.Core.Logic.{◌⊎◌, inl, inr, ⊎_elim}
 use mathlib.Core.Path.{◌≡◌, refl, sym, ◌∙◌}
 use borrow.Author.Tests.{leb-true}
-use lib.Dec.{eqb, leb, lit<}
+use lib.Dec.{leb}
 use lib.ListN.{length}
-use Rattle.records.specs.Holding.{AllBelow}
-use Rattle.records.proofs.Fields.{all_below_nil, all_below_cons}
-use Rattle.periods.specs.Periods.{Party, party1, party2, party_number, other}
 use Rattle.layout.specs.Limits.{row_bytes, max_rows}
 use Rattle.grammar.specs.Limits.{record_bytes}
-use Rattle.grammar.specs.Table.{Sort, clause, expression, Kind, line}
-use Rattle.grammar.specs.Trees.{Tree, Trees, Fields, party_named}
+use Rattle.grammar.specs.declared.Sort.{Sort}
+use Rattle.grammar.specs.declared.Sort.TheVariants.{Clause as clause, Expression as expression}
+use Rattle.grammar.specs.declared.Kind.{Kind}
+use Rattle.grammar.specs.Table.{line}
+use Rattle.grammar.specs.Trees.{Tree, Trees, Fields}
 use Rattle.grammar.specs.Spelling.{tree_records}
-use Rattle.reader.specs.Codes.{empty_code}
 use Rattle.grammar.proofs.Table.{of_all}
 use Rattle.grammar.proofs.Fields.{uses, record_of}
 use Rattle.image.specs.Widths.{width, later_periods, never_row}
 use Rattle.image.proofs.Sizes.{after_window_lem, inside_expression, inside_clause, inside_window}
 use Rattle.emitter.specs.declared.RecordBody.{RecordBody}
 use Rattle.emitter.specs.declared.Block.{Block}
-use Rattle.emitter.specs.declared.Plan.{Plan}
 use Rattle.emitter.specs.declared.Wires.{Wires}
-use Rattle.emitter.specs.Rows.{leaf_rows, row_table}
-use Rattle.emitter.specs.Blocks.{no_block, bases_of, wires_of, after_tree, block_of, EndsWith, Emitted}
+use Rattle.emitter.specs.Plans.{RowPlan}
+use Rattle.emitter.specs.Blocks.{wires_of, after_tree, block_of, EndsWith, Emitted}
 use Rattle.emitter.specs.Premises.{RecordRows, WindowRoom, Emits}
 use Rattle.emitter.proofs.Plans.{left_block, right_block, after_node}
-use Rattle.emitter.proofs.Tables.{before_is, inside_is, end, listed, in_one_table, WiresInside, wires_inside}
+use Rattle.emitter.proofs.Tables.{before_is, inside_is, WiresInside, wires_inside}
 use Rattle.emitter.proofs.Operands.{View, view, seen, ends_last, OperandsEnd, ends_operands}
 use Rattle.emitter.proofs.Emitting.{Written, RecordRead, Known, known}
 
@@ -45,36 +42,6 @@ record Given (r : Block) (n : ℕ) : Type 0 where
 block_inside : (s : Sort) (t : Tree s) (m b S : ℕ) → S < b → (b ≤ after_tree s t b) × Given (block_of s t m b S) (after_tree s t b)
 block_inside clause c m b S h = let i = inside_clause c b (omega arith) in omega arith
 block_inside expression e m b S h = let i = inside_expression e b S h in omega arith
-
--- ---- small numbers
-
-small_if : (t : Bool) {x y : ℕ} → x < 256 ^ 2 → y < 256 ^ 2 → cond t x y < 256 ^ 2
-small_if true h i = h
-small_if false h i = i
-
-small_number : (p : Party) → party_number p < 256 ^ 2
-small_number party1 = lit< tt
-small_number party2 = lit< tt
-
-small_bases : (n b S K : ℕ) (left right : Block) (party action : ℕ) → n ≤ max_rows → b ≤ n → S < b → K < b → left.next ≤ n
-    → Given left n → Given right n → party < 256 → action < 256 → AllBelow (256 ^ 2) (bases_of b S K left right party action)
-small_bases n b S K left right party action m h i j e l r p a =
-    all_below_cons (omega arith)
-    (all_below_cons (omega arith)
-    (all_below_cons (omega arith)
-    (all_below_cons (omega arith)
-    (all_below_cons (omega arith)
-    (all_below_cons (omega arith)
-    (all_below_cons (omega arith)
-    (all_below_cons (omega arith)
-    (all_below_cons (omega arith)
-    (all_below_cons (omega arith)
-    (all_below_cons (omega arith)
-    (all_below_cons (small_if (eqb left.code empty_code) (omega arith) (omega arith))
-    (all_below_cons (small_if (eqb right.code empty_code) (omega arith) (omega arith))
-    (all_below_cons (omega arith)
-    (all_below_cons (small_number (other (party_named party)))
-    (all_below_cons (omega arith) (all_below_nil (lit< tt)))))))))))))))))
 
 -- ---- there is room for a window's rows, or the operands'
 
@@ -180,15 +147,15 @@ module _ {contract : List ℕ} {last : ℕ} {image : List ℕ} {b S : ℕ} {w : 
 -- ---- what the writer may do, from what it is given
 
 -- the last record with its operands, for which there is room
-record Opened (contract : List ℕ) (n : ℕ) (image : List ℕ) (b S K : ℕ) (r : RecordBody) (count : ℕ) (p : Plan) : Type 0 where
+record Opened (contract : List ℕ) (n : ℕ) (image : List ℕ) (b S K : ℕ) (r : RecordBody) (count : ℕ) (p : RowPlan) : Type 0 where
   before : ℕ
   k : Kind
   f : Fields
   ts : Trees (line k).operands
   is : Known (record_of k f) r count p
-  operands : Room contract (n - 1) image (b + p.before) S (wires_of p b S K) (r.last - 1) before (line k).operands ts
-  room : row_bytes * ((left_block (r.last - 1) (line k).operands ts before (b + p.before) S).next + p.after) ≤ length image
-  few : (left_block (r.last - 1) (line k).operands ts before (b + p.before) S).next + p.after ≤ max_rows
+  operands : Room contract (n - 1) image (b + length p.before) S (wires_of p b S K) (r.last - 1) before (line k).operands ts
+  room : row_bytes * ((left_block (r.last - 1) (line k).operands ts before (b + length p.before) S).next + length p.after) ≤ length image
+  few : (left_block (r.last - 1) (line k).operands ts before (b + length p.before) S).next + length p.after ≤ max_rows
 
 module _ {contract : List ℕ} {n : ℕ} {image : List ℕ} {b S K : ℕ} (e : Emits contract n image b S K) where
   pub some_record : (1 ≤ n) × (record_bytes * n ≤ length contract)
@@ -197,7 +164,7 @@ module _ {contract : List ℕ} {n : ℕ} {image : List ℕ} {b S K : ℕ} (e : E
       at : (s : Sort) (t : Tree s) → View s t → EndsWith contract n e.before s t → 1 ≤ n
       at s t (view k f ts) i = (ends_last contract n e.before k f ts i).some_record
 
-  module _ {r : RecordBody} {count : ℕ} {p : Plan} (reads : RecordRead contract n r count p) where
+  module _ {r : RecordBody} {count : ℕ} {p : RowPlan} (reads : RecordRead contract n r count p) where
     opened : Opened contract n image b S K r count p
     opened = at e.sort e.tree (seen e.sort e.tree) e.ends e.room e.few
       where
@@ -229,27 +196,20 @@ module _ {contract : List ℕ} {n : ℕ} {image : List ℕ} {b S K : ℕ} (e : E
               few = rw (is.plan_is, is.body_is, inside_is own b) fw;
             }
 
-    pub few_inside : b + p.before ≤ max_rows
+    pub few_inside : b + length p.before ≤ max_rows
     few_inside =
         let o = opened in
         let i = ordered o.before (line o.k).operands o.ts o.operands in
         omega (arith, o.few, i.not_before)
 
-    pub wires_small : AllBelow (256 ^ 2) (bases_of b S K (no_block 0 0) (no_block 0 0) 0 0)
-    wires_small =
-        let h = few_inside in
-        let i = e.begins in
-        small_bases max_rows b S K (no_block 0 0) (no_block 0 0) 0 0 (omega arith) (omega arith) i e.goes_on (omega arith) (omega arith) (omega arith)
-        (omega arith) (omega arith)
-
-    pub window_room : count ≡ 0 → WindowRoom (length image) (r.last - 1) (b + p.before)
+    pub window_room : count ≡ 0 → WindowRoom (length image) (r.last - 1) (b + length p.before)
     window_room h =
         let o = opened in
         none o.k o.f o.is (line o.k).operands o.ts (o.is.count_is ∙ h) o.operands
       where
         none : (k : Kind) (f : Fields) → Known (record_of k f) r count p → (ss : List Sort) (ts : Trees ss) → length ss ≡ 0 → {m : ℕ}
-            → Room contract (n - 1) image (b + p.before) S (wires_of p b S K) (r.last - 1) m ss ts
-            → WindowRoom (length image) (r.last - 1) (b + p.before)
+            → Room contract (n - 1) image (b + length p.before) S (wires_of p b S K) (r.last - 1) m ss ts
+            → WindowRoom (length image) (r.last - 1) (b + length p.before)
         none k f i [] ts e g =
             record {
               room = g.room;
@@ -259,41 +219,28 @@ module _ {contract : List ℕ} {n : ℕ} {image : List ℕ} {b S K : ℕ} (e : E
             }
         none k f i (s ∷ ss) ts e g = absurd (omega arith)
 
-    pub right_emits : ¬ (count ≡ 0) → Emits contract (n - 1) image (b + p.before) (wires_of p b S K).start (wires_of p b S K).go
+    pub right_emits : ¬ (count ≡ 0) → Emits contract (n - 1) image (b + length p.before) (wires_of p b S K).start (wires_of p b S K).go
     right_emits h =
         let o = opened in
         right_room o.before (line o.k).operands o.ts o.operands (λ z. h (sym o.is.count_is ∙ z))
 
     pub left_emits : {later : List ℕ} {right : Block} → ¬ (count ≡ 0) → ¬ (count ≡ 1)
-        → Emitted contract (n - 1) image (b + p.before) (wires_of p b S K).start (wires_of p b S K).go later right → length later ≡ length image
+        → Emitted contract (n - 1) image (b + length p.before) (wires_of p b S K).start (wires_of p b S K).go later right → length later ≡ length image
         → Emits contract right.before later right.next S (wires_of p b S K).keep × (right.before ≤ n - 1)
     left_emits h i g l =
         let o = opened in
         left_room o.before (line o.k).operands o.ts o.operands (λ z. h (sym o.is.count_is ∙ z)) (λ z. i (sym o.is.count_is ∙ z)) g l
 
-    pub record_rows : {later : List ℕ} {left right : Block} → Written contract (n - 1) count (r.last - 1) image (b + p.before) S (wires_of p b S K) later left right
-        → length later ≡ length image → (r.party < 256) × (r.action < 256)
-        → RecordRows (length later) p b left.next (bases_of b S K left right r.party r.action)
-    record_rows {later} {left} {right} w l small-fields =
+    pub record_rows : {later : List ℕ} {left right : Block} → Written contract (n - 1) count (r.last - 1) image (b + length p.before) S (wires_of p b S K) later left right
+        → length later ≡ length image → RecordRows (length later) p b left.next
+    record_rows {later} {left} w l =
         let o = opened in
         let d = w.placed o.before (line o.k).operands o.ts o.is.count_is o.operands.ends in
         let i = ordered o.before (line o.k).operands o.ts o.operands in
-        let after : b + p.before ≤ left.next = rw d.left_is i.not_before in
-        let l_given : Given left left.next = rw d.left_is i.left_given in
-        let r_given : Given right left.next = rw (d.right_is, d.left_is) i.right_given in
-        let room : row_bytes * (left.next + p.after) ≤ length later = rw (l, d.left_is) o.room in
-        let few : left.next + p.after ≤ max_rows = rw d.left_is o.few in
-        let in_table : end p ≤ length row_table = rw o.is.plan_is (listed (record_of o.k o.f)) in
-        let in_one : (end p ≤ length leaf_rows) ⊎ (length leaf_rows ≤ p.from) = rw o.is.plan_is (in_one_table (record_of o.k o.f)) in
-        let small =
-        small_bases left.next b S K left right r.party r.action (omega arith) (omega arith) e.begins e.goes_on (omega arith) l_given r_given small-fields.0 small-fields.1 in
+        let after : b + length p.before ≤ left.next = rw d.left_is i.not_before in
+        let room : row_bytes * (left.next + length p.after) ≤ length later = rw (l, d.left_is) o.room in
+        let few : left.next + length p.after ≤ max_rows = rw d.left_is o.few in
         record {
-          first = record {
-            has_room = record { bases_small = small; short = omega arith; listed = omega arith; room = omega arith; few = omega arith };
-            in_one = ⊎_elim (λ h. inl (omega arith)) inr in_one;
-          };
-          second = record {
-            has_room = record { bases_small = small; short = omega arith; listed = in_table; room = room; few = few };
-            in_one = ⊎_elim inl (λ h. inr (omega arith)) in_one;
-          };
+          first = record { room = omega arith; few = omega arith };
+          second = record { room = room; few = few };
         }

@@ -1,17 +1,17 @@
 -- What a run of rows leaves in an image buffer: runs one behind the other are one, in whichever order they were written.
-use Prim.Native.Nat.{ℕ, suc, ◌+◌, ◌-◌, ◌*◌, ◌≤◌, ◌<◌}
+use Prim.Native.Nat.{ℕ, suc, ◌+◌, ◌*◌, ◌<◌}
 use native.Mathlib.Omega.{arith}
 use mathlib.Core.List.{List, [], ◌∷◌, ◌++◌, map, append_assoc, map-append}
 use mathlib.Core.Path.{◌≡◌, refl, sym, ap, ◌∙◌}
-use lib.ListN.{length, take, drop, get_or, length-append, length-map, length-drop}
-use lib.Seq.{sets, length-sets, length-take-le, take-suc, get_or-drop, take-append-le, drop-append-le, drop-append-add}
+use lib.ListN.{length, take, get_or, length-append, length-map}
+use lib.Seq.{sets, length-sets, length-take-le, take-suc}
 use Rattle.records.specs.Fields.{bytes}
 use Rattle.records.proofs.Written.{sets-append, sets_before}
 use Rattle.layout.specs.Limits.{row_bytes}
 use Rattle.layout.specs.Rows.{Row, row_record, encode}
+use Rattle.layout.specs.Fields.{kind_number}
 use Rattle.layout.specs.Images.{rows_bytes}
-use Rattle.emitter.specs.declared.TableRow.{TableRow}
-use Rattle.emitter.specs.Rows.{RowNumbers, numbers_of, numbers_bytes, written_rows, leaf_rows, node_rows, row_table, value_at, table_row, table_rows}
+use Rattle.emitter.specs.Rows.{RowNumbers, numbers_of, numbers_bytes, written_rows, Name, NamedRow, row_numbers, named_rows}
 
 -- rows as numbers have the rows' bytes
 pub numbers_bytes_lem : (rs : List Row) → numbers_bytes (map numbers_of rs) ≡ rows_bytes rs
@@ -70,48 +70,31 @@ written_around image b m n hs rs ts e f =
     let g : n ≡ b + length (hs ++ rs) = rw length-append (omega arith) in
     rw (written_before image b m hs rs e, written_after image b n (hs ++ rs) ts g, append_assoc)
 
--- ---- rows of the table
+-- ---- rows by names
 
--- what a read past the table's end gives
-abbrev pub no_row : TableRow
-no_row = record { kind = 0; x = 0; y = 0 }
+pub length-named : (names : Name → ℕ) (rows : List NamedRow) → length (named_rows names rows) ≡ length rows
+unfolding named_rows
+length-named names rows = length-map rows (row_numbers names)
 
-module _ (bases : List ℕ) (table : List TableRow) (from : ℕ) where
-  pub length_listed : (count : ℕ) → from + count ≤ length table → length (table_rows bases table from count) ≡ count
-  unfolding table_rows
-  length_listed count h = rw length-map (length-take-le count (drop from table) (rw length-drop (omega arith)))
+-- what is written before the first row, and with one row more, whose x and y are what it names
+module _ (names : Name → ℕ) (rows : List NamedRow) (image : List ℕ) (b : ℕ) where
+  pub none_named : image ≡ written_rows image b (named_rows names (take 0 rows))
+  unfolding named_rows
+  none_named = sym (written_none image b)
 
-  listed_next : (j : ℕ) → from + j < length table
-      → table_rows bases table from (suc j) ≡ table_rows bases table from j ++ (table_row bases (get_or table (from + j) no_row) ∷ [])
-  unfolding table_rows
-  listed_next j h =
-      rw (take-suc (drop from table) j no_row (rw length-drop (omega arith)), map-append, get_or-drop from table j no_row)
+  named_next : (j : ℕ) (d : NamedRow) → j < length rows
+      → named_rows names (take (suc j) rows) ≡ named_rows names (take j rows) ++ (row_numbers names (get_or rows j d) ∷ [])
+  unfolding named_rows
+  named_next j d h = rw (take-suc rows j d h, map-append) refl
 
-  -- one row of the table more: x and y are what it names
-  pub written_next : (image now later : List ℕ) (b j x y : ℕ) → from + j < length table
-      → now ≡ written_rows image b (table_rows bases table from j)
-      → x ≡ value_at bases (get_or table (from + j) no_row).x
-      → y ≡ value_at bases (get_or table (from + j) no_row).y
-      → later ≡ sets now (row_bytes * (b + j)) (row_record (get_or table (from + j) no_row).kind x y)
-      → later ≡ written_rows image b (table_rows bases table from (suc j))
-  written_next image now later b j x y h e f g w =
-      let rs = table_rows bases table from j in
-      let r = table_row bases (get_or table (from + j) no_row) in
-      let n : b + j ≡ b + length rs = rw (length_listed j (omega arith)) in
-      w ∙ rw (e, f, g, listed_next j h) (sets_row (written_rows image b rs) (b + j) r ∙ written_after image b (b + j) rs (r ∷ []) n)
-
--- ---- a run of rows lies in one of the two tables
-
-module _ (bases : List ℕ) (from count : ℕ) where
-  pub in_leaves : from + count ≤ length leaf_rows → table_rows bases row_table from count ≡ table_rows bases leaf_rows from count
-  unfolding table_rows
-  in_leaves h =
-      ap (map (table_row bases)) (ap (take count) (drop-append-le from leaf_rows node_rows (omega arith))
-      ∙ take-append-le count (drop from leaf_rows) node_rows (rw length-drop (omega arith)))
-
-  pub in_nodes : length leaf_rows ≤ from → table_rows bases row_table from count ≡ table_rows bases node_rows (from - length leaf_rows) count
-  unfolding table_rows
-  in_nodes h =
-      let e : from ≡ length leaf_rows + (from - length leaf_rows) = omega arith in
-      ap (map (table_row bases)) (ap (λ (n : ℕ). take count (drop n row_table)) e
-      ∙ ap (take count) (drop-append-add leaf_rows node_rows (from - length leaf_rows)))
+  pub written_next : (now later : List ℕ) (j x y : ℕ) (d : NamedRow) → j < length rows
+      → now ≡ written_rows image b (named_rows names (take j rows))
+      → x ≡ names (get_or rows j d).1
+      → y ≡ names (get_or rows j d).2
+      → later ≡ sets now (row_bytes * (b + j)) (row_record (kind_number (get_or rows j d).0) x y)
+      → later ≡ written_rows image b (named_rows names (take (suc j) rows))
+  written_next now later j x y d h e f g w =
+      let rs = named_rows names (take j rows) in
+      let r = row_numbers names (get_or rows j d) in
+      let n : b + j ≡ b + length rs = rw (length-named names (take j rows), length-take-le j rows (omega arith)) refl in
+      w ∙ rw (e, f, g, named_next j d h) (sets_row (written_rows image b rs) (b + j) r ∙ written_after image b (b + j) rs (r ∷ []) n)

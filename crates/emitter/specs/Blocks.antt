@@ -1,20 +1,26 @@
 -- The rows and the block of one record, by its plan and the blocks of its operands; and those of a tree.
-use Rattle.std.specs.Prelude.{ℕ, ◌+◌, ◌*◌, ◌-◌, ◌≤◌, cond, List, [], ◌∷◌, ◌++◌, map, ◌≡◌, eqb, length, take}
-use Rattle.periods.specs.Periods.{party2, party_number, other}
+use Rattle.std.specs.Prelude.{ℕ, ◌+◌, ◌*◌, ◌-◌, ◌≤◌, cond, List, [], ◌++◌, map, ◌≡◌, eqb, length, take}
+use Rattle.periods.specs.declared.Party.TheVariants.{Two as party2}
+use Rattle.periods.specs.Periods.{party_number, other}
 use Rattle.layout.specs.Rows.{Row}
 use Rattle.grammar.specs.Limits.{record_bytes}
-use Rattle.grammar.specs.Table.{Sort, clause, expression, Kind}
+use Rattle.grammar.specs.declared.Sort.{Sort}
+use Rattle.grammar.specs.declared.Sort.TheVariants.{Clause as clause, Expression as expression}
+use Rattle.grammar.specs.declared.Kind.{Kind}
 use Rattle.grammar.specs.Trees.{Tree, Record, party_named}
 use Rattle.grammar.specs.Spelling.{spell_tree, tree_records}
 use Rattle.grammar.specs.Reader.{kind_at, fields_at, operand}
 use Rattle.reader.specs.Codes.{empty_code, code_of, completed}
-use Rattle.image.specs.Widths.{never_row, after_window, after_expression, after_clause}
+use Rattle.image.specs.Widths.{never_row, ◌⊹◌, after_window, after_expression, after_clause}
 use Rattle.image.specs.Blocks.{end_row, live_row, expression_rows, Outputs, outputs_of, window_rows, last_row, clause_rows}
 use Rattle.emitter.specs.declared.RecordBody.{RecordBody}
-use Rattle.emitter.specs.declared.Plan.{Plan}
 use Rattle.emitter.specs.declared.Block.{Block}
+use Rattle.emitter.specs.declared.Node.{Node}
+use Rattle.emitter.specs.declared.Whole.{Whole}
 use Rattle.emitter.specs.declared.Wires.{Wires}
-use Rattle.emitter.specs.Rows.{numbers_of, written_rows, row_table, value_at, table_rows}
+use Rattle.emitter.specs.declared.Name.TheVariants as V
+use Rattle.emitter.specs.Rows.{numbers_of, written_rows, Name, named_rows}
+use Rattle.emitter.specs.Plans.{RowPlan}
 
 -- ---- a record's bytes
 
@@ -49,39 +55,64 @@ window_from n c = window_rows n (c - 2) never_row (c - 1) c []
 abbrev pub other_number : ℕ → ℕ
 other_number p = party_number (other (party_named p))
 
--- What the bases stand for, in their order: never; the rows that start the block and keep it going; the record's first row, and the first after
--- its operands'; what the left operand's block gives out, and the right one's; two rows that count where an operand holds the empty list;
--- the record's party, the other party, the action. Here and below a deadline's window stands for its operands, its block for the left one's.
-abbrev pub bases_of : (b s k : ℕ) (left right : Block) (party action : ℕ) → List ℕ
-bases_of b s k l r p a =
-    0 ∷ s ∷ k ∷ b ∷ l.next ∷ l.sat ∷ l.one ∷ l.two ∷ r.sat ∷ r.one ∷ r.two
-    ∷ cond (eqb l.code empty_code) s 0 ∷ cond (eqb r.code empty_code) l.sat 0 ∷ p ∷ other_number p ∷ a ∷ []
+-- What a name stands for in a record that stands at row b and is told by rows s and k when it reads, while its operands have no rows: so many rows on
+-- from row b, one of the two rows, or never.
+abbrev pub wire : (b s k : ℕ) → Name → ℕ
+wire b s k V.S = s
+wire b s k V.K = k
+wire b s k (V.B i) = b ⊹ i
+wire b s k _ = 0
 
--- a record's own rows written, n being the first row after its operands' rows
-unfoldable pub record_written : (image bases : List ℕ) → Plan → (b n : ℕ) → List ℕ
-record_written image bases p b n =
-    written_rows (written_rows image b (table_rows bases row_table p.from p.before)) n (table_rows bases row_table (p.from + p.before) p.after)
+-- What a name stands for in a record with its operands' blocks: that, or so many rows on from the first after its operands' rows; what the left
+-- operand's block gives out, and the right one's; two rows that count where an operand holds the empty list; the parties' numbers; the record's
+-- party, the other party, the action. Here and below a deadline's window stands for its operands, its block for the left one's.
+abbrev pub meant_by : (b s k : ℕ) (left right : Block) (party action : ℕ) → Name → ℕ
+meant_by b s k l r p a V.Zero = 0
+meant_by b s k l r p a V.Party1 = 1
+meant_by b s k l r p a V.Party2 = 2
+meant_by b s k l r p a V.S = s
+meant_by b s k l r p a V.K = k
+meant_by b s k l r p a (V.B i) = b ⊹ i
+meant_by b s k l r p a (V.N i) = l.next ⊹ i
+meant_by b s k l r p a V.LSat = l.sat
+meant_by b s k l r p a V.LOne = l.one
+meant_by b s k l r p a V.LTwo = l.two
+meant_by b s k l r p a V.RSat = r.sat
+meant_by b s k l r p a V.ROne = r.one
+meant_by b s k l r p a V.RTwo = r.two
+meant_by b s k l r p a V.SE = cond (eqb l.code empty_code) s 0
+meant_by b s k l r p a V.LE = cond (eqb r.code empty_code) l.sat 0
+meant_by b s k l r p a V.P = p
+meant_by b s k l r p a V.Q = other_number p
+meant_by b s k l r p a V.A = a
+
+-- the same of a record as the program has it
+abbrev pub whole : Node → (left right : Block) → Whole
+whole n l r = record { node = n; left = l; right = r }
+
+abbrev pub meant : Whole → Name → ℕ
+meant w = meant_by w.node.at w.node.s w.node.k w.left w.right w.node.body.party w.node.body.action
+
+-- a record's own rows written, b being its first row and n the first after its operands' rows
+unfoldable pub record_written : (image : List ℕ) (names : Name → ℕ) → RowPlan → (b n : ℕ) → List ℕ
+record_written image names p b n = written_rows (written_rows image b (named_rows names p.before)) n (named_rows names p.after)
 
 -- what its block gives; the plan of a literal and of a deadline has its own party's blame before the other's, the block has party 1's before party 2's,
 -- and so has the plan of a duty that both parties own
-unfoldable pub record_block : (bases : List ℕ) → Plan → (kind party : ℕ) → (left right : Block) → Block
-record_block bases p kind party l r =
-    let blames_own = value_at bases p.one in
-    let blames_other = value_at bases p.two in
+unfoldable pub record_block : (names : Name → ℕ) → RowPlan → (kind party : ℕ) → (left right : Block) → Block
+record_block names p kind party l r =
     record {
       before = l.before;
-      next = l.next + p.after;
-      sat = value_at bases p.sat;
-      one = cond (eqb party (party_number party2)) blames_other blames_own;
-      two = cond (eqb party (party_number party2)) blames_own blames_other;
+      next = l.next + length p.after;
+      sat = names p.sat;
+      one = cond (eqb party (party_number party2)) (names p.two) (names p.one);
+      two = cond (eqb party (party_number party2)) (names p.one) (names p.two);
       code = completed kind l.code r.code;
     }
 
 -- what tells its operands when they read
-unfoldable pub wires_of : Plan → (b s k : ℕ) → Wires
-wires_of p b s k =
-    let bases = bases_of b s k (no_block 0 0) (no_block 0 0) 0 0 in
-    record { start = value_at bases p.start; go = value_at bases p.go; keep = value_at bases p.keep }
+unfoldable pub wires_of : RowPlan → (b s k : ℕ) → Wires
+wires_of p b s k = record { start = wire b s k p.start; go = wire b s k p.go; keep = wire b s k p.keep }
 
 -- ---- the rows of a tree
 

@@ -7,7 +7,9 @@ use mathlib.Core.Logic.{◌↔◌}
 use mathlib.Core.Path.{◌≡◌, refl, sym, ap, ◌∙◌}
 use lib.ListN.{length, take, drop}
 use Rattle.periods.specs.Limits.{actions}
-use Rattle.periods.specs.Periods.{Party, party1, party2, other, Period, tries}
+use Rattle.periods.specs.declared.Party.{Party}
+use Rattle.periods.specs.declared.Party.TheVariants.{One as party1, Two as party2}
+use Rattle.periods.specs.Periods.{other, Period, tries}
 use Rattle.periods.specs.Periods as Periods
 use Rattle.periods.proofs.Recorded.{Recorded, masked, masked_tries, masked_recorded}
 use Rattle.contract.specs.Expressions.{Atom, any, idle, succeeds, fails, holds, Expression, Holds, one, join, left, right, none, more, member, begins}

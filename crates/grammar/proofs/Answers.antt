@@ -7,12 +7,12 @@ use Prim.Native.Nat.{ℕ}
 use Rattle.contract.specs.Meaning.{Clause}
 use Rattle.records.specs.declared.Fault.{Fault}
 use Rattle.records.specs.declared.Fault.TheVariants.{BadLength, NotOneClause}
-use Rattle.records.specs.declared.Test.TheVariants.{Passed}
 use Rattle.records.proofs.Refusals.{refused_passed, among, only_for, among_append}
 use Rattle.grammar.specs.Reader.{Result, refused, taken, contract_records, read, test_of, read_test}
 use Rattle.grammar.specs.Taken.{Contract}
 use Rattle.grammar.proofs.Reader.{taken_spells, taken_count}
 use Rattle.grammar.proofs.Places.{record_faults, Refusal, at_length, at_record, at_end, refusal}
+use Rattle.records.specs.Refusals.{Passed}
 
 pub test_passed : (l : List ℕ) → read_test l ≡ Passed → Contract l (contract_records l)
 unfolding read_test

@@ -1,13 +1,13 @@
 -- The table by its numbers: each kind is the kind of its own number, and which numbers are a kind's.
-use Prim.Native.Nat.{ℕ, zero, suc, ◌-◌, ◌≤◌, ◌<◌}
+use Prim.Native.Nat.{ℕ, suc, ◌-◌, ◌≤◌, ◌<◌}
 use native.Mathlib.Omega.{arith}
 use mathlib.Core.Path.{◌≡◌, refl, sym, ap, ◌∙◌, subst}
 use mathlib.Core.Logic.{⊎_elim}
 use mathlib.Core.Bool.{Bool, true, false, ◌&&◌, not, cond, and-eq-true_iff, false≢true}
-use mathlib.Core.List.{List, [], ◌∷◌, map}
+use mathlib.Core.List.{List, [], ◌∷◌}
 use mathlib.Core.Option.{Option, none, some}
 use lib.Dec.{eqb, ltb, leb}
-use lib.ListN.{length, get_or}
+use lib.ListN.{get_or}
 use borrow.Author.Tests.{eqb-true, lt-ltb, le-leb}
 use Rattle.records.specs.Refusals.{first_failing}
 use Rattle.records.proofs.Cases.{lt_or_le}
@@ -116,14 +116,3 @@ no_kind n no-clause no-expression =
     (λ c. ⊎_elim (λ l. absurd (no-expression (c, omega arith)))
     (λ d. none_between after-expressions (suc n) n refl d (omega arith))
     (lt_or_le n after-expressions)) (lt_or_le n (line any).number)) (lt_or_le n after-clauses)) (lt_or_le n (line duty).number)
-
--- ---- tables of the kinds
-
--- what a table with an entry for each kind has at a place in it
-pub table_at : {A : Type 0} (f : Kind → A) (d : A) (i : ℕ) → i < length kinds → get_or (map f kinds) i d ≡ f (get_or kinds i duty)
-table_at f d i h = go kinds i h
-  where
-    go : (Ks : List Kind) (i : ℕ) → i < length Ks → get_or (map f Ks) i d ≡ f (get_or Ks i duty)
-    go [] i h = absurd (omega arith)
-    go (K ∷ Ks) zero h = refl
-    go (K ∷ Ks) (suc i) h = go Ks i (omega arith)

@@ -3,7 +3,7 @@
 -- that both parties own".
 use Rattle.std.specs.Prelude.{ℕ, List, [], ◌∷◌, ◌++◌, map, ◌≡◌, replicate}
 use Rattle.records.specs.Examples.{number_and_place}
-use Rattle.periods.specs.Periods.{party1, party2}
+use Rattle.periods.specs.declared.Party.TheVariants.{One as party1, Two as party2}
 use Rattle.contract.specs.Expressions.{any, tries, idle, succeeds, fails, atom, seq, or, star}
 use Rattle.contract.specs.Meaning.{Clause, deadline, both, then, repair, repeat, when, until}
 use Rattle.contract.specs.Examples.{duty, joint, ban, power}

@@ -1,13 +1,11 @@
 -- How a contract's bytes are read: record by record onto a stack of operands, to a clause or the first refusal.
 -- Document 01, "Records" and, for refusals 1 to 7, "Replies that refuse"; of windows document 02, "Duties with a deadline".
-use Rattle.std.specs.Prelude.{ℕ, zero, suc, ◌+◌, ◌*◌, ◌/◌, ◌%◌, Bool, false, ◌&&◌, not, cond, List, [], ◌∷◌, eqb, ltb, leb, length, drop, get_or}
+use Rattle.std.specs.Prelude.{ℕ, zero, suc, ◌+◌, ◌*◌, ◌/◌, ◌%◌, Bool, false, ◌&&◌, not, cond, List, [], ◌∷◌, eqb, ltb, leb, length, drop, get_or, Ok, Err}
 use Rattle.std.proofs.Math.Option.{Option, none, some}
 use Rattle.records.specs.Marks.{contract_mark, marked}
 use Rattle.records.specs.declared.Fault.{Fault}
 use Rattle.records.specs.declared.Fault.TheVariants.{BadLength, BadMark, UnknownKind, BadField, BadOperands, NotOneClause, EmptyList}
-use Rattle.records.specs.declared.Test.{Test}
-use Rattle.records.specs.declared.Test.TheVariants.{Passed, Refused}
-use Rattle.records.specs.Refusals.{require}
+use Rattle.records.specs.Refusals.{Test, Passed, Refused, require}
 use Rattle.contract.specs.Expressions.{holds_empty}
 use Rattle.contract.specs.Meaning as M
 use Rattle.contract.specs.Meaning.{Clause, literal, both, then, repair, repeat, when, until}
@@ -27,8 +25,8 @@ next (taken x) g = g x
 
 -- what is read where a test is passed
 abbrev pub provided : {A : Type 0} → Test → Result A → Result A
-provided Passed r = r
-provided (Refused f k) r = refused f k
+provided (Ok u) r = r
+provided (Err e) r = refused e.fault e.place
 
 -- refused where there is none
 abbrev pub demand : {A B : Type 0} → Option A → Fault → (place : ℕ) → (A → Result B) → Result B

@@ -2,7 +2,8 @@
 -- of windows document 02, "Duties with a deadline"; of a duty's owner document 02, "Duties that both parties own".
 use Rattle.std.specs.Prelude.{ℕ, ◌+◌, ◌≤◌, true, List, [], ◌∷◌, ◌++◌, ◌≡◌}
 use Rattle.records.specs.Marks.{contract_mark}
-use Rattle.periods.specs.Periods.{Party, party_number}
+use Rattle.periods.specs.declared.Party.{Party}
+use Rattle.periods.specs.Periods.{party_number}
 use Rattle.contract.specs.Expressions.{Atom, any, tries, idle, succeeds, fails, Expression, atom, seq, or, star}
 use Rattle.contract.specs.Meaning.{parties_number, Literal, duty, ban, power, Clause, literal, deadline, both, then, repair, repeat, when, until, EmptyFree}
 use Rattle.grammar.specs.Limits.{max_records}

@@ -4,14 +4,15 @@ use Rattle.std.specs.Prelude.{ℕ, ◌-◌, Bool, ◌&&◌, cond, List, [], ◌�
 use Rattle.std.proofs.Math.Option.{Option, none, some}
 use Rattle.periods.specs.Limits.{actions}
 use Rattle.grammar.specs.Limits.{max_window}
-
 -- what a record completes, and what an operand is
-pub data Sort : Type 0 where
-  clause expression : Sort
-
-pub data Kind : Type 0 where
-  duty ban power both then repair repeat when until deadline : Kind
-  any tries idle succeeds fails seq or star : Kind
+pub use Rattle.grammar.specs.declared.Sort.{Sort}
+pub use Rattle.grammar.specs.declared.Sort.TheVariants.{Clause as clause, Expression as expression}
+-- the kinds
+pub use Rattle.grammar.specs.declared.Kind.{Kind}
+pub use Rattle.grammar.specs.declared.Kind.TheVariants.{Duty as duty, Ban as ban, Power as power, Both as both, Then as then, Repair as repair}
+pub use Rattle.grammar.specs.declared.Kind.TheVariants.{Repeat as repeat, When as when, Until as until, Deadline as deadline, Any as any}
+pub use Rattle.grammar.specs.declared.Kind.TheVariants.{Tries as tries, Idle as idle, Succeeds as succeeds, Fails as fails, Seq as seq}
+pub use Rattle.grammar.specs.declared.Kind.TheVariants.{Or as or, Star as star}
 
 -- the numbers from the least to the greatest
 pub record Range : Type 0 where

@@ -1,6 +1,7 @@
 -- A record with its operands makes a tree: a clause or an expression. Document 01, "Records"; document 02, "Duties that both parties own".
 use Rattle.std.specs.Prelude.{ℕ, Bool, ◌&&◌, cond, List, [], ◌∷◌, eqb}
-use Rattle.periods.specs.Periods.{Party, party1, party2}
+use Rattle.periods.specs.declared.Party.{Party}
+use Rattle.periods.specs.declared.Party.TheVariants.{One as party1, Two as party2}
 use Rattle.contract.specs.Expressions as E
 use Rattle.contract.specs.Expressions.{Expression}
 use Rattle.contract.specs.Meaning as M

@@ -9,7 +9,9 @@ use mathlib.Core.Path.{◌≡◌, refl, sym, ap, ◌∙◌}
 use borrow.Author.Tests.{le-ltb, eq-eqb}
 use lib.Dec.{eqb}
 use lib.ListN.{length}
-use Rattle.periods.specs.Periods.{Party, party1, party2, Period}
+use Rattle.periods.specs.declared.Party.{Party}
+use Rattle.periods.specs.declared.Party.TheVariants.{One as party1, Two as party2}
+use Rattle.periods.specs.Periods.{Period}
 use Rattle.contract.specs.Meaning.{Parties, only, both_parties, Clause, both, unite, Decision, undecided, satisfied, violated, both_meaning, meaning, EmptyFree}
 use Rattle.contract.proofs.Meaning.{Within, decision_within, Order, left_first, right_first, together, order}
 use Rattle.image.proofs.Signals.{Signal, at, ◌≐◌, nothing, met, broken, blames, is_broken, report_of, Says, exactly, UntilDone, Remembers}

@@ -6,7 +6,9 @@ use mathlib.Core.Bool.{Bool, true, false, not, ◌&&◌, ◌||◌, cond, and-tru
 use mathlib.Core.List.{List, [], ◌∷◌}
 use mathlib.Core.Option.{Option, none, some}
 use mathlib.Core.Path.{◌≡◌, refl, sym, ◌∙◌}
-use Rattle.periods.specs.Periods.{Party, party1, party2, other, Period, tries, succeeds}
+use Rattle.periods.specs.declared.Party.{Party}
+use Rattle.periods.specs.declared.Party.TheVariants.{One as party1, Two as party2}
+use Rattle.periods.specs.Periods.{other, Period, tries, succeeds}
 use Rattle.contract.specs.Meaning.{only, duty, Clause, literal, deadline, meaning, EmptyFree}
 use Rattle.contract.proofs.Windows.{by_party, deadline_none, deadline_one, deadline_more}
 use Rattle.image.proofs.Signals.{Signal, at, ◌≐◌, at_or, Report, is_met, is_broken, literal_report, Says, exactly, HandsOver, Window, at_last, more, deadline_report}

@@ -13,8 +13,8 @@ use Rattle.layout.proofs.ImageBytes.{Writable}
 use Rattle.contract.specs.Expressions.{any, tries, idle, succeeds, fails, Expression, atom, seq, or, star}
 use Rattle.contract.specs.Meaning.{only, both_parties, duty, ban, power, Clause, literal, deadline, both, then, repair, repeat, when, until}
 use Rattle.grammar.specs.Limits.{max_records}
-use Rattle.grammar.specs.Table
-use Rattle.grammar.specs.Table.{Kind}
+use Rattle.grammar.specs.declared.Kind.TheVariants as Kinds
+use Rattle.grammar.specs.declared.Kind.{Kind}
 use Rattle.grammar.specs.Spelling.{atom_record, literal_record, deadline_record, records, ExpressionInRange, InRange}
 use Rattle.grammar.proofs.Fields.{allowed_action}
 use Rattle.grammar.proofs.WindowSum.{windows-max}
@@ -101,29 +101,29 @@ module _ (n : ℕ) where
   good_expression (atom any) i h g = g
   good_expression (atom (tries p a)) i h g =
       let j = allowed_action (atom_record (tries p a)) i in
-      before Table.tries (omega arith) g
+      before Kinds.Tries (omega arith) g
   good_expression (atom (idle p a)) i h g =
       let j = allowed_action (atom_record (idle p a)) i in
-      before Table.idle (omega arith) g
+      before Kinds.Idle (omega arith) g
   good_expression (atom (succeeds a)) i h g =
       let j = allowed_action (atom_record (succeeds a)) i in
-      before Table.succeeds (omega arith) g
+      before Kinds.Succeeds (omega arith) g
   good_expression (atom (fails a)) i h g =
       let j = allowed_action (atom_record (fails a)) i in
-      before Table.fails (omega arith) g
+      before Kinds.Fails (omega arith) g
   good_expression (seq l r) {b} {S} i h g =
-      let in_r = inside_expression r (inside Table.seq b) (join_row b) (omega arith) in
-      let in_l = inside_expression l (after_expression r (inside Table.seq b)) S (omega arith) in
+      let in_r = inside_expression r (inside Kinds.Seq b) (join_row b) (omega arith) in
+      let in_l = inside_expression l (after_expression r (inside Kinds.Seq b)) S (omega arith) in
       let whole = inside-if_empty l S b h.begins in
       let ended = inside-if_empty r _ _ in_l.end-inside in
-      before Table.seq (omega arith) (good_expression r i.1 (omega arith) (good_expression l i.0 (omega arith) (after Table.seq (omega arith) g)))
+      before Kinds.Seq (omega arith) (good_expression r i.1 (omega arith) (good_expression l i.0 (omega arith) (after Kinds.Seq (omega arith) g)))
   good_expression (or l r) {b} {S} i h g =
-      let in_r = inside_expression r (inside Table.or b) S h.begins in
-      let in_l = inside_expression l (after_expression r (inside Table.or b)) S (omega arith) in
-      good_expression r i.1 (omega arith) (good_expression l i.0 (omega arith) (after Table.or (omega arith) g))
+      let in_r = inside_expression r (inside Kinds.Or b) S h.begins in
+      let in_l = inside_expression l (after_expression r (inside Kinds.Or b)) S (omega arith) in
+      good_expression r i.1 (omega arith) (good_expression l i.0 (omega arith) (after Kinds.Or (omega arith) g))
   good_expression (star e) {b} i h g =
-      let parts = inside_expression e (inside Table.star b) (join_row b) (omega arith) in
-      before Table.star (omega arith) (good_expression e i (omega arith) (after Table.star (omega arith) g))
+      let parts = inside_expression e (inside Kinds.Star b) (join_row b) (omega arith) in
+      before Kinds.Star (omega arith) (good_expression e i (omega arith) (after Kinds.Star (omega arith) g))
 
   good_window : (m : ℕ) {g e x c : ℕ} {rest : List Row} → (g < c) × (e < c) × (x < c) → after_window m c ≤ n
       → GoodFrom n (after_window m c) rest → GoodFrom n c (window_rows m g e x c rest)
@@ -138,44 +138,44 @@ module _ (n : ℕ) where
   unfolding InRange after_clause outputs_of clause_rows
   good_clause (literal (duty (only p)) a) i h g =
       let j = allowed_action (literal_record (duty (only p)) a) i in
-      before Table.duty (omega arith) g
+      before Kinds.Duty (omega arith) g
   good_clause (literal (duty both_parties) a) i h g =
       let j = allowed_action (literal_record (duty both_parties) a) i in
-      before Table.duty (omega arith) g
+      before Kinds.Duty (omega arith) g
   good_clause (literal (ban p) a) i h g =
       let j = allowed_action (literal_record (ban p) a) i in
-      before Table.ban (omega arith) g
+      before Kinds.Ban (omega arith) g
   good_clause (literal (power p) a) i h g =
       let j = allowed_action (literal_record (power p) a) i in
-      before Table.power (omega arith) g
+      before Kinds.Power (omega arith) g
   good_clause (deadline p a d) {b} i h g =
       let j = allowed_action (deadline_record p a d) i in
-      let l = after_window_lem (d - 1) (inside Table.deadline b) in
-      let earlier = inside_window (d - 1) 1 never_row (inside Table.deadline b) (omega arith) (omega arith) in
-      let missed = inside_window (d - 1) 2 (b ⊹ 5) (inside Table.deadline b) (omega arith) (omega arith) in
-      before Table.deadline (omega arith) (good_window (d - 1) (omega arith) (omega arith) (after Table.deadline (omega arith) g))
+      let l = after_window_lem (d - 1) (inside Kinds.Deadline b) in
+      let earlier = inside_window (d - 1) 1 never_row (inside Kinds.Deadline b) (omega arith) (omega arith) in
+      let missed = inside_window (d - 1) 2 (b ⊹ 5) (inside Kinds.Deadline b) (omega arith) (omega arith) in
+      before Kinds.Deadline (omega arith) (good_window (d - 1) (omega arith) (omega arith) (after Kinds.Deadline (omega arith) g))
   good_clause (both l r) {b} i h g =
-      inside_two l r (inside Table.both b) (omega arith) (λ in_r in_l.
-      before Table.both (omega arith) (good_clause r i.1 (omega arith) (good_clause l i.0 (omega arith) (after Table.both (omega arith) g))))
+      inside_two l r (inside Kinds.Both b) (omega arith) (λ in_r in_l.
+      before Kinds.Both (omega arith) (good_clause r i.1 (omega arith) (good_clause l i.0 (omega arith) (after Kinds.Both (omega arith) g))))
   good_clause (then l r) {b} i h g =
-      inside_two l r (inside Table.then b) (omega arith) (λ in_r in_l.
-      before Table.then (omega arith) (good_clause r i.1 (omega arith) (good_clause l i.0 (omega arith) (after Table.then (omega arith) g))))
+      inside_two l r (inside Kinds.Then b) (omega arith) (λ in_r in_l.
+      before Kinds.Then (omega arith) (good_clause r i.1 (omega arith) (good_clause l i.0 (omega arith) (after Kinds.Then (omega arith) g))))
   good_clause (repair l r) {b} i h g =
-      inside_two l r (inside Table.repair b) (omega arith) (λ in_r in_l.
-      before Table.repair (omega arith) (good_clause r i.1 (omega arith) (good_clause l i.0 (omega arith) (after Table.repair (omega arith) g))))
+      inside_two l r (inside Kinds.Repair b) (omega arith) (λ in_r in_l.
+      before Kinds.Repair (omega arith) (good_clause r i.1 (omega arith) (good_clause l i.0 (omega arith) (after Kinds.Repair (omega arith) g))))
   good_clause (repeat c) {b} i h g =
-      let parts = inside_clause c (inside Table.repeat b) (omega arith) in
-      before Table.repeat (omega arith) (good_clause c i (omega arith) g)
+      let parts = inside_clause c (inside Kinds.Repeat b) (omega arith) in
+      before Kinds.Repeat (omega arith) (good_clause c i (omega arith) g)
   good_clause (when e c) {b} {S} i h g =
-      let in_r = inside_clause c (inside Table.when b) (omega arith) in
-      let in_l = inside_expression e (after_clause c (inside Table.when b)) S (omega arith) in
-      before Table.when (omega arith) (good_clause c i.1 (omega arith) (good_expression e i.0 (omega arith) (after Table.when (omega arith) g)))
+      let in_r = inside_clause c (inside Kinds.When b) (omega arith) in
+      let in_l = inside_expression e (after_clause c (inside Kinds.When b)) S (omega arith) in
+      before Kinds.When (omega arith) (good_clause c i.1 (omega arith) (good_expression e i.0 (omega arith) (after Kinds.When (omega arith) g)))
   good_clause (until c e) {b} {S} i h g =
-      let in_r = inside_expression e (inside Table.until b) (b ⊹ 5) (omega arith) in
-      let in_l = inside_clause c (after_expression e (inside Table.until b)) (omega arith) in
-      before Table.until (omega arith)
-      (good_expression e {rest = clause_rows c (after_expression e (inside Table.until b)) S (b ⊹ 2) _} i.1 (omega arith)
-      (good_clause c i.0 (omega arith) (after Table.until (omega arith) g)))
+      let in_r = inside_expression e (inside Kinds.Until b) (b ⊹ 5) (omega arith) in
+      let in_l = inside_clause c (after_expression e (inside Kinds.Until b)) (omega arith) in
+      before Kinds.Until (omega arith)
+      (good_expression e {rest = clause_rows c (after_expression e (inside Kinds.Until b)) S (b ⊹ 2) _} i.1 (omega arith)
+      (good_clause c i.0 (omega arith) (after Kinds.Until (omega arith) g)))
 
 -- ---- the image
 

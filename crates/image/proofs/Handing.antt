@@ -11,7 +11,8 @@ use borrow.Author.Tests.{lt-ltb, le-ltb}
 use lib.Dec.{eqb}
 use lib.ListN.{length, drop, length-drop, drop_of_length-le}
 use Rattle.records.proofs.Cases.{lt_or_le}
-use Rattle.periods.specs.Periods.{party1, party2, Period}
+use Rattle.periods.specs.declared.Party.TheVariants.{One as party1, Two as party2}
+use Rattle.periods.specs.Periods.{Period}
 use Rattle.contract.specs.Meaning.{Clause, then, repair, Decision, undecided, satisfied, violated, after, then_meaning, repair_meaning, meaning, EmptyFree}
 use Rattle.contract.proofs.Meaning.{decision_within, within_none}
 use Rattle.image.proofs.Signals.{Signal, at, ◌≐◌, at_or, Says, HandsOver}

@@ -6,7 +6,8 @@ use mathlib.Core.List.{List, [], ◌∷◌, ◌++◌}
 use mathlib.Core.Option.{Option, none, some}
 use mathlib.Core.Path.{◌≡◌, refl}
 use lib.ListN.{length}
-use Rattle.periods.specs.Periods.{Party, other, Period, tries}
+use Rattle.periods.specs.declared.Party.{Party}
+use Rattle.periods.specs.Periods.{other, Period, tries}
 use Rattle.contract.specs.Meaning.{Literal, literal, Decision, undecided, satisfied, violated, tested_first, meaning, EmptyFree}
 use Rattle.contract.proofs.Meaning.{Within, decision_within, within_period}
 use Rattle.image.proofs.Signals.{Signal, at, nothing, literal_report, Says, exactly}

@@ -10,8 +10,7 @@ use borrow.Author.Tests.{le-leb, lt-leb, lt-ltb, le-ltb, ltb-true, eqb-false}
 use lib.Dec.{ltb, eqb}
 use lib.ListN.{length, length-append}
 use Rattle.records.specs.declared.Fault.TheVariants.{FullCount}
-use Rattle.records.specs.declared.Test.TheVariants.{Passed}
-use Rattle.records.specs.Refusals.{require}
+use Rattle.records.specs.Refusals.{Passed, require}
 use Rattle.records.proofs.Cases.{lt_or_le, true_or_false}
 use Rattle.records.proofs.Refusals.{first_passed, require-passed, passed-not}
 use Rattle.records.specs.Replies.{unwritten, written, call, head_size}

@@ -8,7 +8,9 @@ use mathlib.Core.Path.{◌≡◌, refl, ap}
 use borrow.Author.Tests.{eqb-true, eqb-false, eq-eqb, ne_eqb}
 use lib.Dec.{eqb}
 use lib.ListN.{length}
-use Rattle.periods.specs.Periods.{Party, party1, party2, Period}
+use Rattle.periods.specs.declared.Party.{Party}
+use Rattle.periods.specs.declared.Party.TheVariants.{One as party1, Two as party2}
+use Rattle.periods.specs.Periods.{Period}
 use Rattle.contract.specs.Meaning.{Parties, only, both_parties, Clause, Decision, undecided, satisfied, violated, later, meaning}
 use Rattle.contract.specs.Verdicts.{decision_period}
 use Rattle.contract.proofs.Meaning.{Within}

@@ -4,7 +4,9 @@ use Prim.Native.Nat.{ℕ, suc, ◌-◌}
 use mathlib.Core.Bool.{Bool, true, false, not, ◌&&◌, ◌||◌, cond}
 use mathlib.Core.List.{List, [], ◌∷◌}
 use mathlib.Core.Path.{◌≡◌, refl}
-use Rattle.periods.specs.Periods.{Party, party1, party2, other, Period, tries, succeeds}
+use Rattle.periods.specs.declared.Party.{Party}
+use Rattle.periods.specs.declared.Party.TheVariants.{One as party1, Two as party2}
+use Rattle.periods.specs.Periods.{other, Period, tries, succeeds}
 use Rattle.layout.specs.Rows.{Row, never, initial, attempt, negation, conjunction, disjunction, previous}
 use Rattle.contract.specs.Expressions.{Atom, holds, Expression, atom, seq, or, star, holds_empty}
 use Rattle.contract.specs.Meaning.{Parties, only, both_parties, Literal, duty, Clause, literal, deadline, both, then, repair, repeat, when, until, Decision, undecided, satisfied, violated, literal_decision, tested_first}

@@ -7,11 +7,12 @@ use mathlib.Core.Path.{◌≡◌, refl}
 use lib.Dec.{leb}
 use lib.ListN.{length}
 use borrow.Author.Tests.{leb-true}
-use Rattle.periods.specs.Periods.{Party, party1, party2}
+use Rattle.periods.specs.declared.Party.{Party}
+use Rattle.periods.specs.declared.Party.TheVariants.{One as party1, Two as party2}
 use Rattle.layout.specs.Rows.{Row}
 use Rattle.contract.specs.Expressions.{Atom, any, tries, idle, succeeds, fails, Expression, atom, seq, or, star, holds_empty}
 use Rattle.contract.specs.Meaning.{only, both_parties, Literal, duty, ban, power, Clause, literal, deadline, both, then, repair, repeat, when, until, tested_first}
-use Rattle.grammar.specs.Table
+use Rattle.grammar.specs.declared.Kind.TheVariants as Kinds
 use Rattle.grammar.specs.Trees.{Record}
 use Rattle.grammar.specs.Spelling.{atom_record, literal_record, deadline_record, expression_records, records, windows}
 use Rattle.grammar.proofs.Table.{of_all}
@@ -150,9 +151,9 @@ inside_expression (atom (tries p a)) b S h = omega arith
 inside_expression (atom (idle p a)) b S h = omega arith
 inside_expression (atom (succeeds a)) b S h = omega arith
 inside_expression (atom (fails a)) b S h = omega arith
-inside_expression (seq l r) b S h = omega (arith, after_expression_lem l (after_expression r (inside Table.seq b)), after_expression_lem r (inside Table.seq b))
-inside_expression (or l r) b S h = omega (arith, after_expression_lem l (after_expression r (inside Table.or b)), after_expression_lem r (inside Table.or b))
-inside_expression (star e) b S h = omega (arith, inside_expression e (inside Table.star b) (join_row b) (omega arith))
+inside_expression (seq l r) b S h = omega (arith, after_expression_lem l (after_expression r (inside Kinds.Seq b)), after_expression_lem r (inside Kinds.Seq b))
+inside_expression (or l r) b S h = omega (arith, after_expression_lem l (after_expression r (inside Kinds.Or b)), after_expression_lem r (inside Kinds.Or b))
+inside_expression (star e) b S h = omega (arith, inside_expression e (inside Kinds.Star b) (join_row b) (omega arith))
 
 pub inside-if_empty : (e : Expression) (x m : ℕ) → x < m → if_empty e x < m
 inside-if_empty e x m h = each (holds_empty e)
@@ -177,15 +178,15 @@ unfolding outputs_of after_clause
 inside_clause (literal (duty o) a) b h = inside_literal (tested_first (duty o)) (omega arith) (omega arith)
 inside_clause (literal (ban p) a) b h = inside_literal p (omega arith) (omega arith)
 inside_clause (literal (power p) a) b h = inside_literal p (omega arith) (omega arith)
-inside_clause (deadline p a d) b h = let e = after_window_lem (d - 1) (inside Table.deadline b) in inside_literal p (omega arith) (omega arith)
-inside_clause (both l r) b h = omega (arith, after_clause_lem l (after_clause r (inside Table.both b)), after_clause_lem r (inside Table.both b))
-inside_clause (then l r) b h = omega (arith, inside_clause r (inside Table.then b) (omega arith), after_clause_lem l (after_clause r (inside Table.then b)))
-inside_clause (repair l r) b h = omega (arith, inside_clause r (inside Table.repair b) (omega arith), after_clause_lem l (after_clause r (inside Table.repair b)))
-inside_clause (repeat c) b h = omega (arith, inside_clause c (inside Table.repeat b) (omega arith))
-inside_clause (when e c) b h = omega (arith, inside_clause c (inside Table.when b) (omega arith), after_expression_lem e (after_clause c (inside Table.when b)))
+inside_clause (deadline p a d) b h = let e = after_window_lem (d - 1) (inside Kinds.Deadline b) in inside_literal p (omega arith) (omega arith)
+inside_clause (both l r) b h = omega (arith, after_clause_lem l (after_clause r (inside Kinds.Both b)), after_clause_lem r (inside Kinds.Both b))
+inside_clause (then l r) b h = omega (arith, inside_clause r (inside Kinds.Then b) (omega arith), after_clause_lem l (after_clause r (inside Kinds.Then b)))
+inside_clause (repair l r) b h = omega (arith, inside_clause r (inside Kinds.Repair b) (omega arith), after_clause_lem l (after_clause r (inside Kinds.Repair b)))
+inside_clause (repeat c) b h = omega (arith, inside_clause c (inside Kinds.Repeat b) (omega arith))
+inside_clause (when e c) b h = omega (arith, inside_clause c (inside Kinds.When b) (omega arith), after_expression_lem e (after_clause c (inside Kinds.When b)))
 inside_clause (until c e) b h =
-    let p = after_expression_lem e (inside Table.until b) in
-    omega (arith, inside_clause c (after_expression e (inside Table.until b)) (omega arith))
+    let p = after_expression_lem e (inside Kinds.Until b) in
+    omega (arith, inside_clause c (after_expression e (inside Kinds.Until b)) (omega arith))
 
 -- the rows of a window's last period stand before the window's end
 pub inside_window : (n k x c : ℕ) → k < period_rows → x < c → last_row n k x c < after_window n c

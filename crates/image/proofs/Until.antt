@@ -13,7 +13,8 @@ use lib.Dec.{leb}
 use lib.ListN.{length}
 use lib.Seq.{take_all, take-length}
 use Rattle.records.proofs.Cases.{lt_or_le}
-use Rattle.periods.specs.Periods.{party1, party2, Period}
+use Rattle.periods.specs.declared.Party.TheVariants.{One as party1, Two as party2}
+use Rattle.periods.specs.Periods.{Period}
 use Rattle.contract.specs.Expressions.{any, holds, Expression, atom, star, Holds, member, holds_empty}
 use Rattle.contract.specs.Readings.{ends, acceptance}
 use Rattle.contract.specs.Meaning.{Clause, until, Decision, undecided, satisfied, violated, until_meaning, meaning, EmptyFree}

@@ -12,7 +12,9 @@ use lib.Dec.{eqb}
 use lib.ListN.{length}
 use lib.Seq.{take-append_seam}
 use Rattle.records.proofs.Cases.{lt_or_le}
-use Rattle.periods.specs.Periods.{Party, party1, party2, Period}
+use Rattle.periods.specs.declared.Party.{Party}
+use Rattle.periods.specs.declared.Party.TheVariants.{One as party1, Two as party2}
+use Rattle.periods.specs.Periods.{Period}
 use Rattle.contract.specs.Expressions.{Expression, Holds}
 use Rattle.contract.specs.Readings.{Reading, pending, accepted, rejected, reading_to, reading}
 use Rattle.contract.specs.Meaning.{Clause, when, Decision, undecided, satisfied, after, when_meaning, meaning, EmptyFree}

@@ -4,7 +4,9 @@ use mathlib.Core.Bool.{Bool, true, false, not, ◌&&◌, ◌||◌, cond, and-tru
 use mathlib.Core.List.{List}
 use mathlib.Core.Path.{◌≡◌, refl, sym, ◌∙◌}
 use Rattle.periods.specs.Periods
-use Rattle.periods.specs.Periods.{Party, party1, party2, other, Period}
+use Rattle.periods.specs.declared.Party.{Party}
+use Rattle.periods.specs.declared.Party.TheVariants.{One as party1, Two as party2}
+use Rattle.periods.specs.Periods.{other, Period}
 use Rattle.layout.specs.Rows.{Row}
 use Rattle.contract.specs.Expressions.{Atom, any, tries, idle, succeeds, fails, holds, Expression, atom, seq, or, star, holds_empty}
 use Rattle.contract.specs.Meaning.{only, both_parties, Literal, duty, ban, power, Clause, literal, deadline, both, then, repair, repeat, when, until, tested_first}

@@ -5,11 +5,13 @@
 -- satisfied in this very period, or violated with party 1, with party 2 to blame; of an expression, whether a list of its set ends in this
 -- period, and whether one that has begun may still go on. (The image's own S is the row `sat` of the whole clause.)
 use Rattle.std.specs.Prelude.{ℕ, zero, suc, ◌-◌, cond, List, ◌∷◌}
-use Rattle.periods.specs.Periods.{Party, party1, party2, other}
+use Rattle.periods.specs.declared.Party.{Party}
+use Rattle.periods.specs.declared.Party.TheVariants.{One as party1, Two as party2}
+use Rattle.periods.specs.Periods.{other}
 use Rattle.layout.specs.Rows.{Row, attempt, negation, conjunction, disjunction, previous}
 use Rattle.contract.specs.Expressions.{Atom, any, tries, idle, succeeds, fails, Expression, atom, seq, or, star, holds_empty}
 use Rattle.contract.specs.Meaning.{only, both_parties, Literal, duty, ban, power, Clause, literal, deadline, both, then, repair, repeat, when, until, tested_first}
-use Rattle.grammar.specs.Table
+use Rattle.grammar.specs.declared.Kind.TheVariants as Kinds
 use Rattle.image.specs.Widths.{never_row, period_rows, ◌⊹◌, after_window, inside, after_expression, after_clause}
 
 -- ---- rows that several kinds have, from row b on; what follows them is told where the rows stand that it needs
@@ -44,16 +46,16 @@ end_row (atom (tries p a)) b S = b ⊹ 1
 end_row (atom (idle p a)) b S = b ⊹ 2
 end_row (atom (succeeds a)) b S = b ⊹ 3
 end_row (atom (fails a)) b S = b ⊹ 4
-end_row (seq l r) b S = after_expression l (after_expression r (inside Table.seq b))
-end_row (or l r) b S = after_expression l (after_expression r (inside Table.or b))
-end_row (star e) b S = end_row e (inside Table.star b) (join_row b)
+end_row (seq l r) b S = after_expression l (after_expression r (inside Kinds.Seq b))
+end_row (or l r) b S = after_expression l (after_expression r (inside Kinds.Or b))
+end_row (star e) b S = end_row e (inside Kinds.Star b) (join_row b)
 
 -- the row that tells that a list which has begun may still go on
 unfoldable pub live_row : Expression → (b : ℕ) → ℕ
 live_row (atom x) b = never_row
-live_row (seq l r) b = after_expression l (after_expression r (inside Table.seq b)) ⊹ 2
-live_row (or l r) b = after_expression l (after_expression r (inside Table.or b)) ⊹ 1
-live_row (star e) b = after_expression e (inside Table.star b)
+live_row (seq l r) b = after_expression l (after_expression r (inside Kinds.Seq b)) ⊹ 2
+live_row (or l r) b = after_expression l (after_expression r (inside Kinds.Or b)) ⊹ 1
+live_row (star e) b = after_expression e (inside Kinds.Star b)
 
 abbrev pub atom_rows : Atom → (b S : ℕ) → List Row → List Row
 atom_rows any b S rest = rest
@@ -75,7 +77,7 @@ if_empty e x = cond (holds_empty e) x never_row
 unfoldable pub expression_rows : Expression → (b S K : ℕ) → List Row → List Row
 expression_rows (atom x) b S K rest = atom_rows x b S rest
 expression_rows (seq l r) b S K rest =
-    let right = inside Table.seq b in
+    let right = inside Kinds.Seq b in
     let left = after_expression r right in
     let n = after_expression l left in
     let end_l = end_row l left S in
@@ -85,13 +87,13 @@ expression_rows (seq l r) b S K rest =
     (disjunction (end_row r right start) (if_empty r end_l)
     ∷ disjunction (live_row l left) (live_row r right) ∷ disjunction (n ⊹ 1) end_l ∷ rest))
 expression_rows (or l r) b S K rest =
-    let right = inside Table.or b in
+    let right = inside Kinds.Or b in
     let left = after_expression r right in
     expression_rows r right S K
     (expression_rows l left S K
     (disjunction (end_row l left S) (end_row r right S) ∷ disjunction (live_row l left) (live_row r right) ∷ rest))
 expression_rows (star e) b S K rest =
-    let part = inside Table.star b in
+    let part = inside Kinds.Star b in
     let end = end_row (star e) b S in
     join_on end S K b λ start.
     expression_rows e part start K
@@ -120,7 +122,7 @@ literal_outputs (power p) b = blaming p (b ⊹ 6) never_row (b ⊹ 4)
 
 -- the first row after those of a deadline's window
 abbrev pub window_end : (window b : ℕ) → ℕ
-window_end d b = after_window (d - 1) (inside Table.deadline b)
+window_end d b = after_window (d - 1) (inside Kinds.Deadline b)
 
 -- where the block of a clause that starts at row b gives them out
 unfoldable pub outputs_of : Clause → (b : ℕ) → Outputs
@@ -129,25 +131,25 @@ outputs_of (deadline p a d) b =
     let n = window_end d b in
     blaming p (n ⊹ 2) (n ⊹ 4) (n ⊹ 5)
 outputs_of (both l r) b =
-    let n = after_clause l (after_clause r (inside Table.both b)) in
+    let n = after_clause l (after_clause r (inside Kinds.Both b)) in
     outputs (n ⊹ 6) (n ⊹ 7) (n ⊹ 8)
 outputs_of (then l r) b =
-    let right = inside Table.then b in
+    let right = inside Kinds.Then b in
     let n = after_clause l (after_clause r right) in
     outputs (outputs_of r right).sat n (n ⊹ 1)
 outputs_of (repair l r) b =
-    let right = inside Table.repair b in
+    let right = inside Kinds.Repair b in
     let n = after_clause l (after_clause r right) in
     outputs (n ⊹ 1) (outputs_of r right).one (outputs_of r right).two
 outputs_of (repeat c) b =
-    let part = inside Table.repeat b in
+    let part = inside Kinds.Repeat b in
     outputs never_row (outputs_of c part).one (outputs_of c part).two
 outputs_of (when e c) b =
-    let right = inside Table.when b in
+    let right = inside Kinds.When b in
     let n = after_expression e (after_clause c right) in
     outputs (n ⊹ 6) (outputs_of c right).one (outputs_of c right).two
 outputs_of (until c e) b =
-    let left = after_expression e (inside Table.until b) in
+    let left = after_expression e (inside Kinds.Until b) in
     outputs (after_clause c left ⊹ 3) (outputs_of c left).one (outputs_of c left).two
 
 -- a duty of both parties differs from a duty of party 1 in the last row: party 2 is to blame if it doesn't try, whether or not party 1 does
@@ -183,7 +185,7 @@ abbrev pub deadline_rows : Party → (action window : ℕ) → (b S K : ℕ) →
 deadline_rows p a d b S K rest =
     let success = b ⊹ 2 in
     let failure = b ⊹ 3 in
-    let c = inside Table.deadline b in
+    let c = inside Kinds.Deadline b in
     let n = window_end d b in
     let earlier = last_row (d - 1) 1 never_row c in
     let missed = last_row (d - 1) 2 (b ⊹ 5) c in
@@ -205,7 +207,7 @@ unfoldable pub clause_rows : Clause → (b S K : ℕ) → List Row → List Row
 clause_rows (literal l a) b S K rest = literal_rows l a b S rest
 clause_rows (deadline p a d) b S K rest = deadline_rows p a d b S K rest
 clause_rows (both l r) b S K rest =
-    let right = inside Table.both b in
+    let right = inside Kinds.Both b in
     let left = after_clause r right in
     let n = after_clause l left in
     let out_l = outputs_of l left in
@@ -221,7 +223,7 @@ clause_rows (both l r) b S K rest =
     conjunction met_l met_r ∷ disjunction out_l.one out_r.one ∷ disjunction out_l.two out_r.two
     ∷ disjunction out.one out.two ∷ disjunction out.sat broken ∷ rest))
 clause_rows (then l r) b S K rest =
-    let right = inside Table.then b in
+    let right = inside Kinds.Then b in
     let left = after_clause r right in
     let out_l = outputs_of l left in
     let out_r = outputs_of r right in
@@ -229,7 +231,7 @@ clause_rows (then l r) b S K rest =
     (clause_rows l left S K
     (disjunction out_l.one out_r.one ∷ disjunction out_l.two out_r.two ∷ rest))
 clause_rows (repair l r) b S K rest =
-    let right = inside Table.repair b in
+    let right = inside Kinds.Repair b in
     let left = after_clause r right in
     let out_l = outputs_of l left in
     let out_r = outputs_of r right in
@@ -238,11 +240,11 @@ clause_rows (repair l r) b S K rest =
     (clause_rows l left S K
     (disjunction out_l.one out_l.two ∷ disjunction out_l.sat out_r.sat ∷ rest))
 clause_rows (repeat c) b S K rest =
-    let part = inside Table.repeat b in
+    let part = inside Kinds.Repeat b in
     hand_over (outputs_of c part).sat K b λ again go.
     disjunction S again ∷ clause_rows c part (b ⊹ 4) go rest
 clause_rows (when e c) b S K rest =
-    let right = inside Table.when b in
+    let right = inside Kinds.When b in
     let left = after_clause c right in
     let n = after_expression e left in
     let end = end_row e left S in
@@ -255,7 +257,7 @@ clause_rows (when e c) b S K rest =
     (previous live ∷ conjunction go n ∷ disjunction S (n ⊹ 1)
     ∷ disjunction end live ∷ negation alive ∷ conjunction reading (n ⊹ 4) ∷ disjunction (outputs_of c right).sat rejected ∷ rest))
 clause_rows (until c e) b S K rest =
-    let right = inside Table.until b in
+    let right = inside Kinds.Until b in
     let left = after_expression e right in
     let n = after_clause c left in
     let out_c = outputs_of c left in

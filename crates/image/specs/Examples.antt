@@ -4,8 +4,10 @@
 -- (document 02, "Stop reading once it is decided").
 use Rattle.std.specs.Prelude.{ℕ, ◌+◌, List, [], ◌∷◌, ◌++◌, map, ◌≡◌, length, take, drop, replicate}
 use Rattle.records.specs.Examples.{area}
-use Rattle.records.specs.Verdicts.{Verdict, «open», met, met_after, broken, broken_after}
-use Rattle.periods.specs.Periods.{party1, party2, Period}
+use Rattle.records.specs.declared.Verdict.{Verdict}
+use Rattle.records.specs.declared.Verdict.TheVariants.{Open, Met, MetAfter, Broken, BrokenAfter}
+use Rattle.periods.specs.declared.Party.TheVariants.{One as party1, Two as party2}
+use Rattle.periods.specs.Periods.{Period}
 use Rattle.periods.specs.Examples.{other_record}
 use Rattle.layout.specs.Images.{Image, row_count}
 use Rattle.layout.specs.Examples.{row, end}
@@ -41,17 +43,17 @@ lines c w = lines_from (image c) (state_of (replicate (10 + length (image c).row
 
 pub record KindVectors : Type 0 where
   -- both violated in one period: the blames are united
-  pub powers_and_duties : lines (both (power party1 a) (duty party1 b)) (a/- ∷ []) ≡ (broken, 3, 1) ∷ []
+  pub powers_and_duties : lines (both (power party1 a) (duty party1 b)) (a/- ∷ []) ≡ (Broken, 3, 1) ∷ []
   -- accepted in period 2, by the second of the two that may follow; party 1 is barred from b in period 3
   pub accepted_second :
       lines (when (seq (atom (idle party1 b)) (or (atom (tries party2 b)) (atom (succeeds a)))) (ban party1 b)) (a/- ∷ a/a ∷ b/b ∷ [])
-      ≡ («open», 0, 0) ∷ («open», 0, 0) ∷ (broken, 1, 3) ∷ []
+      ≡ (Open, 0, 0) ∷ (Open, 0, 0) ∷ (Broken, 1, 3) ∷ []
   -- a succeeds, so the expression is rejected
-  pub rejected_fails : lines (when (atom (fails a)) (duty party2 a)) (a/a ∷ []) ≡ (met, 0, 1) ∷ []
+  pub rejected_fails : lines (when (atom (fails a)) (duty party2 a)) (a/a ∷ []) ≡ (Met, 0, 1) ∷ []
   -- accepted in the first odd period in which party 1 tries a
   pub accepted_odd :
       lines (when (seq (star (seq (atom any) (atom any))) (atom (tries party1 a))) (ban party1 b)) (-/- ∷ a/- ∷ a/- ∷ b/b ∷ [])
-      ≡ («open», 0, 0) ∷ («open», 0, 0) ∷ («open», 0, 0) ∷ (broken, 1, 4) ∷ []
+      ≡ (Open, 0, 0) ∷ (Open, 0, 0) ∷ (Open, 0, 0) ∷ (Broken, 1, 4) ∷ []
 
 -- ---- what students hand in; the student's answer stands in brackets
 
@@ -59,26 +61,26 @@ pub record StudentVectors : Type 0 where
   -- party 2's later breach in the other half adds no blame (blame 3 in period 2)
   pub no_later_blame :
       lines (both (duty party1 a) (then (ban party2 b) (duty party2 b))) (-/a ∷ b/- ∷ [])
-      ≡ (broken, 1, 1) ∷ (broken_after, 1, 1) ∷ []
+      ≡ (Broken, 1, 1) ∷ (BrokenAfter, 1, 1) ∷ []
   -- the half that bars b in period 2 dies with the whole in period 1, so the repair is not begun again in period 3 (broken there, blame 1)
   pub no_living_half :
       lines (repeat (repair (both (ban party1 a) (then (ban party1 b) (ban party2 b))) (then (ban party1 a) (ban party1 b)))) (a/a ∷ b/b ∷ a/a ∷ [])
-      ≡ («open», 0, 0) ∷ («open», 0, 0) ∷ («open», 0, 0) ∷ []
+      ≡ (Open, 0, 0) ∷ (Open, 0, 0) ∷ (Open, 0, 0) ∷ []
   -- the clause that owes a in period 2 dies with the `until` that finished in period 1 (broken in 2, blame 2)
   pub no_living_clause :
       lines (repeat (then (until (then (ban party1 a) (duty party2 a)) (atom (tries party1 b))) (ban party1 b))) (b/- ∷ -/- ∷ [])
-      ≡ («open», 0, 0) ∷ («open», 0, 0) ∷ []
+      ≡ (Open, 0, 0) ∷ (Open, 0, 0) ∷ []
   -- party 1 owes b only from period 2 on (broken in 1, blame 1)
   pub right_of_then :
       lines (then (duty party1 a) (duty party1 b)) (a/a ∷ b/b ∷ [])
-      ≡ («open», 0, 0) ∷ (met, 0, 2) ∷ []
+      ≡ (Open, 0, 0) ∷ (Met, 0, 2) ∷ []
   pub right_of_repair :
       lines (repair (duty party1 a) (duty party1 b)) (-/- ∷ b/b ∷ [])
-      ≡ («open», 0, 0) ∷ (met, 0, 2) ∷ []
+      ≡ (Open, 0, 0) ∷ (Met, 0, 2) ∷ []
   -- the violation in the accepting period counts, so it is repaired from period 2 on (met in 1)
   pub violation_first :
       lines (repair (until (duty party1 a) (atom (tries party1 b))) (duty party2 a)) (b/a ∷ a/- ∷ [])
-      ≡ («open», 0, 0) ∷ (broken, 2, 2) ∷ []
+      ≡ (Open, 0, 0) ∷ (Broken, 2, 2) ∷ []
 
 -- ---- deadlines; what a wrong block would give stands in brackets
 
@@ -86,27 +88,27 @@ pub record DeadlineVectors : Type 0 where
   -- the blame goes by period 3 alone (blame 2, by the periods before; broken in 1 or 2)
   pub missed_by_own :
       lines (deadline party1 a 3) (a/- ∷ a/- ∷ -/a ∷ [])
-      ≡ («open», 0, 0) ∷ («open», 0, 0) ∷ (broken, 1, 3) ∷ []
+      ≡ (Open, 0, 0) ∷ (Open, 0, 0) ∷ (Broken, 1, 3) ∷ []
   pub missed_by_other :
       lines (deadline party2 a 3) (a/- ∷ -/- ∷ -/a ∷ [])
-      ≡ («open», 0, 0) ∷ («open», 0, 0) ∷ (broken, 1, 3) ∷ []
+      ≡ (Open, 0, 0) ∷ (Open, 0, 0) ∷ (Broken, 1, 3) ∷ []
   -- both try in no period before the last
-  pub met_in_last : lines (deadline party1 a 3) (a/- ∷ -/a ∷ a/a ∷ []) ≡ («open», 0, 0) ∷ («open», 0, 0) ∷ (met, 0, 3) ∷ []
+  pub met_in_last : lines (deadline party1 a 3) (a/- ∷ -/a ∷ a/a ∷ []) ≡ (Open, 0, 0) ∷ (Open, 0, 0) ∷ (Met, 0, 3) ∷ []
   -- the least window and the greatest
-  pub window_of_1 : lines (deadline party1 a 1) (a/- ∷ []) ≡ (broken, 2, 1) ∷ []
-  pub window_of_15 : lines (deadline party2 a 15) (replicate 15 a/-) ≡ replicate 14 («open», 0, 0) ++ ((broken, 2, 15) ∷ [])
+  pub window_of_1 : lines (deadline party1 a 1) (a/- ∷ []) ≡ (Broken, 2, 1) ∷ []
+  pub window_of_15 : lines (deadline party2 a 15) (replicate 15 a/-) ≡ replicate 14 (Open, 0, 0) ++ ((Broken, 2, 15) ∷ [])
   -- met in period 2, it is not missed in period 3, in which the other half goes on (broken there, blame 1)
   pub no_life_after_success :
       lines (both (deadline party1 a 3) (repeat (ban party1 b))) (-/- ∷ a/a ∷ -/- ∷ [])
-      ≡ («open», 0, 0) ∷ («open», 0, 0) ∷ («open», 0, 0) ∷ []
+      ≡ (Open, 0, 0) ∷ (Open, 0, 0) ∷ (Open, 0, 0) ∷ []
   -- begun in period 1, it dies with the `until` that finished there and is not missed in period 3 (broken there, blame 1)
   pub no_living_window :
       lines (repeat (until (deadline party1 a 3) (atom (tries party1 b)))) (b/- ∷ -/- ∷ -/- ∷ [])
-      ≡ («open», 0, 0) ∷ («open», 0, 0) ∷ («open», 0, 0) ∷ []
+      ≡ (Open, 0, 0) ∷ (Open, 0, 0) ∷ (Open, 0, 0) ∷ []
   -- nor is it met in period 2, so the right of `then` is not begun again in period 3 (open there)
   pub no_living_success :
       lines (then (until (deadline party1 a 2) (atom (tries party1 b))) (deadline party1 b 2)) (b/- ∷ a/a ∷ -/- ∷ [])
-      ≡ («open», 0, 0) ∷ («open», 0, 0) ∷ (broken, 1, 3) ∷ []
+      ≡ (Open, 0, 0) ∷ (Open, 0, 0) ∷ (Broken, 1, 3) ∷ []
 
 -- ---- duties that both parties own; what a wrong block would give stands in brackets
 
@@ -114,49 +116,49 @@ pub record JointVectors : Type 0 where
   -- "the blame is on each party that didn't try" (blame 1 for -/-)
   pub joint_alone :
       map (λ x. lines (joint a) (x ∷ [])) (a/a ∷ a/- ∷ -/a ∷ -/- ∷ [])
-      ≡ ((met, 0, 1) ∷ []) ∷ ((broken, 2, 1) ∷ []) ∷ ((broken, 1, 1) ∷ []) ∷ ((broken, 3, 1) ∷ []) ∷ []
+      ≡ ((Met, 0, 1) ∷ []) ∷ ((Broken, 2, 1) ∷ []) ∷ ((Broken, 1, 1) ∷ []) ∷ ((Broken, 3, 1) ∷ []) ∷ []
   -- begun anew in each period, and told once (blame 3 from period 3 on)
   pub joint_repeated :
       lines (repeat (joint a)) (a/a ∷ a/- ∷ -/a ∷ [])
-      ≡ («open», 0, 0) ∷ (broken, 2, 2) ∷ (broken_after, 2, 2) ∷ []
+      ≡ (Open, 0, 0) ∷ (Broken, 2, 2) ∷ (BrokenAfter, 2, 2) ∷ []
   -- united with the other half's blame, and repaired by a clause whose blame alone counts (blame 3 in 2)
-  pub joint_united : lines (both (power party1 b) (joint a)) (b/a ∷ []) ≡ (broken, 3, 1) ∷ []
-  pub joint_repaired : lines (repair (joint a) (duty party2 b)) (-/- ∷ -/- ∷ []) ≡ («open», 0, 0) ∷ (broken, 2, 2) ∷ []
+  pub joint_united : lines (both (power party1 b) (joint a)) (b/a ∷ []) ≡ (Broken, 3, 1) ∷ []
+  pub joint_repaired : lines (repair (joint a) (duty party2 b)) (-/- ∷ -/- ∷ []) ≡ (Open, 0, 0) ∷ (Broken, 2, 2) ∷ []
   -- it says nothing before it begins to read in period 2 (broken in 1)
-  pub joint_begun_later : lines (then (ban party1 a) (joint a)) (-/- ∷ -/- ∷ []) ≡ («open», 0, 0) ∷ (broken, 3, 2) ∷ []
+  pub joint_begun_later : lines (then (ban party1 a) (joint a)) (-/- ∷ -/- ∷ []) ≡ (Open, 0, 0) ∷ (Broken, 3, 2) ∷ []
 
 -- ---- endings; what a wrong block would give stands in brackets
 
 pub record EndingVectors : Type 0 where
   -- accepted in period 2 (open there, from period 1 alone)
-  pub notice_in_2 : lines (until (repeat (duty party1 a)) tries_b) (a/a ∷ ab/a ∷ []) ≡ («open», 0, 0) ∷ (met, 0, 2) ∷ []
+  pub notice_in_2 : lines (until (repeat (duty party1 a)) tries_b) (a/a ∷ ab/a ∷ []) ≡ (Open, 0, 0) ∷ (Met, 0, 2) ∷ []
   -- the violation in the accepting period counts, so it is repaired from period 3 on (met in 2)
   pub violated_at_acceptance :
       lines (repair (until (repeat (duty party1 a)) tries_b) (duty party2 a)) (a/a ∷ b/a ∷ a/- ∷ [])
-      ≡ («open», 0, 0) ∷ («open», 0, 0) ∷ (broken, 2, 3) ∷ []
+      ≡ (Open, 0, 0) ∷ (Open, 0, 0) ∷ (Broken, 2, 3) ∷ []
   -- of two stretches that overlap the later one completes (open in 4)
   pub later_completes :
       lines (until endless (seq tries_a (seq tries_a tries_b))) (a/- ∷ a/- ∷ a/- ∷ b/- ∷ [])
-      ≡ («open», 0, 0) ∷ («open», 0, 0) ∷ («open», 0, 0) ∷ (met, 0, 4) ∷ []
+      ≡ (Open, 0, 0) ∷ (Open, 0, 0) ∷ (Open, 0, 0) ∷ (Met, 0, 4) ∷ []
   -- the stretch from period 2 ends before that from period 1 (met in 4)
   pub ends_before_first :
       lines (until endless (or (seq tries_a (seq (atom any) (seq (atom any) tries_b))) (seq tries_b tries_b))) (a/- ∷ b/- ∷ b/- ∷ b/- ∷ [])
-      ≡ («open», 0, 0) ∷ («open», 0, 0) ∷ (met, 0, 3) ∷ (met_after, 0, 3) ∷ []
+      ≡ (Open, 0, 0) ∷ (Open, 0, 0) ∷ (Met, 0, 3) ∷ (MetAfter, 0, 3) ∷ []
   -- the stretch of periods 2 and 3 began in the last round, so b is owed in period 4 (broken there)
   pub not_of_last_round :
       lines (repeat (until (then (duty party1 a) (duty party1 b)) (seq tries_b tries_a))) (a/a ∷ b/b ∷ a/a ∷ b/b ∷ [])
-      ≡ replicate 4 («open», 0, 0)
+      ≡ replicate 4 (Open, 0, 0)
   -- begun in period 3, it counts nothing that was tried in period 2: alone (met in 2), or as the beginning of a stretch (met in 3)
   pub nothing_before_begun :
       lines (then (then (duty party1 a) (duty party1 a)) (until endless tries_b)) (a/a ∷ ab/a ∷ -/- ∷ b/- ∷ [])
-      ≡ («open», 0, 0) ∷ («open», 0, 0) ∷ («open», 0, 0) ∷ (met, 0, 4) ∷ []
+      ≡ (Open, 0, 0) ∷ (Open, 0, 0) ∷ (Open, 0, 0) ∷ (Met, 0, 4) ∷ []
   pub not_from_before_begun :
       lines (then (then (duty party1 a) (duty party1 a)) (until endless (seq tries_b tries_b))) (a/a ∷ ab/a ∷ b/- ∷ b/- ∷ [])
-      ≡ («open», 0, 0) ∷ («open», 0, 0) ∷ («open», 0, 0) ∷ (met, 0, 4) ∷ []
+      ≡ (Open, 0, 0) ∷ (Open, 0, 0) ∷ (Open, 0, 0) ∷ (Met, 0, 4) ∷ []
   -- accepted in period 1, it ends there with its expression: the stretch of periods 1 and 2 does not begin the right of `then` again (broken in 3)
   pub no_living_expression :
       lines (then (until endless (or tries_b (seq tries_b tries_a))) (then (ban party1 b) (duty party1 b))) (b/- ∷ a/- ∷ b/b ∷ [])
-      ≡ («open», 0, 0) ∷ («open», 0, 0) ∷ (met, 0, 3) ∷ []
+      ≡ (Open, 0, 0) ∷ (Open, 0, 0) ∷ (Met, 0, 3) ∷ []
 
 -- ---- the contract and the periods of "Watch", byte for byte: its image, begin, and a step call for each period
 

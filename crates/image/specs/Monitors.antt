@@ -5,10 +5,8 @@
 use Rattle.std.specs.Prelude.{ℕ, ◌+◌, ◌≤◌, ◌<◌, Bool, true, false, cond, List, [], ◌∷◌, ◌++◌, ◌≡◌, ltb, length, replicate}
 use Rattle.std.proofs.lemmas.List.Edits.{sets}
 use Rattle.records.specs.Verdicts.{verdict_number}
-use Rattle.records.specs.declared.Test.{Test}
 use Rattle.records.specs.declared.Fault.TheVariants.{FullCount}
-use Rattle.records.specs.declared.Test.TheVariants.{Passed}
-use Rattle.records.specs.Refusals.{first_of, require}
+use Rattle.records.specs.Refusals.{Test, Passed, first_of, require}
 use Rattle.records.specs.Replies.{Answer, alone, reply_of, unwritten, written, call, head_size}
 use Rattle.periods.specs.Periods.{Period}
 use Rattle.periods.specs.Traces.{marks_test, form_of, period_records, trace_periods, start_test, period_in, period_test}

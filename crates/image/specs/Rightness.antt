@@ -1,6 +1,5 @@
 -- When an image is right for a clause, and how many rows ours has.
 use Rattle.std.specs.Prelude.{ℕ, ◌+◌, ◌≤◌, List, ◌≡◌}
-use Rattle.records.specs.declared.Test.TheVariants.{Passed}
 use Rattle.periods.specs.Periods.{Period}
 use Rattle.layout.specs.Images.{row_count, image_of}
 use Rattle.layout.specs.Refusals.{image_test}
@@ -11,6 +10,7 @@ use Rattle.contract.specs.Verdicts.{outcome, decision_period, blame}
 use Rattle.grammar.specs.Reader.{contract_records, contract_windows}
 use Rattle.image.specs.Limits.{allowed_for}
 use Rattle.image.specs.Widths.{clause_size, fixed_rows, max_rows_for}
+use Rattle.records.specs.Refusals.{Passed}
 
 -- a state shows a decision: "outcome (0 undecided, 1 satisfied, 2 violated); blame; .. decision period (.. 0 for none)"
 pub record Shows (d : Decision) (s : State) : Type 0 where

@@ -6,7 +6,8 @@ use Rattle.contract.specs.Expressions as E
 use Rattle.contract.specs.Expressions.{Expression, atom}
 use Rattle.contract.specs.Meaning as M
 use Rattle.contract.specs.Meaning.{Clause, literal}
-use Rattle.grammar.specs.Table.{Kind, duty, ban, power, both, then, repair, repeat, when, until, deadline, any, tries, idle, succeeds, fails, seq, or, star}
+use Rattle.grammar.specs.declared.Kind.{Kind}
+use Rattle.grammar.specs.declared.Kind.TheVariants.{Duty as duty, Ban as ban, Power as power, Both as both, Then as then, Repair as repair, Repeat as repeat, When as when, Until as until, Deadline as deadline, Any as any, Tries as tries, Idle as idle, Succeeds as succeeds, Fails as fails, Seq as seq, Or as or, Star as star}
 use Rattle.grammar.specs.Trees.{Record}
 use Rattle.grammar.specs.Spelling.{plain_record, atom_record, literal_record, deadline_record}
 

@@ -9,11 +9,10 @@ use borrow.Author.Tests.{lt-leb, ne_eqb}
 use lib.Dec.{eqb}
 use lib.ListN.{length, replicate}
 use Rattle.records.specs.declared.Fault.TheVariants.{BadLog}
-use Rattle.records.specs.declared.Test.TheVariants.{Passed, Refused}
 use Rattle.records.proofs.Cases.{lt_or_le}
 use Rattle.records.specs.Fields.{bytes, value, field}
 use Rattle.records.specs.Marks.{marked}
-use Rattle.records.specs.Refusals.{first_failing}
+use Rattle.records.specs.Refusals.{Passed, Refused, first_failing}
 use Rattle.records.specs.Replies.{fields_bytes, call}
 use Rattle.periods.specs.Making.{record_of, records_of}
 use Rattle.joiner.specs.Limits.{max_log_records, log1_place, log2_place}

@@ -11,7 +11,6 @@ use lib.ListN.{length, drop}
 use lib.Seq.{sets}
 use Rattle.records.specs.Fields.{bytes}
 use Rattle.records.specs.Holding.{AllBytes}
-use Rattle.records.specs.declared.Test.TheVariants.{Passed}
 use Rattle.records.specs.Replies.{alone, head_of, head_size, After, call}
 use Rattle.records.proofs.Cases.{lt_or_le}
 use Rattle.records.proofs.Fields.{field_lt}
@@ -31,6 +30,7 @@ use Rattle.joiner.specs.Calls.{join}
 use Rattle.joiner.specs.Joining.{written_trace, Handed, exchanged, Exchanges}
 use Rattle.joiner.proofs.Refusals.{exchanged_logs, has_room}
 use Rattle.joiner.proofs.Writing.{length-joined_to}
+use Rattle.records.specs.Refusals.{Passed}
 
 -- ---- the joined periods
 

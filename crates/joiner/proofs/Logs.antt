@@ -2,31 +2,21 @@
 -- parties' logs".
 use Prim.Native.Nat.{ℕ, zero, suc, ◌-◌, ◌<◌, ◌≤◌}
 use native.Mathlib.Omega.{arith}
-use mathlib.Core.Bool.{true, not}
+use mathlib.Core.Bool.{not, ◌||◌}
 use mathlib.Core.List.{List}
 use mathlib.Core.Logic.{⊎_elim}
 use mathlib.Core.Path.{◌≡◌, refl}
 use borrow.Author.Tests.{lt-ltb, le-ltb, eq-eqb, ne_eqb}
 use lib.Dec.{eqb, ltb}
-use lib.ListN.{length}
 use Rattle.records.proofs.Cases.{lt_or_le}
 use Rattle.records.proofs.Searches.{all_pass, failing_is}
 use Rattle.joiner.specs.Logs.{log_records, number_at, attempts_at, rises, record_with, has_period, attempts_in, last_number}
 
--- no more records than bytes
-pub few_records : (log : List ℕ) → log_records log ≤ length log
-unfolding log_records
-few_records log = omega arith
-
 -- the first record has none before it
-pub rises_first : (log : List ℕ) (k : ℕ) → k ≡ 0 → rises log k ≡ true
+pub rises_is : (log : List ℕ) (k : ℕ) → rises log k ≡ (eqb k 0 || ltb (number_at log (k - 1)) (number_at log k))
 unfolding rises
-rises_first log k e = rw e
-
-pub rises-later : (log : List ℕ) (k : ℕ) → ¬ (k ≡ 0) → rises log k ≡ ltb (number_at log (k - 1)) (number_at log k)
-unfolding rises
-rises-later log zero h = absurd (h refl)
-rises-later log (suc k) h = let e : suc k - 1 ≡ k = omega arith in rw e
+rises_is log zero = refl
+rises_is log (suc k) = let e : suc k - 1 ≡ k = omega arith in rw (e, ne_eqb (suc k) 0 (λ h. omega arith))
 
 -- what 14 and 15 show of the numbers of a log that passes them
 pub record RisingLog (log : List ℕ) : Type 0 where

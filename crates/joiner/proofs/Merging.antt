@@ -19,7 +19,7 @@ pub record StandsAt (log : List ℕ) (p k : ℕ) : Type 0 where
   pub ahead : k < log_records log → p < number_at log k
 
 -- a record of a period is there
-pub is_of_inside : (log : List ℕ) (k p : ℕ) → is_of log k p ≡ true → (k < log_records log) × (number_at log k ≡ p)
+is_of_inside : (log : List ℕ) (k p : ℕ) → is_of log k p ≡ true → (k < log_records log) × (number_at log k ≡ p)
 unfolding is_of
 is_of_inside log k p e =
     let t = (and-eq-true_iff (ltb k (log_records log)) _).0 e in

@@ -10,8 +10,7 @@ use lib.ListN.{length}
 use Rattle.records.specs.Marks.{log_mark, marked}
 use Rattle.records.specs.declared.Fault.{Fault}
 use Rattle.records.specs.declared.Fault.TheVariants.{BadLog, OutOfOrder, ShortTrace}
-use Rattle.records.specs.declared.Test.TheVariants.{Passed}
-use Rattle.records.specs.Refusals.{first_failing}
+use Rattle.records.specs.Refusals.{Passed, first_failing}
 use Rattle.records.proofs.Searches.{all_passed}
 use Rattle.records.proofs.Refusals.{first_passed, passed_first, require-passed, among, only_for, only_require, only_first}
 use Rattle.periods.specs.declared.Form.TheVariants.{Wide}

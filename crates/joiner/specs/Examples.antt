@@ -1,7 +1,6 @@
 -- Vectors of join. What is expected stands in numbers and bytes, from document 02's text, "Join the two parties' logs".
 use Rattle.std.specs.Prelude.{ℕ, ◌*◌, ◌<◌, List, [], ◌∷◌, ◌++◌, map, ◌≡◌, length, replicate, take}
 use Rattle.records.specs.declared.Fault.TheVariants.{BadLog}
-use Rattle.records.specs.declared.Test.TheVariants.{Passed, Refused}
 use Rattle.records.specs.Replies.{After}
 use Rattle.records.specs.Examples.{number_and_place, area, head, leaves}
 use Rattle.periods.specs.Examples.{wide_record}
@@ -9,6 +8,7 @@ use Rattle.joiner.specs.Logs.{log_records, number_at, attempts_at, attempts_in, 
 use Rattle.joiner.specs.Joined.{joined}
 use Rattle.joiner.specs.Refusals.{length_test, log_test, order_test, join_test}
 use Rattle.joiner.specs.Calls.{join}
+use Rattle.records.specs.Refusals.{Passed, Refused}
 
 -- a log record, of numbers below 256: "`54 4C`, a two-byte period number from 1, four bytes of attempts"
 abbrev pub log_record : (number attempts : ℕ) → List ℕ

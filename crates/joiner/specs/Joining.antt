@@ -1,6 +1,5 @@
 -- What holds of join's traces. Document 02, "Join the two parties' logs".
 use Rattle.std.specs.Prelude.{ℕ, suc, ◌*◌, ◌<◌, ◌≤◌, List, ◌++◌, ◌⊎◌, ◌≡◌, length, take, drop}
-use Rattle.records.specs.declared.Test.TheVariants.{Passed}
 use Rattle.records.specs.Replies.{head_of, head_size}
 use Rattle.periods.specs.declared.Form.TheVariants.{Wide}
 use Rattle.periods.specs.Forms.{period_bytes}
@@ -8,6 +7,7 @@ use Rattle.periods.specs.Traces.{record_at, first_records, period_records, trace
 use Rattle.joiner.specs.Joined.{joined_period, joined_count, joined}
 use Rattle.joiner.specs.Refusals.{join_test}
 use Rattle.joiner.specs.Calls.{join}
+use Rattle.records.specs.Refusals.{Passed}
 
 -- the trace that join leaves in its buffer
 abbrev pub written_trace : (log1 log2 trace reply : List ℕ) → List ℕ

@@ -4,8 +4,7 @@
 use Rattle.std.specs.Prelude.{ℕ, ◌+◌, ◌*◌, ◌%◌, Bool, ◌&&◌, List, eqb, leb, length}
 use Rattle.records.specs.declared.Fault.{Fault}
 use Rattle.records.specs.declared.Fault.TheVariants.{BadLog, OutOfOrder, ShortTrace}
-use Rattle.records.specs.declared.Test.{Test}
-use Rattle.records.specs.Refusals.{require, first_of, first_failing}
+use Rattle.records.specs.Refusals.{Test, require, first_of, first_failing}
 use Rattle.periods.specs.declared.Form.TheVariants.{Wide}
 use Rattle.periods.specs.Forms.{period_bytes}
 use Rattle.joiner.specs.Limits.{log_record_bytes, max_log_records, log1_place, log2_place}

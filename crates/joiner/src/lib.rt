@@ -1,21 +1,24 @@
 // Join: makes one trace of the two parties' logs. Document 02, "Join the two parties' logs".
 #![tactic(auto)]
 
-ghost use Rattle.std.specs.Prelude.{◌≡◌, ◌+◌, ◌*◌, ◌^◌, ◌<◌, ◌≤◌, length};
+ghost use Rattle.std.specs.Prelude.{◌≡◌, ℕ, Bool, ◌+◌, ◌*◌, ◌^◌, ◌<◌, ◌≤◌, length};
 ghost use Rattle.std.proofs.lemmas.List.Edits.{sets};
-ghost use Rattle.records.specs.declared.Test.TheVariants.{Passed};
 ghost use Rattle.records.specs.Fields.{bytes};
-ghost use Rattle.records.specs.Refusals.{first_failing};
+ghost use Rattle.records.specs.Refusals.{Passed, first_failing};
 ghost use Rattle.records.specs.Replies.{Gives};
-ghost use Rattle.joiner.specs.Limits.{log_record_bytes, log2_place};
+ghost use Rattle.periods.specs.declared.Form.TheVariants.{Wide};
+ghost use Rattle.periods.specs.Forms.{period_bytes};
+ghost use Rattle.periods.specs.Computing.{period_of};
+ghost use Rattle.periods.specs.Making.{record_of};
+ghost use Rattle.joiner.specs.Limits.{log2_place};
 ghost use Rattle.joiner.specs.Logs.{log_records, number_at, attempts_at, good_record, rises, last_number};
 ghost use Rattle.joiner.specs.Joined.{joined_count, joined_trace};
-ghost use Rattle.joiner.specs.Refusals.{length_test, log_test, order_test, logs_test, join_test};
-ghost use Rattle.joiner.specs.Merging.{is_of, attempts_next, record_next};
+ghost use Rattle.joiner.specs.Refusals.{length_test, records_test, log_test, order_test, logs_test, join_test};
+ghost use Rattle.joiner.specs.Merging.{attempts_next, record_next};
 ghost use Rattle.joiner.specs.Calls.{join};
 
-use periods::Form;
-use records::{Fault, Test};
+use periods::{Attempts, Form};
+use records::{Fault, Field, Refusal, Test};
 
 // Join's reply: number (4 bytes), records (4), place (8).
 pub const JOIN_REPLY_BYTES: usize = records::REPLY_HEAD;
@@ -30,223 +33,209 @@ const LOG_1_PLACE: usize = 0;
 
 const LOG_2_PLACE: usize = 65536;
 
-// ---- a log's records
+// ---- a log's records, each function given the log's bytes: a struct around them would only lengthen the clauses
 
 // How many there are.
+#[tactic(auto, unfolding(crate::specs::Logs::log_records))]
 fn log_records(log: &[u8]) -> usize
     ensures { result ≡ log_records log.now }
 {
     log.len() / LOG_RECORD_BYTES
 }
 
-// Where record k starts.
-fn record_start(log: &[u8], k: usize) -> usize
-    requires { k < log_records log.now }
-    ensures { (result ≡ log_record_bytes * k) × (result + log_record_bytes ≤ length log.now) }
-{
-    LOG_RECORD_BYTES * k
+// What a log record says beside its mark.
+#[derive(Clone, Copy)]
+struct LogRecord {
+    period: u16,
+    attempts: u32,
 }
 
-// The period number of record k.
-fn number_at(log: &[u8], k: usize) -> u32
+// Record k.
+#[tactic(auto, unfolding(crate::specs::Logs::log_records, crate::specs::Logs::number_at, crate::specs::Logs::attempts_at))]
+fn record_at(log: &[u8], k: usize) -> LogRecord
     requires { k < log_records log.now }
-    ensures { (result ≡ number_at log.now k) × (result < 256 ^ 2) }
+    ensures period { result.period ≡ number_at log.now k }
+    ensures attempts { result.attempts ≡ attempts_at log.now k }
 {
-    records::get2(log, record_start(log, k) + 2)
-}
-
-// Its attempts.
-fn attempts_at(log: &[u8], k: usize) -> u32
-    requires { k < log_records log.now }
-    ensures { result ≡ attempts_at log.now k }
-{
-    records::get4(log, record_start(log, k) + 4)
+    let at = LOG_RECORD_BYTES * k;
+    LogRecord {
+        period: u16::get(log, at + 2),
+        attempts: u32::get(log, at + 4),
+    }
 }
 
 // Whether record k has the mark, and a number from 1.
+#[tactic(auto, unfolding(crate::specs::Logs::log_records, crate::specs::Logs::good_record))]
 fn good_record(log: &[u8], k: usize) -> bool
     requires { k < log_records log.now }
     ensures { result ≡ good_record log.now k }
 {
-    records::marked(log, record_start(log, k), records::LOG_MARK) && number_at(log, k) != 0
+    records::marked(log, LOG_RECORD_BYTES * k, records::LOG_MARK) && record_at(log, k).period != 0
 }
 
 // Whether its number is above that of the record before it.
+#[tactic(auto, using(crate::proofs::Logs::rises_is))]
 fn rises(log: &[u8], k: usize) -> bool
     requires { k < log_records log.now }
     ensures { result ≡ rises log.now k }
 {
-    if k == 0 {
-        return true;
-    }
-    number_at(log, k - 1) < number_at(log, k)
+    k == 0 || record_at(log, k - 1).period < record_at(log, k).period
 }
 
 // The last number, 0 where there is no record.
-fn last_number(log: &[u8]) -> u32
-    ensures { (result ≡ last_number log.now) × (result < 256 ^ 2) }
+#[tactic(auto, unfolding(crate::specs::Logs::last_number))]
+fn last_number(log: &[u8]) -> u16
+    ensures { result ≡ last_number log.now }
 {
-    let n = log_records(log);
-    if n == 0 {
-        return 0;
+    match log_records(log) {
+        0 => 0,
+        n => record_at(log, n - 1).period,
     }
-    number_at(log, n - 1)
 }
 
 // How many records the trace has: the greater of the two last numbers.
-fn joined_count(log1: &[u8], log2: &[u8]) -> u32
-    ensures { (result ≡ joined_count log1.now log2.now) × (result < 256 ^ 2) }
+#[tactic(auto, unfolding(crate::specs::Joined::joined_count))]
+fn joined_count(log1: &[u8], log2: &[u8]) -> u16
+    ensures { result ≡ joined_count log1.now log2.now }
 {
-    let one = last_number(log1);
-    let two = last_number(log2);
-    if one < two { two } else { one }
+    last_number(log1).max(last_number(log2))
 }
 
 // ---- the tests
 
-// The first record without the mark or with number 0; as many as there are where each is good.
-fn first_bad(log: &[u8]) -> usize
-    ensures { result ≡ first_failing (good_record log.now) 0 (log_records log.now) }
-{
-    let n = log_records(log);
-    let mut k = 0;
-    while k < n && good_record(log, k) {
-        k += 1;
-    }
-    k
-}
-
-// The first record whose number is not above the one before it; as many as there are where each is.
-fn first_out_of_order(log: &[u8]) -> usize
-    ensures { result ≡ first_failing (rises log.now) 0 (log_records log.now) }
-{
-    let n = log_records(log);
-    let mut k = 0;
-    while k < n && rises(log, k) {
-        k += 1;
-    }
-    k
-}
-
 // 14 of a log's length.
+#[tactic(auto, unfolding(crate::specs::Refusals::length_test))]
 fn length_test(log: &[u8]) -> Test
     ensures { result ≡ length_test log.now }
 {
-    if log.len() % LOG_RECORD_BYTES != 0 {
-        return Test::Refused(Fault::BadLog, 0);
+    let whole = log.len() % LOG_RECORD_BYTES == 0;
+    let few = log_records(log) <= MAX_LOG_RECORDS;
+    records::require(whole && few, Fault::BadLog, 0)
+}
+
+// A log's records in their order: the first that fails is refused for this fault. The place of record 0 is `first`.
+#[tactic(auto, using(records::proofs::Searches::failing_max), unfolding(crate::specs::Logs::log_records, crate::specs::Refusals::records_test))]
+fn records_test<F: Fn(usize) -> bool>(log: &[u8], first: usize, fault: Fault, passes: F) -> Test
+    requires place { first ≤ log2_place }
+    requires called { (k : ℕ) → k < log_records log.now → F.pre passes k }
+    ensures { (ok : ℕ → Bool) → ((k : ℕ) (b : Bool) → k < log_records log.now → F.post passes k b → b ≡ ok k)
+        → result ≡ records_test ok fault log.now first }
+{
+    let n = log_records(log);
+    let bad = records::first_failing(n, passes);
+    if bad < n {
+        Err(Refusal {
+            fault,
+            place: first + bad,
+        })
+    } else {
+        Ok(())
     }
-    if log_records(log) > MAX_LOG_RECORDS {
-        return Test::Refused(Fault::BadLog, 0);
-    }
-    Test::Passed
 }
 
 // 14 of a log, whose first record has place `first`: its length, then its records.
+#[tactic(auto, unfolding(crate::specs::Refusals::log_test))]
 fn log_test(log: &[u8], first: usize) -> Test
     requires { first ≤ log2_place }
     ensures { result ≡ log_test log.now first }
 {
-    let t = length_test(log);
-    let Test::Passed = t else {
-        return t;
-    };
-    let bad = first_bad(log);
-    if bad != log_records(log) {
-        return Test::Refused(Fault::BadLog, first + bad);
-    }
-    Test::Passed
+    length_test(log)?;
+    records_test(log, first, Fault::BadLog, |k| good_record(log, k))
 }
 
 // 15 of a log.
+#[tactic(auto, unfolding(crate::specs::Refusals::order_test))]
 fn order_test(log: &[u8], first: usize) -> Test
     requires { first ≤ log2_place }
     ensures { result ≡ order_test log.now first }
 {
-    let bad = first_out_of_order(log);
-    if bad != log_records(log) {
-        return Test::Refused(Fault::OutOfOrder, first + bad);
-    }
-    Test::Passed
+    records_test(log, first, Fault::OutOfOrder, |k| rises(log, k))
 }
 
 // 14 of both logs, then 15 of both.
+#[tactic(auto, unfolding(crate::specs::Refusals::logs_test))]
 fn logs_test(log1: &[u8], log2: &[u8]) -> Test
     ensures { result ≡ logs_test log1.now log2.now }
 {
-    let t = log_test(log1, LOG_1_PLACE);
-    let Test::Passed = t else {
-        return t;
-    };
-    let u = log_test(log2, LOG_2_PLACE);
-    let Test::Passed = u else {
-        return u;
-    };
-    let v = order_test(log1, LOG_1_PLACE);
-    let Test::Passed = v else {
-        return v;
-    };
+    log_test(log1, LOG_1_PLACE)?;
+    log_test(log2, LOG_2_PLACE)?;
+    order_test(log1, LOG_1_PLACE)?;
     order_test(log2, LOG_2_PLACE)
 }
 
 // Then 16.
+#[tactic(auto, unfolding(crate::specs::Refusals::join_test))]
 fn join_test(log1: &[u8], log2: &[u8], trace: &[u8]) -> Test
     ensures { result ≡ join_test log1.now log2.now trace.now }
 {
-    let t = logs_test(log1, log2);
-    let Test::Passed = t else {
-        return t;
-    };
-    if trace.len() < periods::period_bytes(Form::Wide) * joined_count(log1, log2) as usize {
-        return Test::Refused(Fault::ShortTrace, 0);
-    }
-    Test::Passed
+    logs_test(log1, log2)?;
+    let needed = periods::period_bytes(Form::Wide) * usize::from(joined_count(log1, log2));
+    records::require(needed <= trace.len(), Fault::ShortTrace, 0)
 }
 
 // ---- the trace
 
-// Whether record k is there, and of this period.
-fn is_of(log: &[u8], k: usize, period: u32) -> bool
-    ensures { result ≡ is_of log.now k period }
-{
-    k < log_records(log) && number_at(log, k) == period
+// A log, and the record at which the merge stands in it.
+#[derive(Drop)]
+struct Cursor<'a> {
+    log: &'a [u8],
+    at: usize,
 }
 
-// Writes what a log's party tries in this period, from byte `at` on, where the log stands at record k: no attempts, if that record
-// is of a later period or there is none. Gives the record at which the log stands then.
-fn put_attempts(log: &[u8], k: usize, period: u32, trace: &mut [u8], at: usize) -> usize
-    requires { at + 4 ≤ length trace.old }
-    ensures written { trace.new ≡ sets trace.old at (bytes 4 (attempts_next log.now k period)) }
-    ensures next { result ≡ record_next log.now k period }
-{
-    if is_of(log, k, period) {
-        records::put4(trace, at, attempts_at(log, k));
-        return k + 1;
+impl Cursor<'_> {
+    // What the log's party tries in this period: nothing, if the record at which the log stands is of a later period or there is none.
+    // Then stands past a record of this period.
+    #[tactic(auto, unfolding(crate::specs::Merging::is_of, crate::specs::Merging::attempts_next, crate::specs::Merging::record_next))]
+    fn attempts_in(&mut self, period: u16) -> u32
+        ensures log { self.new.log.now ≡ self.old.log.now }
+        ensures attempts { result ≡ attempts_next self.old.log.now self.old.at period }
+        ensures next { self.new.at ≡ record_next self.old.log.now self.old.at period }
+    {
+        if self.at < log_records(self.log) {
+            let record = record_at(self.log, self.at);
+            if record.period == period {
+                self.at += 1;
+                return record.attempts;
+            }
+        }
+        0
     }
-    records::put4(trace, at, 0);
-    k
 }
 
-// Writes the trace, period by period, from the records i of log 1 and j of log 2 at which the logs stand, and gives its record count.
-fn put_trace(log1: &[u8], log2: &[u8], trace: &mut [u8]) -> u32
+// Writes record k of the trace, that of period k + 1.
+#[tactic(auto, using(crate::proofs::Writing::record_written))]
+fn put_period(trace: &mut [u8], k: usize, attempts: Attempts)
+    requires { period_bytes Wide * k + period_bytes Wide ≤ length trace.old }
+    ensures { trace.new ≡ sets trace.old (period_bytes Wide * k) (record_of Wide (period_of attempts)) }
+{
+    let at = periods::period_bytes(Form::Wide) * k;
+    records::put_mark(trace, at, records::WIDE_MARK);
+    attempts.one.put(trace, at + 2);
+    attempts.two.put(trace, at + 6);
+}
+
+// Writes the trace, period by period, and gives its record count.
+#[tactic(auto, using(crate::proofs::Refusals::has_room))]
+fn put_trace(log1: &[u8], log2: &[u8], trace: &mut [u8]) -> u16
     requires { join_test log1.now log2.now trace.old ≡ Passed }
     ensures written { trace.new ≡ sets trace.old 0 (joined_trace log1.now log2.now) }
     ensures count { result ≡ joined_count log1.now log2.now }
 {
     let n = joined_count(log1, log2);
-    let mut p = 0;
-    let mut i = 0;
-    let mut j = 0;
-    while p < n {
-        let at = periods::period_bytes(Form::Wide) * p as usize;
-        records::put_mark(trace, at, records::WIDE_MARK);
-        i = put_attempts(log1, i, p + 1, trace, at + 2);
-        j = put_attempts(log2, j, p + 1, trace, at + 6);
-        p += 1;
+    let mut one = Cursor { log: log1, at: 0 };
+    let mut two = Cursor { log: log2, at: 0 };
+    for k in 0..n {
+        let attempts = Attempts {
+            one: one.attempts_in(k + 1),
+            two: two.attempts_in(k + 1),
+        };
+        put_period(trace, usize::from(k), attempts);
     }
     n
 }
 
 // Joins two logs to a trace in the buffer's first bytes. The result is 1, or 0 where the reply area is too short.
+#[tactic(auto, unfolding(crate::specs::Calls::join, records::specs::Replies::call))]
 pub fn monitor_join(log1: &[u8], log2: &[u8], trace: &mut [u8], reply: &mut [u8]) -> u32
     ensures { Gives (join log1.now log2.now trace.old reply.old) result trace.new reply.new }
 {
@@ -254,11 +243,10 @@ pub fn monitor_join(log1: &[u8], log2: &[u8], trace: &mut [u8], reply: &mut [u8]
         return 0;
     }
     let t = join_test(log1, log2, trace);
-    let Test::Passed = t else {
-        records::put_head(reply, t, 0);
-        return 1;
+    let count = match t {
+        Ok(()) => put_trace(log1, log2, trace),
+        Err(_) => 0,
     };
-    let count = put_trace(log1, log2, trace);
-    records::put_head(reply, t, count);
+    records::put_head(reply, t, u32::from(count));
     1
 }

@@ -11,7 +11,6 @@ use lib.Seq.{length-take-le, drop_at, ext_get_or}
 use borrow.Author.Tests.{lt-ltb}
 use Rattle.records.specs.Fields.{bytes, field}
 use Rattle.records.specs.Marks.{end_mark, marked}
-use Rattle.records.specs.declared.Test.TheVariants.{Passed}
 use Rattle.records.proofs.Fields.{value_bytes_lt, field-drop}
 use Rattle.records.proofs.Marks.{marked-drop}
 use Rattle.layout.specs.Limits.{row_bytes, max_rows}
@@ -20,6 +19,7 @@ use Rattle.layout.specs.Images.{Image, rows_bytes, end_bytes, image_bytes, row_c
 use Rattle.layout.specs.Refusals.{image_test}
 use Rattle.layout.proofs.Rows.{length-encode, decode-encode}
 use Rattle.layout.proofs.Images.{GoodImage, row_count_of, good_passed, length-rows_of, get_or-rows_of}
+use Rattle.records.specs.Refusals.{Passed}
 
 -- ---- an image's bytes
 

@@ -1,47 +1,38 @@
 -- Bytes that are an image: what refusal 9 tests, and the rows and the end record that such bytes hold. Document 01, "Image and row machine".
 use Prim.Native.Nat.{ℕ, zero, suc, ◌+◌, ◌-◌, ◌*◌, ◌%◌, ◌≤◌, ◌<◌}
+use native.Mathlib.Nat.{add_assoc}
 use native.Mathlib.Numerals.{add-one}
 use native.Mathlib.Omega.{arith}
 use mathlib.Core.Path.{◌≡◌, refl, ◌∙◌}
-use mathlib.Core.Bool.{true, false, ◌&&◌, and-false, and-eq-true_iff, false≢true}
+use mathlib.Core.Bool.{true, ◌&&◌, and-eq-true_iff, false≢true}
 use mathlib.Core.Logic.{⊎_elim}
 use mathlib.Core.Option
 use mathlib.Core.Option.{Option, none, some}
 use mathlib.Core.List.{List, [], ◌∷◌}
 use lib.Dec.{eqb}
 use lib.ListN.{length, get_or, length-append, get_or-append}
-use lib.Seq.{get_or_at}
-use borrow.Author.Tests.{eq-eqb, ne_eqb, le-leb, lt-leb, eqb-true, leb-true, ltb-true}
-use Rattle.records.specs.Fields.{field}
-use Rattle.records.specs.Marks.{row_mark, marked}
+use lib.Seq.{get_or_at, sets}
+use borrow.Author.Tests.{eq-eqb, le-leb, eqb-true, leb-true, ltb-true}
+use Rattle.records.specs.Fields.{bytes, field}
+use Rattle.records.specs.Marks.{row_mark, end_mark, marked}
 use Rattle.records.specs.declared.Fault.{Fault}
 use Rattle.records.specs.declared.Fault.TheVariants.{BadImage}
-use Rattle.records.specs.declared.Test.TheVariants.{Passed}
-use Rattle.records.specs.Refusals.{require, first_of, first_failing}
+use Rattle.records.specs.Refusals.{Passed, require, first_of, first_failing}
 use Rattle.records.proofs.Cases.{lt_or_le}
+use Rattle.records.proofs.Fields.{length-bytes}
+use Rattle.records.proofs.Written.{sets-append}
 use Rattle.records.proofs.Searches.{all_pass, all_passed}
 use Rattle.records.proofs.Refusals.{first_passed, require-passed, only_for, only_require, only_first}
 use Rattle.layout.specs.Limits.{row_bytes, max_rows}
-use Rattle.layout.specs.Rows.{Row, never, row_of, decode, names_rows, good_row}
-use Rattle.layout.specs.Images.{row_count, rows_of, image_of, good_image_length, good_row_at, good_end}
+use Rattle.layout.specs.Rows.{Row, never, row_in, decode, names_rows, good_row}
+use Rattle.layout.specs.Fields.{end_in}
+use Rattle.layout.specs.Images.{end_record, row_count, rows_of, image_of, good_image_length, good_row_at, good_end}
 use Rattle.layout.specs.Refusals.{image_test}
 use Rattle.layout.proofs.Rows.{cond_some, names_any}
 
 -- ---- the length
 
 module _ (l : List ℕ) where
-  pub uneven : (length l % row_bytes ≡ 0 → ⊥) → good_image_length l ≡ false
-  unfolding good_image_length
-  uneven h = rw (ne_eqb (length l % row_bytes) 0 h)
-
-  pub too_short : length l < row_bytes * 2 → good_image_length l ≡ false
-  unfolding good_image_length
-  too_short h = rw (lt-leb (row_bytes * 2) (length l) h, and-false)
-
-  pub too_long : row_bytes * (max_rows + 1) < length l → good_image_length l ≡ false
-  unfolding good_image_length
-  too_long h = rw (lt-leb (length l) (row_bytes * (max_rows + 1)) h, and-false)
-
   pub right_length : length l % row_bytes ≡ 0 → row_bytes * 2 ≤ length l → length l ≤ row_bytes * (max_rows + 1) → good_image_length l ≡ true
   unfolding good_image_length
   right_length e h i = rw (eq-eqb (length l % row_bytes) 0 e, le-leb (row_bytes * 2) (length l) h, le-leb (length l) (row_bytes * (max_rows + 1)) i)
@@ -159,16 +150,13 @@ module _ (l : List ℕ) (h : image_test l ≡ Passed) (k : ℕ) (i : k < row_cou
   row_fits = let g = passed_good l h in omega arith
 
   -- what the bytes of row k hold
-  pub row_held : row_of (get_or l (row_bytes * k + 2) 0) (field l (row_bytes * k + 4) 2) (field l (row_bytes * k + 6) 2)
-      ≡ some (get_or (image_of l).rows k never)
+  pub row_held : row_in l (row_bytes * k) ≡ some (get_or (image_of l).rows k never)
   unfolding decode
   row_held =
       let at = row_bytes * k in
-      (cond_some (marked l at row_mark && eqb (get_or l (at + 3) 0) 0) (row_of (get_or l (at + 2) 0) (field l (at + 4) 2) (field l (at + 6) 2))
-      (get_or (image_of l).rows k never) (good_row_lem l (passed_good l h) k i).is).1
+      (cond_some (marked l at row_mark && eqb (get_or l (at + 3) 0) 0) (row_in l at) (get_or (image_of l).rows k never) (good_row_lem l (passed_good l h) k i).is).1
 
-  pub row_good : good_row (row_count l) (row_count l)
-      (row_of (get_or l (row_bytes * k + 2) 0) (field l (row_bytes * k + 4) 2) (field l (row_bytes * k + 6) 2)) ≡ true
+  pub row_good : good_row (row_count l) (row_count l) (row_in l (row_bytes * k)) ≡ true
   row_good = rw row_held (names_any k (row_count l) (get_or (image_of l).rows k never) (omega arith) (good_row_lem l (passed_good l h) k i).names)
 
 -- ---- the end record of a good image, which is its last
@@ -180,17 +168,14 @@ module _ (l : List ℕ) (h : image_test l ≡ Passed) where
   end_at : length l - row_bytes ≡ row_bytes * row_count l
   end_at = let g = passed_good l h in omega arith
 
-  pub end-S : field l (length l - row_bytes + 2) 2 ≡ (image_of l).S
+  pub end_held : end_in l (length l - row_bytes) ≡ record { sat = (image_of l).S; one = (image_of l).V1; two = (image_of l).V2 }
   unfolding image_of
-  end-S = rw end_at
+  end_held = rw end_at
 
-  pub end-V1 : field l (length l - row_bytes + 4) 2 ≡ (image_of l).V1
-  unfolding image_of
-  end-V1 = rw end_at
-
-  pub end-V2 : field l (length l - row_bytes + 6) 2 ≡ (image_of l).V2
-  unfolding image_of
-  end-V2 = rw end_at
+-- its fields, written one after the other
+pub end_written : (l : List ℕ) (i sat one two : ℕ)
+    → sets l i (end_record sat one two) ≡ sets (sets (sets (sets l i end_mark) (i + 2) (bytes 2 sat)) (i + 4) (bytes 2 one)) (i + 6) (bytes 2 two)
+end_written l i sat one two = simp (sets-append, length-bytes, add_assoc)
 
 -- ---- refusal 9
 

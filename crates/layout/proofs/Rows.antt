@@ -4,78 +4,92 @@ use native.Mathlib.Nat.{add-zero, add_assoc}
 use native.Mathlib.Numerals.{add-one}
 use native.Mathlib.Omega.{arith}
 use mathlib.Core.Path.{◌≡◌, refl, sym, ◌∙◌}
-use mathlib.Core.Logic.{◌⊎◌, inl, inr, ⊎_elim}
-use mathlib.Core.Bool.{Bool, true, false, ◌&&◌, cond, and-true, and-eq-true_iff}
+use mathlib.Core.Bool.{Bool, true, false, ◌&&◌, cond, and-true, and-false, and-eq-true_iff}
 use mathlib.Core.List.{List, ◌∷◌, ◌++◌}
 use mathlib.Core.Option.{Option, none, some}
 use lib.Dec.{eqb, ltb, leb, lit<}
-use lib.ListN.{length, take, drop, get_or}
-use lib.Seq.{get_or-drop, drop-drop, drop_at, drop-cons, take-add}
+use lib.ListN.{length, take, drop, get_or, set}
+use lib.Seq.{sets, get_or-drop, drop-drop, drop_at, drop-cons, take-add}
 use borrow.Author.Tests.{ne_eqb, lt-ltb, le-leb, lt-leb, eqb-true, ltb-true}
 use Rattle.records.specs.Fields.{bytes, field}
 use Rattle.records.specs.Holding.{AllBytes}
 use Rattle.records.specs.Marks.{row_mark, marked}
-use Rattle.records.proofs.Cases.{lt_or_le}
-use Rattle.records.proofs.Fields.{value_bytes_lt, bytes-field}
+use Rattle.records.proofs.Fields.{length-bytes, value_bytes_lt, bytes-field}
 use Rattle.records.proofs.Marks.{of_marked}
+use Rattle.records.proofs.Written.{sets-append}
 use Rattle.periods.specs.Limits.{actions}
-use Rattle.periods.specs.Periods.{party1, party2, party_of}
+use Rattle.periods.specs.declared.Party.TheVariants.{One as party1, Two as party2}
+use Rattle.periods.specs.Periods.{party_of}
 use Rattle.layout.specs.Limits.{row_bytes}
-use Rattle.layout.specs.Rows.{Row, never, initial, attempt, negation, conjunction, disjunction, previous, row_of, names_rows, good_row, attempt_of, kind, field_x, field_y, Fits, encode, decode}
+use Rattle.layout.specs.declared.RowKind.{RowKind}
+use Rattle.layout.specs.declared.RowKind.TheVariants.{Never, Initial, Attempt, Not, And, Or, Previous}
+use Rattle.layout.specs.declared.RowFields.{RowFields}
+use Rattle.layout.specs.Fields.{kind_number, row_from}
+use Rattle.layout.specs.Rows.{Row, never, initial, attempt, negation, conjunction, disjunction, previous, row_of, row_in, names_rows, good_row, attempt_of, kind, field_x, field_y, Fits, encode, decode, row_record}
 
 -- ---- kinds above the last
 
-other_kind : (j x y : ℕ) → kind (previous x) < j → row_of j x y ≡ none
+other_kind : (j x y : ℕ) → kind_number Previous < j → row_of j x y ≡ none
 unfolding row_of
 other_kind j x y h =
     rw (ne_eqb j 0 (λ e. omega arith), ne_eqb j 1 (λ e. omega arith), ne_eqb j 2 (λ e. omega arith), ne_eqb j 3 (λ e. omega arith), ne_eqb j 4 (λ e. omega arith), ne_eqb j 5 (λ e. omega arith), ne_eqb j 6 (λ e. omega arith))
 
 -- ---- a good row, by its kind
 
--- two kinds in a row
-one_of_two : (a j : ℕ) → a ≤ j → j < 2 + a → (j ≡ a) ⊎ (j ≡ suc a)
-one_of_two a j h i = ⊎_elim (λ l. inl (omega arith)) (λ l. inr (omega arith)) (lt_or_le j (suc a))
-
 module _ (k n : ℕ) where
   good_cond : (t : Bool) (r : Row) → good_row k n (cond t (some r) none) ≡ (t && names_rows k n r)
   good_cond true r = refl
   good_cond false r = refl
 
-  good_attempt_of : (x y : ℕ) → good_row k n (attempt_of (party_of x) y) ≡ (leb 1 x && leb x 2 && ltb y actions)
-  good_attempt_of zero y = refl
-  good_attempt_of (suc zero) y = good_cond (ltb y actions) (attempt party1 y) ∙ and-true (ltb y actions)
-  good_attempt_of (suc (suc zero)) y = good_cond (ltb y actions) (attempt party2 y) ∙ and-true (ltb y actions)
-  good_attempt_of (suc (suc (suc x))) y =
+  good_attempt : (x y : ℕ) → good_row k n (attempt_of (party_of x) y) ≡ (leb 1 x && leb x 2 && ltb y actions)
+  good_attempt zero y = refl
+  good_attempt (suc zero) y = good_cond (ltb y actions) (attempt party1 y) ∙ and-true (ltb y actions)
+  good_attempt (suc (suc zero)) y = good_cond (ltb y actions) (attempt party2 y) ∙ and-true (ltb y actions)
+  good_attempt (suc (suc (suc x))) y =
       let x' : ℕ = suc (suc (suc x)) in
       rw (ne_eqb x' 1 (λ e. omega arith), ne_eqb x' 2 (λ e. omega arith), le-leb 1 x' (omega arith), lt-leb x' 2 (omega arith))
 
-  module _ (x y : ℕ) where
-    pub good_first : (j : ℕ) → j < kind (attempt party1 y) → good_row k n (row_of j x y) ≡ (eqb x 0 && eqb y 0)
-    unfolding row_of
-    good_first j h =
-        ⊎_elim
-        (λ e. rw e (good_cond (eqb x 0 && eqb y 0) never ∙ and-true (eqb x 0 && eqb y 0)))
-        (λ e. rw e (good_cond (eqb x 0 && eqb y 0) initial ∙ and-true (eqb x 0 && eqb y 0)))
-        (one_of_two (kind never) j (omega arith) h)
+  abbrev pub good_fields : RowKind → (x y : ℕ) → Bool
+  good_fields Never x y = eqb x 0 && eqb y 0
+  good_fields Initial x y = eqb x 0 && eqb y 0
+  good_fields Attempt x y = leb 1 x && leb x 2 && ltb y actions
+  good_fields Not x y = eqb y 0 && ltb x k
+  good_fields And x y = ltb x k && ltb y k
+  good_fields Or x y = ltb x k && ltb y k
+  good_fields Previous x y = eqb y 0 && ltb x n
 
-    pub good_attempt : good_row k n (row_of (kind (attempt party1 y)) x y) ≡ (leb 1 x && leb x 2 && ltb y actions)
-    unfolding row_of
-    good_attempt = good_attempt_of x y
+  good_by_kind_lem : (j : RowKind) (x y : ℕ) → good_row k n (row_of (kind_number j) x y) ≡ good_fields j x y
+  unfolding row_of
+  good_by_kind_lem Never x y = good_cond (eqb x 0 && eqb y 0) never ∙ and-true (eqb x 0 && eqb y 0)
+  good_by_kind_lem Initial x y = good_cond (eqb x 0 && eqb y 0) initial ∙ and-true (eqb x 0 && eqb y 0)
+  good_by_kind_lem Attempt x y = good_attempt x y
+  good_by_kind_lem Not x y = good_cond (eqb y 0) (negation x)
+  good_by_kind_lem And x y = refl
+  good_by_kind_lem Or x y = refl
+  good_by_kind_lem Previous x y = good_cond (eqb y 0) (previous x)
 
-    pub good_negation : good_row k n (row_of (kind (negation x)) x y) ≡ (eqb y 0 && ltb x k)
-    unfolding row_of
-    good_negation = good_cond (eqb y 0) (negation x)
+  pub good_by_kind : (r : RowFields) → good_row k n (row_from r) ≡ good_fields r.kind r.x r.y
+  good_by_kind r = good_by_kind_lem r.kind r.x r.y
 
-    pub good_two : (j : ℕ) → kind (conjunction x y) ≤ j → j < kind (previous x) → good_row k n (row_of j x y) ≡ (ltb x k && ltb y k)
-    unfolding row_of
-    good_two j h i = ⊎_elim (λ e. rw e) (λ e. rw e) (one_of_two (kind (conjunction x y)) j h i)
+-- ---- what is read as a row's kind and fields
 
-    pub good_previous : good_row k n (row_of (kind (previous x)) x y) ≡ (eqb y 0 && ltb x n)
-    unfolding row_of
-    good_previous = good_cond (eqb y 0) (previous x)
+-- a mark or a zero byte that is wrong
+pub not_marked : (l : List ℕ) (at : ℕ) → marked l at row_mark ≡ false → decode l at ≡ none
+unfolding decode
+not_marked l at e = rw e
 
-    pub good_other : (j : ℕ) → kind (previous x) < j → good_row k n (row_of j x y) ≡ false
-    good_other j h = rw (other_kind j x y h)
+pub no_zero_byte : (l : List ℕ) (at : ℕ) → ¬ (get_or l (at + 3) 0 ≡ 0) → decode l at ≡ none
+unfolding decode
+no_zero_byte l at h = rw (ne_eqb _ _ h, and-false)
+
+-- a byte that is no kind's
+pub no_kind : (l : List ℕ) (at : ℕ) → kind_number Previous < get_or l (at + 2) 0 → row_in l at ≡ none
+no_kind l at h = other_kind (get_or l (at + 2) 0) (field l (at + 4) 2) (field l (at + 6) 2) h
+
+-- the rest goes by the kind and the fields
+pub held_row : (l : List ℕ) (at : ℕ) → marked l at row_mark ≡ true → get_or l (at + 3) 0 ≡ 0 → decode l at ≡ row_in l at
+unfolding decode
+held_row l at m z = rw (m, z)
 
 -- ---- the rows that a row names
 
@@ -182,6 +196,15 @@ fits_y (previous x) f = lit< tt
 pub length-encode : (r : Row) → length (encode r) ≡ row_bytes
 unfolding encode bytes
 length-encode r = refl
+
+-- its fields, written one after the other
+pub row_written : (l : List ℕ) (i kind x y : ℕ)
+    → sets l i (row_record kind x y) ≡ sets (sets (set (set (sets l i row_mark) (i + 2) kind) (i + 3) 0) (i + 4) (bytes 2 x)) (i + 6) (bytes 2 y)
+row_written l i kind x y =
+    let three : i + 3 ≡ suc (i + 2) = omega arith in
+    let four : i + 4 ≡ suc (suc (i + 2)) = omega arith in
+    let six : i + 6 ≡ suc (suc (i + 2)) + 2 = omega arith in
+    rw (three, four, six) (simp (sets-append, length-bytes))
 
 -- what is decoded at a place stands in the bytes from there on
 decode-drop : (l : List ℕ) (at : ℕ) → decode l at ≡ decode (drop at l) 0

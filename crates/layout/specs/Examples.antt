@@ -2,7 +2,7 @@
 use Rattle.std.specs.Prelude.{ℕ, true, false, List, [], ◌∷◌, ◌++◌, map, ◌≡◌, replicate}
 use Rattle.std.proofs.Math.Option.{some}
 use Rattle.records.specs.Examples.{number_and_place}
-use Rattle.periods.specs.Periods.{party1, party2}
+use Rattle.periods.specs.declared.Party.TheVariants.{One as party1, Two as party2}
 use Rattle.layout.specs.Rows.{Row, never, initial, attempt, negation, conjunction, disjunction, previous, encode, decode}
 use Rattle.layout.specs.Images.{image_bytes, row_count, image_of, good_image_length}
 use Rattle.layout.specs.Refusals.{image_test}

@@ -1,8 +1,7 @@
 -- Refusal 9 and its place. Document 01, "Replies that refuse".
 use Rattle.std.specs.Prelude.{ℕ, List, eqb}
 use Rattle.records.specs.declared.Fault.TheVariants.{BadImage}
-use Rattle.records.specs.declared.Test.{Test}
-use Rattle.records.specs.Refusals.{require, first_of, first_failing}
+use Rattle.records.specs.Refusals.{Test, require, first_of, first_failing}
 use Rattle.layout.specs.Images.{row_count, good_image_length, good_row_at, good_end}
 
 -- 9: the length, at 0; then the first bad row; then the end record, at the row count

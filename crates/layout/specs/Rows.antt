@@ -4,7 +4,8 @@ use Rattle.std.proofs.Math.Option.{Option, none, some}
 use Rattle.records.specs.Fields.{bytes, field}
 use Rattle.records.specs.Marks.{row_mark, marked}
 use Rattle.periods.specs.Limits.{actions}
-use Rattle.periods.specs.Periods.{Party, party_number, party_of}
+use Rattle.periods.specs.declared.Party.{Party}
+use Rattle.periods.specs.Periods.{party_number, party_of}
 
 -- kinds 0 to 6: false; true in period 1 only; a party tries an action; not x; x and y; x or y; the value that row x had in the
 -- period before
@@ -80,10 +81,13 @@ row_of k x y =
     (cond (eqb k 6) (cond (eqb y 0) (some (previous x)) none)
     none))))))
 
+-- by the bytes from byte `at` on, whatever the mark and the zero byte are
+abbrev pub row_in : List ℕ → ℕ → Option Row
+row_in l at = row_of (get_or l (at + 2) 0) (field l (at + 4) 2) (field l (at + 6) 2)
+
 -- the row in the eight bytes from byte `at` on
 unfoldable pub decode : List ℕ → ℕ → Option Row
-decode l at =
-    cond (marked l at row_mark && eqb (get_or l (at + 3) 0) 0) (row_of (get_or l (at + 2) 0) (field l (at + 4) 2) (field l (at + 6) 2)) none
+decode l at = cond (marked l at row_mark && eqb (get_or l (at + 3) 0) 0) (row_in l at) none
 
 -- "In 3 to 5 the fields name lower rows; in 6 any row of the image": of row k of an image of n rows
 abbrev pub names_rows : ℕ → ℕ → Row → Bool

@@ -2,13 +2,11 @@
 use Prim.Native.Nat.{ℕ, zero, suc, ◌+◌, ◌*◌, ◌/◌, ◌%◌, ◌≤◌, ◌<◌}
 use native.Mathlib.Nat.{add_comm, mod-lt}
 use native.Mathlib.Omega.{arith}
-use mathlib.Core.Bool.{Bool, true, false, not, ◌&&◌, ◌||◌, cond, and-eq-true_iff, false≢true}
+use mathlib.Core.Bool.{Bool, true, false, not, cond, false≢true}
 use mathlib.Core.List.{List, [], ◌∷◌, ◌++◌, map}
 use mathlib.Core.Path.{◌≡◌, refl, ap, ◌∙◌}
-use borrow.Author.Tests.{ltb-true, le-leb}
-use mir.Val.{bool_byte}
-use lib.Bits.{bit_and, bit_or, and_mask}
-use lib.Dec.{leb, lit<}
+use borrow.Author.Tests.{ltb-true}
+use lib.Dec.{lit<}
 use lib.ListN.{length, get_or, set, get_or-map}
 use Rattle.periods.specs.Periods.{Period}
 use Rattle.layout.specs.Rows.{Row, never, initial, attempt, negation, conjunction, disjunction, previous, names_rows}
@@ -21,36 +19,12 @@ use Rattle.machine.proofs.Machine.{byte_of_le, is_true-byte_of, length-new_value
 
 -- ---- values as bytes
 
-pub byte_of_bool : (a : Bool) → bool_byte a ≡ byte_of a
-byte_of_bool true = refl
-byte_of_bool false = refl
-
--- a value in the first bit
-pub first_bit : (v : ℕ) → bit_and v 1 ≡ v % 2
-first_bit v = and_mask v 1
-
-pub first_and : (a b : Bool) → bit_and (byte_of a) (byte_of b) ≡ byte_of (a && b)
-first_and true true = refl
-first_and true false = refl
-first_and false true = refl
-first_and false false = refl
-
-pub first_or : (a b : Bool) → bit_or (byte_of a) (byte_of b) ≡ byte_of (a || b)
-first_or true true = refl
-first_or true false = refl
-first_or false true = refl
-first_or false false = refl
-
-pub byte_of-not : (a : Bool) → byte_of (not a) + byte_of a ≡ 1
-byte_of-not true = refl
-byte_of-not false = refl
-
-pub byte_of_lem : (v : ℕ) → v ≤ 1 → v ≡ byte_of (is_true v)
+byte_of_lem : (v : ℕ) → v ≤ 1 → v ≡ byte_of (is_true v)
 byte_of_lem zero h = refl
 byte_of_lem (suc zero) h = refl
 byte_of_lem (suc (suc v)) h = absurd (omega arith)
 
-pub first_byte : (v : ℕ) → v % 2 ≡ byte_of (is_true (v % 2))
+first_byte : (v : ℕ) → v % 2 ≡ byte_of (is_true (v % 2))
 first_byte v = let h : v % 2 < 2 = mod-lt v (lit< tt) in byte_of_lem (v % 2) (omega arith)
 
 -- ---- packed values
@@ -68,15 +42,6 @@ first_bits-packed [] [] h = refl
 first_bits-packed [] (v ∷ new) h = absurd (omega arith)
 first_bits-packed (o ∷ old) [] h = absurd (omega arith)
 first_bits-packed (o ∷ old) (v ∷ new) h = rw (new_of v o, first_bits-packed old new (omega arith))
-
-pub packed_small : (old new : List Bool) → all_at_most 3 (packed old new) ≡ true
-unfolding packed all_at_most
-packed_small [] new = refl
-packed_small (o ∷ old) [] = refl
-packed_small (true ∷ old) (true ∷ new) = packed_small old new
-packed_small (true ∷ old) (false ∷ new) = packed_small old new
-packed_small (false ∷ old) (true ∷ new) = packed_small old new
-packed_small (false ∷ old) (false ∷ new) = packed_small old new
 
 -- ---- bytes of which the first rows' have new values
 
@@ -102,7 +67,7 @@ over_old [] [] = refl
 over_old [] (v ∷ new) = refl
 over_old (w ∷ vs) [] = refl
 over_old (w ∷ vs) (v ∷ new) =
-    let e : (byte_of v + 2 * (w % 2)) / 2 ≡ w % 2 = omega (arith, byte_of_le v) in
+    let e : (byte_of v + 2 * (w % 2)) / 2 % 2 ≡ w % 2 = omega (arith, byte_of_le v) in
     rw (e, over_old vs new)
 
 over_new : (vs : List ℕ) (new : List Bool) → length new ≤ length vs → (x : ℕ) → x < length new
@@ -114,14 +79,6 @@ over_new (w ∷ vs) (v ∷ new) h zero i =
     let e : (byte_of v + 2 * (w % 2)) % 2 ≡ byte_of v = omega (arith, byte_of_le v) in
     ap is_true e ∙ is_true-byte_of v
 over_new (w ∷ vs) (v ∷ new) h (suc x) i = over_new vs new (omega arith) x (omega arith)
-
-over_small : (vs : List ℕ) (new : List Bool) → all_at_most 3 vs ≡ true → all_at_most 3 (over vs new) ≡ true
-unfolding all_at_most
-over_small [] new h = refl
-over_small (w ∷ vs) [] h = h
-over_small (w ∷ vs) (v ∷ new) h =
-    let i : byte_of v + 2 * (w % 2) ≤ 3 = omega (arith, byte_of_le v) in
-    rw (le-leb (byte_of v + 2 * (w % 2)) 3 i) (over_small vs new ((and-eq-true_iff (leb w 3) (all_at_most 3 vs)).0 h).1)
 
 over_all : (vs : List ℕ) (new : List Bool) → length new ≡ length vs → over vs new ≡ packed (values_in vs) new
 unfolding packed values_in first_bits
@@ -165,11 +122,8 @@ module _ (first : Bool) (p : Period) (vs : List ℕ) (rows : List Row) where
       let new = new_values first p (values_in vs) rows k in
       rw (length-new_values first p (values_in vs) rows k) at (over_old vs new)
 
-  pub so_far_small : (k : ℕ) → all_at_most 3 vs ≡ true → all_at_most 3 (so_far k) ≡ true
-  so_far_small k = over_small vs (new_values first p (values_in vs) rows k)
-
   pub so_far_next : (k n : ℕ) → k < length vs → names_rows k n (get_or rows k never) ≡ true
-      → set (so_far k) k (2 * bit_and (get_or (so_far k) k 0) 1 + byte_of (value first p (old_in k (so_far k)) (values_in (so_far k)) (get_or rows k never))) ≡ so_far (suc k)
+      → set (so_far k) k (2 * (get_or (so_far k) k 0 % 2) + byte_of (value first p (old_in k (so_far k)) (values_in (so_far k)) (get_or rows k never))) ≡ so_far (suc k)
   unfolding new_values
   so_far_next k n h g =
       let new = new_values first p (values_in vs) rows k in
@@ -177,7 +131,7 @@ module _ (first : Bool) (p : Period) (vs : List ℕ) (rows : List Row) where
       let l : length new ≡ k = length-new_values first p (values_in vs) rows k in
       let e : value first p (old_in k (so_far k)) (values_in (so_far k)) r ≡ value first p (values_in vs) new r =
       rw (so_far_old k) (value_by first p (values_in vs) (values_in (so_far k)) new k n (λ x i. over_new vs new (omega arith) x (omega arith)) r g) in
-      rw (e, first_bit (get_or (so_far k) k 0)) (rw l at (over_next vs new (value first p (values_in vs) new r) (omega arith)))
+      rw e (rw l at (over_next vs new (value first p (values_in vs) new r) (omega arith)))
 
   pub so_far_all : so_far (length vs) ≡ packed (values_in vs) (new_values first p (values_in vs) rows (length vs))
   so_far_all = over_all vs (new_values first p (values_in vs) rows (length vs)) (length-new_values first p (values_in vs) rows (length vs))

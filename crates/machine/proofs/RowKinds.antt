@@ -1,97 +1,117 @@
--- The rows that a kind and its fields make, and how their values are read from row values where the first k rows have new ones.
-use Prim.Native.Nat.{ℕ, zero, suc, ◌-◌, ◌/◌, ◌%◌, ◌≤◌, ◌<◌}
+-- The row that good fields make, and how values are read from row values where the first k rows have new ones.
+use Prim.Native.Nat.{ℕ, zero, suc, ◌/◌, ◌%◌, ◌≤◌, ◌<◌}
 use native.Mathlib.Omega.{arith}
-use mathlib.Core.Bool.{Bool, true, false, not, ◌&&◌, cond, false≢true}
+use mathlib.Core.Bool.{Bool, true, false, not, ◌&&◌, cond, and-eq-true_iff, false≢true}
 use mathlib.Core.List.{List, [], ◌∷◌, map}
 use mathlib.Core.Option
-use mathlib.Core.Option.{Option, none, some}
-use mathlib.Core.Logic.{⊎_elim}
+use mathlib.Core.Option.{none, some}
 use mathlib.Core.Path.{◌≡◌, refl, sym, ap, ◌∙◌}
-use borrow.Author.Tests.{ltb-true, eqb-true}
-use lib.Bits.{bit_and, bit_or}
+use borrow.Author.Tests.{ltb-true, leb-true, ne_eqb}
 use lib.Dec.{eqb, ltb}
 use lib.ListN.{length, get_or, get_or-map}
-use mir.Val.{bool_byte}
-use Rattle.records.proofs.Cases.{lt_or_le}
 use Rattle.periods.specs.Limits.{actions}
-use Rattle.periods.specs.Periods.{Period, Party, party1, party2, party_number, tries}
-use Rattle.layout.specs.Rows.{Row, never, initial, attempt, negation, conjunction, disjunction, previous, attempt_of, row_of, names_rows, good_row, kind}
-use Rattle.layout.proofs.Rows.{good_other}
-use Rattle.states.specs.States.{all_at_most}
-use Rattle.states.proofs.Values.{all_at_most_at}
-use Rattle.machine.specs.Machine.{byte_of, is_true, value}
-use Rattle.machine.specs.Computing.{first_bits, values_in, old_in, KindRow}
-use Rattle.machine.proofs.Computing.{byte_of_bool, byte_of-not, byte_of_lem, first_bit, first_byte, first_and, first_or}
+use Rattle.periods.specs.declared.Party.{Party}
+use Rattle.periods.specs.declared.Party.TheVariants.{One as party1, Two as party2}
+use Rattle.periods.specs.Periods.{Period, party_of, party_number}
+use Rattle.layout.specs.declared.RowKind.{RowKind}
+use Rattle.layout.specs.declared.RowKind.TheVariants.{Never, Initial, Attempt, Not, And, Or, Previous}
+use Rattle.layout.specs.declared.RowFields.{RowFields}
+use Rattle.layout.specs.Rows.{Row, never, initial, attempt, negation, conjunction, disjunction, previous, attempt_of, row_of, good_row}
+use Rattle.layout.specs.Fields.{kind_number, row_from}
+use Rattle.layout.proofs.Rows.{good_fields, good_by_kind, both_below}
+use Rattle.machine.specs.Machine.{is_true, value}
+use Rattle.machine.specs.Computing.{first_bits, values_in, old_in, GoodFields}
 
--- r is what bytes hold, and names rows below k, or below n where the row is a previous one
-pub record Is (k n : ℕ) (o : Option Row) (r : Row) : Type 0 where
-  pub row : Option.get_or o never ≡ r
-  pub names : names_rows k n r ≡ true
+-- ---- the row of a kind and good fields
 
-only : (t : Bool) (k n : ℕ) (r : Row) → good_row k n (cond t (some r) none) ≡ true → Is k n (cond t (some r) none) r
-only true k n r g = record { row = refl; names = g }
-only false k n r g = absurd (false≢true g)
+abbrev pub the_party : ℕ → Party
+the_party x = cond (eqb x 1) party1 party2
 
--- the row of an attempt
-pub record Attempt (o : Option Row) (x y : ℕ) : Type 0 where
-  pub party : Party
-  pub row : Option.get_or o never ≡ attempt party y
-  pub is_party : x ≡ party_number party
-  pub is_action : y < actions
+abbrev pub row_of_kind : RowKind → (x y : ℕ) → Row
+row_of_kind Never x y = never
+row_of_kind Initial x y = initial
+row_of_kind Attempt x y = attempt (the_party x) y
+row_of_kind Not x y = negation x
+row_of_kind And x y = conjunction x y
+row_of_kind Or x y = disjunction x y
+row_of_kind Previous x y = previous x
 
-attempted : (k n : ℕ) (x y : ℕ) (p : Party) (t : Bool) → ltb y actions ≡ t → x ≡ party_number p
-    → good_row k n (cond t (some (attempt p y)) none) ≡ true → Attempt (cond t (some (attempt p y)) none) x y
-attempted k n x y p true e q g = record { party = p; row = refl; is_party = q; is_action = ltb-true y actions e }
-attempted k n x y p false e q g = absurd (false≢true g)
+module _ (k n : ℕ) where
+  good_cond : (t : Bool) (r : Row) → good_row k n (cond t (some r) none) ≡ true → Option.get_or (cond t (some r) none) never ≡ r
+  good_cond true r g = refl
+  good_cond false r g = absurd (false≢true g)
 
-attempt_row : (k n x y : ℕ) (t u : Bool) → eqb x 1 ≡ t → eqb x 2 ≡ u
-    → good_row k n (attempt_of (cond t (some party1) (cond u (some party2) none)) y) ≡ true
-    → Attempt (attempt_of (cond t (some party1) (cond u (some party2) none)) y) x y
-attempt_row k n x y true u e f g = attempted k n x y party1 (ltb y actions) refl (eqb-true x 1 e) g
-attempt_row k n x y false true e f g = attempted k n x y party2 (ltb y actions) refl (eqb-true x 2 f) g
-attempt_row k n x y false false e f g = absurd (false≢true g)
+  good_attempt : (x y : ℕ) → good_row k n (attempt_of (party_of x) y) ≡ true → Option.get_or (attempt_of (party_of x) y) never ≡ attempt (the_party x) y
+  good_attempt zero y g = absurd (false≢true g)
+  good_attempt (suc zero) y g = good_cond (ltb y actions) (attempt party1 y) g
+  good_attempt (suc (suc zero)) y g = good_cond (ltb y actions) (attempt party2 y) g
+  good_attempt (suc (suc (suc x))) y g =
+      let x' : ℕ = suc (suc (suc x)) in
+      absurd (false≢true (rw (ne_eqb x' 1 (λ e. omega arith), ne_eqb x' 2 (λ e. omega arith)) at g))
 
-module _ (k n x y : ℕ) where
-  pub row_never : good_row k n (row_of (kind never) x y) ≡ true → Is k n (row_of (kind never) x y) never
+  good_is : (j : RowKind) (x y : ℕ) → good_row k n (row_of (kind_number j) x y) ≡ true → Option.get_or (row_of (kind_number j) x y) never ≡ row_of_kind j x y
   unfolding row_of
-  row_never g = only (eqb x 0 && eqb y 0) k n never g
+  good_is Never x y g = good_cond (eqb x 0 && eqb y 0) never g
+  good_is Initial x y g = good_cond (eqb x 0 && eqb y 0) initial g
+  good_is Attempt x y g = good_attempt x y g
+  good_is Not x y g = good_cond (eqb y 0) (negation x) g
+  good_is And x y g = refl
+  good_is Or x y g = refl
+  good_is Previous x y g = good_cond (eqb y 0) (previous x) g
 
-  pub row_initial : good_row k n (row_of (kind initial) x y) ≡ true → Is k n (row_of (kind initial) x y) initial
-  unfolding row_of
-  row_initial g = only (eqb x 0 && eqb y 0) k n initial g
+-- the rows, the party and the action that it names
+module _ (n : ℕ) where
+  abbrev pub Named : RowKind → (x y : ℕ) → Type 0
+  Named Never x y = Unit {0}
+  Named Initial x y = Unit {0}
+  Named Attempt x y = (x ≡ party_number (the_party x)) × (y < actions)
+  Named Not x y = x < n
+  Named And x y = (x < n) × (y < n)
+  Named Or x y = (x < n) × (y < n)
+  Named Previous x y = x < n
 
-  pub row_attempt : good_row k n (row_of (kind (attempt party1 y)) x y) ≡ true → Attempt (row_of (kind (attempt party1 y)) x y) x y
-  unfolding row_of
-  row_attempt g = attempt_row k n x y (eqb x 1) (eqb x 2) refl refl g
+  party_named : (x : ℕ) → 1 ≤ x → x ≤ 2 → x ≡ party_number (the_party x)
+  party_named zero h i = absurd (omega arith)
+  party_named (suc zero) h i = refl
+  party_named (suc (suc zero)) h i = refl
+  party_named (suc (suc (suc x))) h i = absurd (omega arith)
 
-  pub row_negation : good_row k n (row_of (kind (negation x)) x y) ≡ true → Is k n (row_of (kind (negation x)) x y) (negation x)
-  unfolding row_of
-  row_negation g = only (eqb y 0) k n (negation x) g
+  named : (j : RowKind) (x y : ℕ) → good_fields n n j x y ≡ true → Named j x y
+  named Never x y g = tt
+  named Initial x y g = tt
+  named Attempt x y g =
+      let w = simp and-eq-true_iff at g in
+      (party_named x (leb-true 1 x w.0.0) (leb-true x 2 w.0.1), ltb-true y actions w.1)
+  named Not x y g = ltb-true x n ((and-eq-true_iff (eqb y 0) (ltb x n)).0 g).1
+  named And x y g = both_below n x y g
+  named Or x y g = both_below n x y g
+  named Previous x y g = ltb-true x n ((and-eq-true_iff (eqb y 0) (ltb x n)).0 g).1
 
-  pub row_conjunction : good_row k n (row_of (kind (conjunction x y)) x y) ≡ true → Is k n (row_of (kind (conjunction x y)) x y) (conjunction x y)
-  unfolding row_of
-  row_conjunction g = only true k n (conjunction x y) g
+-- ---- such a row's value
 
-  pub row_disjunction : good_row k n (row_of (kind (disjunction x y)) x y) ≡ true → Is k n (row_of (kind (disjunction x y)) x y) (disjunction x y)
-  unfolding row_of
-  row_disjunction g = only true k n (disjunction x y) g
+-- an old value is false in period 1
+fresh_old : (first o : Bool) → (first ≡ true → o ≡ false) → (not first && o) ≡ o
+fresh_old true o h = sym (h refl)
+fresh_old false o h = refl
 
-  pub row_previous : good_row k n (row_of (kind (previous x)) x y) ≡ true → Is k n (row_of (kind (previous x)) x y) (previous x)
-  unfolding row_of
-  row_previous g = only (eqb y 0) k n (previous x) g
+module _ {k : ℕ} {values : List ℕ} {row : RowFields} {first : Bool} (h : GoodFields k values row first) where
+  pub fields_named : Named (length values) row.kind row.x row.y
+  fields_named = named (length values) row.kind row.x row.y (sym (good_by_kind (length values) (length values) row) ∙ h.good)
 
--- no kind above the last makes a row
-pub last_kind : (k n j x y : ℕ) → kind (disjunction x y) < j → good_row k n (row_of j x y) ≡ true → j ≡ kind (previous x)
-last_kind k n j x y h g =
-    ⊎_elim (λ l. absurd (false≢true (sym (good_other k n x y j l) ∙ g))) (λ l. omega arith) (lt_or_le (kind (previous x)) j)
+  pub value_by_kind : (p : Period) → value first p (old_in k values) (values_in values) (Option.get_or (row_from row) never)
+      ≡ value first p (old_in k values) (values_in values) (row_of_kind row.kind row.x row.y)
+  value_by_kind p = ap (value first p (old_in k values) (values_in values)) (good_is (length values) (length values) row.kind row.x row.y h.good)
+
+  pub old_by_now : (x : ℕ) → (not first && get_or (old_in k values) x false) ≡ get_or (old_in k values) x false
+  old_by_now x = fresh_old first (get_or (old_in k values) x false) (λ e. h.fresh e x)
 
 -- ---- what row values hold where the first k rows have new ones
 
-value_at_lem : (l : List ℕ) (x : ℕ) → get_or (values_in l) x false ≡ is_true (get_or l x 0 % 2)
+pub new_is : (l : List ℕ) (x : ℕ) → get_or (values_in l) x false ≡ is_true (get_or l x 0 % 2)
 unfolding values_in first_bits
-value_at_lem l x = get_or-map is_true (map (λ (v : ℕ). v % 2) l) x 0 ∙ ap is_true (get_or-map (λ (v : ℕ). v % 2) l x 0)
+new_is l x = get_or-map is_true (map (λ (v : ℕ). v % 2) l) x 0 ∙ ap is_true (get_or-map (λ (v : ℕ). v % 2) l x 0)
 
-below : (k : ℕ) (l : List ℕ) (x : ℕ) → x < k → get_or (old_in k l) x false ≡ is_true (get_or l x 0 / 2)
+below : (k : ℕ) (l : List ℕ) (x : ℕ) → x < k → get_or (old_in k l) x false ≡ is_true (get_or l x 0 / 2 % 2)
 unfolding old_in values_in first_bits
 below zero l x h = absurd (omega arith)
 below (suc k) [] x h = refl
@@ -100,61 +120,14 @@ below (suc k) (v ∷ l) (suc x) h = below k l x (omega arith)
 
 above : (k : ℕ) (l : List ℕ) (x : ℕ) → k ≤ x → get_or (old_in k l) x false ≡ is_true (get_or l x 0 % 2)
 unfolding old_in values_in first_bits
-above zero l x h = value_at_lem l x
+above zero l x h = new_is l x
 above (suc k) [] x h = refl
 above (suc k) (v ∷ l) zero h = absurd (omega arith)
 above (suc k) (v ∷ l) (suc x) h = above k l x (omega arith)
 
 module _ (k : ℕ) (values : List ℕ) (x : ℕ) where
-  pub old_below : all_at_most 3 values ≡ true → x < k → get_or values x 0 / 2 ≡ byte_of (get_or (old_in k values) x false)
-  old_below s i =
-      let h : get_or values x 0 ≤ 3 = all_at_most_at 3 values s x in
-      rw (below k values x i) (byte_of_lem (get_or values x 0 / 2) (omega arith))
+  pub old_below : x < k → get_or (old_in k values) x false ≡ is_true (get_or values x 0 / 2 % 2)
+  old_below i = below k values x i
 
-  pub old_above : k ≤ x → get_or values x 0 % 2 ≡ byte_of (get_or (old_in k values) x false)
-  old_above i = rw (above k values x i) (first_byte (get_or values x 0))
-
-pub new_first : (values : List ℕ) (x : ℕ) → bit_and (get_or values x 0) 1 ≡ byte_of (get_or (values_in values) x false)
-new_first values x = rw (first_bit (get_or values x 0), value_at_lem values x) (first_byte (get_or values x 0))
-
--- an old value that is false in period 1
-fresh_value : (first o : Bool) → (first ≡ true → o ≡ false) → byte_of o ≡ byte_of (not first && o)
-fresh_value true o h = ap byte_of (h refl)
-fresh_value false o h = refl
-
--- ---- a row's value, by its kind
-
-module _ (k : ℕ) (values : List ℕ) (x y : ℕ) (first : Bool) (p : Period) where
-  abbrev the : ℕ → ℕ
-  the j = byte_of (value first p (old_in k values) (values_in values) (Option.get_or (row_of j x y) never))
-
-  pub value_never : KindRow k values (kind never) x y first → 0 ≡ the (kind never)
-  value_never h = rw (row_never (length values) (length values) x y h.good).row
-
-  pub value_initial : KindRow k values (kind initial) x y first → bool_byte first ≡ the (kind initial)
-  value_initial h = rw ((row_initial (length values) (length values) x y h.good).row, byte_of_bool first)
-
-  pub value_attempt : KindRow k values (kind (attempt party1 y)) x y first → (r : Bool) → ((q : Party) → x ≡ party_number q → r ≡ tries p q y) → bool_byte r ≡ the (kind (attempt party1 y))
-  value_attempt h r e =
-      let g = row_attempt (length values) (length values) x y h.good in
-      rw (g.row, e g.party g.is_party, byte_of_bool (tries p g.party y))
-
-  pub value_negation : KindRow k values (kind (negation x)) x y first → 1 - bit_and (get_or values x 0) 1 ≡ the (kind (negation x))
-  value_negation h =
-      let b = get_or (values_in values) x false in
-      rw ((row_negation (length values) (length values) x y h.good).row, new_first values x) (omega (arith, byte_of-not b))
-
-  pub value_conjunction : KindRow k values (kind (conjunction x y)) x y first → bit_and (bit_and (get_or values x 0) 1) (bit_and (get_or values y 0) 1) ≡ the (kind (conjunction x y))
-  value_conjunction h =
-      rw ((row_conjunction (length values) (length values) x y h.good).row, new_first values x, new_first values y)
-      (first_and (get_or (values_in values) x false) (get_or (values_in values) y false))
-
-  pub value_disjunction : KindRow k values (kind (disjunction x y)) x y first → bit_or (bit_and (get_or values x 0) 1) (bit_and (get_or values y 0) 1) ≡ the (kind (disjunction x y))
-  value_disjunction h =
-      rw ((row_disjunction (length values) (length values) x y h.good).row, new_first values x, new_first values y)
-      (first_or (get_or (values_in values) x false) (get_or (values_in values) y false))
-
-  pub value_previous : KindRow k values (kind (previous x)) x y first → (r : ℕ) → r ≡ byte_of (get_or (old_in k values) x false) → r ≡ the (kind (previous x))
-  value_previous h r e =
-      e ∙ rw (row_previous (length values) (length values) x y h.good).row
-      (fresh_value first (get_or (old_in k values) x false) (λ q. h.bytes_of_two.fresh q x))
+  pub old_above : k ≤ x → get_or (old_in k values) x false ≡ is_true (get_or values x 0 % 2)
+  old_above i = above k values x i

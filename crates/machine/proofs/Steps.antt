@@ -1,31 +1,32 @@
 -- What the code of a period leaves in a sound state's bytes is what the row machine says.
-use Prim.Native.Nat.{ℕ, ◌+◌, ◌-◌, ◌%◌, ◌≤◌}
+use Prim.Native.Nat.{ℕ, ◌+◌, ◌-◌, ◌≤◌}
 use native.Mathlib.Omega.{arith}
-use mathlib.Core.Bool.{Bool, true, false, ◌||◌, cond}
+use mathlib.Core.Bool.{Bool, false, ◌||◌, cond}
 use mathlib.Core.List.{List, [], ◌∷◌, ◌++◌, map}
 use mathlib.Core.Path.{◌≡◌, refl, sym, ap, ◌∙◌}
 use borrow.Rule.Slice.PartMut.{put_mid}
 use lib.Dec.{eqb}
 use lib.ListN.{length, get_or, take, drop, length-drop, length-map, get_or-map}
-use lib.Seq.{sets, get_or-drop}
-use Rattle.records.specs.Fields.{bytes, field}
+use lib.Seq.{sets}
+use Rattle.records.specs.Fields.{bytes}
 use Rattle.records.specs.Holding.{AllBytes}
-use Rattle.records.proofs.Written.{drop_after, get_or_before, part_rest}
+use Rattle.records.proofs.Written.{drop_after, part_rest}
 use Rattle.records.proofs.Fields.{length-bytes}
 use Rattle.periods.specs.Periods.{Period}
 use Rattle.layout.specs.Images.{Image, row_count, image_of}
 use Rattle.layout.proofs.Images.{length-rows_of}
 use Rattle.states.specs.Limits.{head_bytes, max_periods}
-use Rattle.states.specs.States.{State, state_of, state_bytes, all_at_most}
+use Rattle.states.specs.States.{State, state_of, state_bytes}
 use Rattle.states.specs.Premises.{Answering}
 use Rattle.states.proofs.Refusals.{state_passed}
 use Rattle.states.proofs.Soundness.{Sound, decision≤}
 use Rattle.states.proofs.States.{state_bytes-state_of, read_back, sound_passes, length-state_bytes}
+use Rattle.machine.specs.declared.Decisive.{Decisive}
 use Rattle.machine.specs.Machine.{byte_of, is_true, values_after, outcome_of, blame_of, computed, counted, after_period, after_periods}
-use Rattle.machine.specs.Computing.{first_bits, values_in, trimmed, packed, new_bits, RowValues, with_decision, decided_bytes, Working, Advanced}
+use Rattle.machine.specs.Computing.{first_bits, values_in, trimmed, packed, new_bits, RowValues, decisive_in, with_decision}
 use Rattle.machine.specs.Premises.{Ready}
 use Rattle.machine.proofs.Trimming.{length-first_bits, length-trimmed, put_rest, state_sound, plain, trimmed-bytes, trimmed_state}
-use Rattle.machine.proofs.Computing.{first_bits-packed, packed_small}
+use Rattle.machine.proofs.Computing.{first_bits-packed}
 use Rattle.machine.proofs.Machine.{is_true-byte_of, length-values_after, after_undecided, after_decided, sound-after_periods, periods_after_periods}
 
 -- ---- writes to a state's bytes
@@ -45,13 +46,19 @@ module _ (s : State) where
   unfolding state_bytes bytes
   put_values vs = refl
 
-  put_decision : (sat v1 v2 : Bool) (n : ℕ) → with_decision sat v1 v2 n (state_bytes s)
-      ≡ state_bytes (record { outcome = outcome_of sat v1 v2; blame = blame_of v1 v2; periods = s.periods; decision = cond (sat || v1 || v2) n 0; values = s.values })
+  put_decision : (by : Decisive) (n : ℕ) → with_decision by n (state_bytes s)
+      ≡ state_bytes (record {
+        outcome = outcome_of by.sat by.one by.two;
+        blame = blame_of by.one by.two;
+        periods = s.periods;
+        decision = cond (by.sat || by.one || by.two) n 0;
+        values = s.values;
+      })
   unfolding state_bytes bytes with_decision
-  put_decision sat v1 v2 n = refl
+  put_decision by n = refl
 
   -- what the rows S, V1 and V2 decide, the row values being in the first bits of the state's
-  put_decided : (m : Image) (new : List Bool) → first_bits s.values ≡ map byte_of new → decided_bytes m s.periods (state_bytes s)
+  put_decided : (m : Image) (new : List Bool) → first_bits s.values ≡ map byte_of new → with_decision (decisive_in m (state_bytes s)) s.periods (state_bytes s)
       ≡ state_bytes (record {
         outcome = outcome_of (get_or new m.S false) (get_or new m.V1 false) (get_or new m.V2 false);
         blame = blame_of (get_or new m.V1 false) (get_or new m.V2 false);
@@ -59,14 +66,12 @@ module _ (s : State) where
         decision = cond (get_or new m.S false || get_or new m.V1 false || get_or new m.V2 false) s.periods 0;
         values = s.values;
       })
-  unfolding decided_bytes first_bits
+  unfolding decisive_in values_in
   put_decided m new e =
-      let bit : (j : ℕ) → get_or (state_bytes s) (head_bytes + j) 0 % 2 ≡ get_or (first_bits s.values) j 0 =
-      λ j. ap (λ (v : ℕ). v % 2) (sym (get_or-drop head_bytes (state_bytes s) j 0) ∙ ap (λ (l : List ℕ). get_or l j 0) drop_head)
-      ∙ sym (get_or-map (λ (v : ℕ). v % 2) s.values j 0) in
-      let at : (j : ℕ) → is_true (get_or (state_bytes s) (head_bytes + j) 0 % 2) ≡ get_or new j false =
-      λ j. ap is_true (bit j ∙ ap (λ (l : List ℕ). get_or l j 0) e ∙ get_or-map byte_of new j false) ∙ is_true-byte_of (get_or new j false) in
-      rw (at m.S, at m.V1, at m.V2) (put_decision (get_or new m.S false) (get_or new m.V1 false) (get_or new m.V2 false) s.periods)
+      let at : (j : ℕ) → get_or (values_in (drop head_bytes (state_bytes s))) j false ≡ get_or new j false =
+      λ j. ap (λ (l : List ℕ). get_or (map is_true l) j false) (ap first_bits drop_head ∙ e)
+      ∙ get_or-map is_true (map byte_of new) j 0 ∙ ap is_true (get_or-map byte_of new j false) ∙ is_true-byte_of (get_or new j false) in
+      rw (at m.S, at m.V1, at m.V2) (put_decision (record { sat = get_or new m.S false; one = get_or new m.V1 false; two = get_or new m.V2 false }) s.periods)
 
 -- ---- a period
 
@@ -82,19 +87,15 @@ length-values_in : (l : List ℕ) → length (values_in l) ≡ length l
 unfolding values_in
 length-values_in l = length-map (first_bits l) is_true ∙ length-first_bits l
 
-module _ (image l : List ℕ) (w : Working image l 1) where
+module _ (image l : List ℕ) (w : Ready image (trimmed l) 1) where
   pub working_long : length l ≡ head_bytes + row_count image
-  working_long = sym (length-trimmed l) ∙ (state_passed (row_count image) (trimmed l) w.ready.sound).0
+  working_long = sym (length-trimmed l) ∙ (state_passed (row_count image) (trimmed l) w.sound).0
 
   pub working_state : state_of (trimmed l) ≡ plain (state_of l)
   working_state = trimmed_state l (rw working_long (omega arith))
 
-  room : (state_of l).periods + 1 ≤ max_periods
-  room = rw working_state at w.ready.room
-
-  pub working_room : field l 2 4 + 1 ≤ max_periods
-  unfolding state_of
-  working_room = room
+  pub working_room : (state_of l).periods + 1 ≤ max_periods
+  working_room = rw working_state at w.room
 
   module _ (n : ℕ) where
     -- the bytes with the count raised, and the rows' part of them
@@ -103,10 +104,6 @@ module _ (image l : List ℕ) (w : Working image l 1) where
 
     abbrev rows : List ℕ
     rows = take (length raised - head_bytes) (drop head_bytes raised)
-
-    pub raised_outcome : get_or raised 0 0 ≡ (state_of l).outcome
-    unfolding state_of
-    raised_outcome = get_or_before l 2 (bytes 4 n) 0 0 (omega arith)
 
     raised_rest : drop head_bytes raised ≡ drop head_bytes l
     raised_rest = drop_after l 2 (bytes 4 n) head_bytes (rw length-bytes (omega arith))
@@ -119,17 +116,12 @@ module _ (image l : List ℕ) (w : Working image l 1) where
     unfolding state_of
     long_values = length-drop head_bytes l ∙ rw working_long (omega arith)
 
-    small_values : all_at_most 3 (state_of l).values ≡ true
-    unfolding state_of
-    small_values = w.small
-
     pub row_values : RowValues image rows (eqb (state_of l).periods 0)
     row_values =
-        let s : Sound (row_count image) (plain (state_of l)) = rw working_state at (state_sound (row_count image) (trimmed l) w.ready.sound) in
+        let s : Sound (row_count image) (plain (state_of l)) = rw working_state at (state_sound (row_count image) (trimmed l) w.sound) in
         record {
-          good = w.ready.good;
+          good = w.good;
           long = ap length raised_values ∙ long_values;
-          small = rw raised_values small_values;
           fresh = rw raised_values s.values_sound;
         }
 
@@ -140,17 +132,21 @@ module _ (image l : List ℕ) (w : Working image l 1) where
           let m = (state_of l).periods + 1 in
           rw e (ap (λ (b : List ℕ). sets b 2 (bytes 4 m)) (sym (state_bytes-state_of l a (rw working_long (omega arith)))) ∙ put_periods (state_of l) m)
 
-      pub period_counted : ¬ ((state_of l).outcome ≡ 0) → Advanced image l p raised
+      abbrev Taken : List ℕ → Type 0
+      Taken later = trimmed later ≡ state_bytes (after_period (image_of image) p (state_of (trimmed l)))
+
+      pub period_counted : ¬ ((state_of l).outcome ≡ 0) → Taken raised
       unfolding counted
       period_counted d =
-          record {
-            is = rw (working_state, after_decided (image_of image) p (plain (state_of l)) d) (ap trimmed counts ∙ trimmed-bytes (counted (state_of l)));
-            small = rw raised_rest w.small;
-          }
+          rw (working_state, after_decided (image_of image) p (plain (state_of l)) d) (ap trimmed counts ∙ trimmed-bytes (counted (state_of l)))
+
+      -- the bytes with the rows' new values
+      abbrev now : List ℕ → List ℕ
+      now vs = put_mid head_bytes (length raised - head_bytes) raised vs
 
       pub period_computed : (state_of l).outcome ≡ 0 → (vs : List ℕ)
           → vs ≡ packed (values_in rows) (new_bits image p (eqb (state_of l).periods 0) (first_bits rows))
-          → Advanced image l p (decided_bytes (image_of image) n (put_mid head_bytes (length raised - head_bytes) raised vs))
+          → Taken (with_decision (decisive_in (image_of image) (now vs)) n (now vs))
       unfolding computed counted
       period_computed o vs v =
           let s = state_of l in
@@ -163,12 +159,9 @@ module _ (image l : List ℕ) (w : Working image l 1) where
           let t : State = record { outcome = s.outcome; blame = s.blame; periods = s.periods + 1; decision = s.decision; values = vs } in
           let c = computed m new s in
           let u : State = record { outcome = c.outcome; blame = c.blame; periods = c.periods; decision = c.decision; values = vs } in
-          let d : decided_bytes m n (put_mid head_bytes (length raised - head_bytes) raised vs) ≡ state_bytes u =
+          let d : with_decision (decisive_in m (now vs)) n (now vs) ≡ state_bytes u =
           rw (put_rest head_bytes raised vs, counts, put_values (counted s) vs, e) (put_decided t m new f) in
-          record {
-            is = rw (working_state, after_undecided m p (plain s) o) (ap trimmed d ∙ trimmed-bytes u ∙ rw f refl);
-            small = rw (d, drop_head u, q) (packed_small old new);
-          }
+          rw (working_state, after_undecided m p (plain s) o) (ap trimmed d ∙ trimmed-bytes u ∙ rw f refl)
 
 -- ---- a state that is ready for n periods
 
@@ -216,7 +209,3 @@ pub step_read : (image l : List ℕ) → Ready image l 1 → (p : Period)
     → state_of (state_bytes (after_period (image_of image) p (state_of l))) ≡ after_period (image_of image) p (state_of l)
 unfolding after_periods
 step_read image l h p = later_read image l 1 h (p ∷ []) (omega arith)
-
-pub step_answering : (image l : List ℕ) → Ready image l 1 → (p : Period) → Answering (state_bytes (after_period (image_of image) p (state_of l)))
-unfolding after_periods
-step_answering image l h p = later_answering image l 1 h (p ∷ []) (omega arith)

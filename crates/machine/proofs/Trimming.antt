@@ -11,15 +11,14 @@ use lib.Dec.{leb}
 use lib.ListN.{length, get_or, set, take, drop, length-append, length-drop, length-map, take-append-drop, drop_of_length-le, get_or-append}
 use lib.Seq.{take-append-le, take-take, get_or-take, drop_at, length-take-le}
 use Rattle.records.specs.Fields.{value, bytes, field}
-use Rattle.records.specs.declared.Test.TheVariants.{Passed}
 use Rattle.records.proofs.Written.{part_is, part_rest}
 use Rattle.states.specs.Limits.{head_bytes}
 use Rattle.states.specs.States.{State, state_of, state_bytes, all_at_most}
 use Rattle.states.specs.Refusals.{state_test}
 use Rattle.states.proofs.Refusals.{state_passed}
-use Rattle.states.proofs.Values.{all_at_most-mono}
 use Rattle.states.proofs.Soundness.{Sound, sound_facts, values≤}
 use Rattle.machine.specs.Computing.{first_bits, trimmed}
+use Rattle.records.specs.Refusals.{Passed}
 
 -- ---- a function put to a list's first k elements, one after the other
 
@@ -56,6 +55,10 @@ put_rest n l vs =
     ap (λ (r : List ℕ). take n l ++ (vs ++ r)) (drop_of_length-le (drop n l) {i = length l - n} (simp length-drop (le_refl (length l - n))))
     ∙ ap (λ (r : List ℕ). take n l ++ r) (append-nil vs)
 
+-- the rows' part has a byte for each row
+pub in_rest : (l : List ℕ) {n x : ℕ} → length l ≡ head_bytes + n → x < n → x < length (take (length l - head_bytes) (drop head_bytes l))
+in_rest l e h = rw (part_rest head_bytes l, length-drop) (omega arith)
+
 -- the rows' part with its first bits alone
 pub trimmed_put : (l vs : List ℕ) → vs ≡ first_bits (take (length l - head_bytes) (drop head_bytes l)) → put_mid head_bytes (length l - head_bytes) l vs ≡ trimmed l
 unfolding trimmed
@@ -85,9 +88,6 @@ module _ (n : ℕ) (l : List ℕ) (h : state_test n l ≡ Passed) where
   pub trimmed_plain : trimmed l ≡ l
   unfolding trimmed
   trimmed_plain = rw (first_bits_plain (drop head_bytes l) values_small) (take-append-drop head_bytes l)
-
-  pub plain_small : all_at_most 3 (drop head_bytes l) ≡ true
-  plain_small = all_at_most-mono (drop head_bytes l) (omega arith) values_small
 
 -- ---- the state that bytes stand for
 

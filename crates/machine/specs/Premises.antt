@@ -1,7 +1,6 @@
 -- What the functions of this crate that others call ask of an image and a state, and what one of them gives.
 use Rattle.std.specs.Prelude.{ℕ, ◌+◌, ◌≤◌, Bool, true, ◌&&◌, cond, List, ◌≡◌, eqb}
-use Rattle.records.specs.declared.Test.TheVariants.{Passed}
-use Rattle.records.specs.Refusals.{first_failing}
+use Rattle.records.specs.Refusals.{Passed, first_failing}
 use Rattle.periods.specs.declared.Form.{Form}
 use Rattle.periods.specs.Traces.{periods_of, marked_at}
 use Rattle.layout.specs.Images.{row_count, image_of}

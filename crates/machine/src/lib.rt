@@ -5,59 +5,75 @@ ghost use Rattle.std.specs.Prelude.{◌≡◌, true, false, ◌*◌, ◌<◌, �
 ghost use Rattle.std.proofs.Math.Option;
 ghost use Rattle.periods.specs.Computing.{period_of};
 ghost use Rattle.periods.specs.Traces.{whole_periods, form_of, period_records, trace_periods};
-ghost use Rattle.layout.specs.Rows.{never, row_of};
+ghost use Rattle.layout.specs.Rows.{never};
+ghost use Rattle.layout.specs.Fields.{row_from};
 ghost use Rattle.layout.specs.Images.{image_of};
 ghost use Rattle.states.specs.Limits.{head_bytes};
-ghost use Rattle.states.specs.States.{state_of, state_bytes, all_at_most};
-ghost use Rattle.machine.specs.Machine.{byte_of, value, outcome_of, blame_of, after_periods};
+ghost use Rattle.states.specs.States.{outcome_number, state_of, state_bytes};
+ghost use Rattle.machine.specs.Machine.{value, outcome_of, blame_of, after_period, after_periods};
 ghost use Rattle.machine.specs.Premises.{Ready, takes_next, Takes};
-ghost use Rattle.machine.specs.Computing.{first_bits, values_in, trimmed, packed, old_in, new_bits, KindRow, NextRow, RowValues, HasRows, with_decision, decided_bytes, Working, Advanced};
+ghost use Rattle.machine.specs.Computing.{first_bits, values_in, trimmed, packed, old_in, new_bits, GoodFields, NextRow, RowValues, HasRows, decisive_in, with_decision};
 
+use layout::{EndFields, RowFields, RowKind};
 use periods::{Attempts, Form};
+use records::Field;
+use states::{Outcome, StateHead};
 
 // The bytes of the longest state.
 pub const STATE_BYTES: usize = states::HEAD_BYTES + layout::MAX_ROWS;
 
-// What row x was in the period before, where the first k rows have new values.
-fn old_value(values: &[u8], k: usize, x: usize) -> u8
-    requires { (x < length values.now) × (all_at_most 3 values.now ≡ true) }
-    ensures { result ≡ byte_of (get_or (old_in k values.now) x false) }
+// Row x's new value, which is in the first bit of its byte.
+#[tactic(auto, using(crate::proofs::RowKinds::new_is))]
+fn new_value(values: &[u8], x: usize) -> bool
+    requires { x < length values.now }
+    ensures { result ≡ get_or (values_in values.now) x false }
 {
-    if x < k { values[x] / 2 } else { values[x] % 2 }
+    values[x] % 2 == 1
 }
 
-// The value of row k with this kind and these fields, as 0 or 1.
-fn kind_value(values: &[u8], k: usize, kind: u8, x: u32, y: u32, a: Attempts, first: bool) -> u8
-    requires { KindRow k values.now kind x y first }
-    ensures { result ≡ byte_of (value first (period_of a) (old_in k values.now) (values_in values.now) (Option.get_or (row_of kind x y) never)) }
+// What row x was in the period before, where the first k rows have new values.
+#[tactic(auto, using(crate::proofs::RowKinds::old_below, crate::proofs::RowKinds::old_above))]
+fn old_value(values: &[u8], k: usize, x: usize) -> bool
+    requires { x < length values.now }
+    ensures { result ≡ get_or (old_in k values.now) x false }
 {
-    match kind {
-        0 => 0,
-        1 => first as u8,
-        2 => periods::tried(a, x, y) as u8,
-        3 => 1 - (values[x as usize] & 1),
-        4 => (values[x as usize] & 1) & (values[y as usize] & 1),
-        5 => (values[x as usize] & 1) | (values[y as usize] & 1),
-        // A good row has no kind above 6.
-        6..=255 => old_value(values, k, x as usize),
+    if x < k {
+        values[x] / 2 % 2 == 1
+    } else {
+        values[x] % 2 == 1
     }
 }
 
-// Row k's value as 0 or 1. Of the row values, those of the lower rows hold new + 2 × old, the others their value in the first bit.
-fn row_value(image: &[u8], values: &[u8], k: usize, a: Attempts, first: bool) -> u8
-    requires { NextRow image.now values.now k first }
-    ensures { result ≡ byte_of (value first (period_of a) (old_in k values.now) (values_in values.now) (get_or (image_of image.now).rows k never)) }
+// The value of a good row k.
+#[tactic(auto, using(crate::proofs::RowKinds::value_by_kind, crate::proofs::RowKinds::old_by_now))]
+fn value_of(row: RowFields, values: &[u8], k: usize, a: Attempts, first: bool) -> bool
+    requires { GoodFields k values.now row first }
+    ensures { result ≡ value first (period_of a) (old_in k values.now) (values_in values.now) (Option.get_or (row_from row) never) }
 {
-    let at = layout::ROW_BYTES * k;
-    kind_value(
-        values,
-        k,
-        image[at + 2],
-        records::get2(image, at + 4),
-        records::get2(image, at + 6),
-        a,
-        first,
-    )
+    let x = row.x as usize;
+    let y = row.y as usize;
+    match row.kind {
+        RowKind::Never => false,
+        RowKind::Initial => first,
+        RowKind::Attempt => periods::tried(a, row.x, row.y),
+        RowKind::Not => !new_value(values, x),
+        // `&` and `|` take no branch.
+        RowKind::And => new_value(values, x) & new_value(values, y),
+        RowKind::Or => new_value(values, x) | new_value(values, y),
+        RowKind::Previous => old_value(values, k, x),
+    }
+}
+
+// Row k's value. Of the row values, those of the lower rows hold new + 2 × old, the others their value in the first bit.
+#[tactic(auto, using(layout::proofs::Images::row_fits, layout::proofs::Images::row_held, layout::proofs::Images::row_good))]
+fn row_value(image: &[u8], values: &[u8], k: usize, a: Attempts, first: bool) -> bool
+    requires { NextRow image.now values.now k first }
+    ensures { result ≡ value first (period_of a) (old_in k values.now) (values_in values.now) (get_or (image_of image.now).rows k never) }
+{
+    let Some(row) = RowFields::get(image, layout::ROW_BYTES * k) else {
+        unreachable!();
+    };
+    value_of(row, values, k, a, first)
 }
 
 // Gives every row its new value, in order, beside the old one.
@@ -65,10 +81,8 @@ fn compute(image: &[u8], values: &mut [u8], a: Attempts, first: bool)
     requires { RowValues image.now values.old first }
     ensures { values.new ≡ packed (values_in values.old) (new_bits image.now (period_of a) first (first_bits values.old)) }
 {
-    let mut k = 0;
-    while k < values.len() {
-        values[k] = 2 * (values[k] & 1) + row_value(image, values, k, a, first);
-        k += 1;
+    for k in 0..values.len() {
+        values[k] = 2 * (values[k] % 2) + row_value(image, values, k, a, first) as u8;
     }
 }
 
@@ -76,10 +90,8 @@ fn compute(image: &[u8], values: &mut [u8], a: Attempts, first: bool)
 fn keep_first(values: &mut [u8])
     ensures { values.new ≡ first_bits values.old }
 {
-    let mut k = 0;
-    while k < values.len() {
-        values[k] = values[k] % 2;
-        k += 1;
+    for value in values.iter_mut() {
+        *value %= 2;
     }
 }
 
@@ -91,109 +103,100 @@ fn trim(state: &mut [u8])
     keep_first(&mut state[states::HEAD_BYTES..]);
 }
 
-// The outcome that the values of S, V1 and V2 give.
-fn outcome(sat: bool, v1: bool, v2: bool) -> u8
-    ensures { result ≡ outcome_of sat v1 v2 }
-{
-    if v1 {
-        return 2;
-    }
-    if v2 {
-        return 2;
-    }
-    sat as u8
+// The values of S, V1 and V2.
+#[derive(Clone, Copy)]
+struct Decisive {
+    sat: bool,
+    one: bool,
+    two: bool,
 }
 
-// The blame that the values of V1 and V2 give.
-fn blame(v1: bool, v2: bool) -> u8
-    ensures { result ≡ blame_of v1 v2 }
-{
-    v1 as u8 + 2 * (v2 as u8)
+impl Decisive {
+    // Those that the state holds.
+    fn read(image: &[u8], state: &[u8]) -> Decisive
+        requires { HasRows image.now state.now }
+        ensures { result ≡ decisive_in (image_of image.now) state.now }
+    {
+        let end = EndFields::get(image, image.len() - layout::ROW_BYTES);
+        let values = &state[states::HEAD_BYTES..];
+        Decisive {
+            sat: new_value(values, end.sat as usize),
+            one: new_value(values, end.one as usize),
+            two: new_value(values, end.two as usize),
+        }
+    }
+
+    fn outcome(self) -> Outcome
+        ensures { outcome_number result ≡ outcome_of self.sat self.one self.two }
+    {
+        if self.one || self.two {
+            Outcome::Violated
+        } else if self.sat {
+            Outcome::Satisfied
+        } else {
+            Outcome::Undecided
+        }
+    }
+
+    fn blame(self) -> u8
+        ensures { result ≡ blame_of self.one self.two }
+    {
+        self.one as u8 + 2 * (self.two as u8)
+    }
 }
 
-// Writes outcome, blame and decision period as the values of S, V1 and V2 give them in a period.
-fn put_decision(state: &mut [u8], sat: bool, v1: bool, v2: bool, period: u32)
+// Writes outcome, blame and decision period as these values give them in a period.
+#[tactic(auto, using(crate::proofs::Deciding::decision_none, crate::proofs::Deciding::decision_some), unfolding(crate::specs::Computing::with_decision))]
+fn put_decision(state: &mut [u8], by: Decisive, period: u32)
     requires { head_bytes ≤ length state.old }
-    ensures { state.new ≡ with_decision sat v1 v2 period state.old }
+    ensures { state.new ≡ with_decision by period state.old }
 {
-    let o = outcome(sat, v1, v2);
-    state[0] = o;
-    state[1] = blame(v1, v2);
-    if o == 0 {
-        records::put4(state, 6, 0);
-    } else {
-        records::put4(state, 6, period);
-    }
-}
-
-// Decides in a period whose row values the state holds.
-fn decide(image: &[u8], state: &mut [u8], period: u32)
-    requires { HasRows image.now state.old }
-    ensures { state.new ≡ decided_bytes (image_of image.now) period state.old }
-{
-    let end = image.len() - layout::ROW_BYTES;
-    let sat = state[states::HEAD_BYTES + records::get2(image, end + 2) as usize] % 2 == 1;
-    let v1 = state[states::HEAD_BYTES + records::get2(image, end + 4) as usize] % 2 == 1;
-    let v2 = state[states::HEAD_BYTES + records::get2(image, end + 6) as usize] % 2 == 1;
-    put_decision(state, sat, v1, v2, period);
+    let outcome = by.outcome();
+    state[0] = outcome as u8;
+    state[1] = by.blame();
+    let decision = match outcome {
+        Outcome::Undecided => 0,
+        Outcome::Satisfied | Outcome::Violated => period,
+    };
+    decision.put(state, 6);
 }
 
 // One period: the row machine on both parties' attempts. It leaves older values in second bits, so that the next period needs no pass before it.
 fn advance(image: &[u8], state: &mut [u8], a: Attempts)
-    requires { Working image.now state.old 1 }
-    ensures { Advanced image.now state.old (period_of a) state.new }
+    requires { Ready image.now (trimmed state.old) 1 }
+    ensures { trimmed state.new ≡ state_bytes (after_period (image_of image.now) (period_of a) (state_of (trimmed state.old))) }
 {
-    let taken = records::get4(state, 2);
-    records::put4(state, 2, taken + 1);
-    if state[0] == 0 {
-        compute(image, &mut state[states::HEAD_BYTES..], a, taken == 0);
-        decide(image, state, taken + 1);
+    let head = StateHead::read(state);
+    (head.periods + 1).put(state, 2);
+    if head.is_undecided() {
+        compute(
+            image,
+            &mut state[states::HEAD_BYTES..],
+            a,
+            head.periods == 0,
+        );
+        put_decision(state, Decisive::read(image, state), head.periods + 1);
     }
 }
 
-// Whether the state takes record k, counted in records of a form, next: always or, where the taking stops, if it is undecided and the
-// record has the form's mark.
-fn takes_next(state: &[u8], form: Form, trace: &[u8], k: usize, stops: bool) -> bool
+// Whether the state takes record k, counted in records of a form, next: where it is undecided and the record has the form's mark.
+fn takes_next(state: &[u8], form: Form, trace: &[u8], k: usize) -> bool
     requires { (head_bytes ≤ length state.now) × (k < whole_periods form trace.now) }
-    ensures { result ≡ takes_next stops (get_or state.now 0 0) form trace.now k }
+    ensures { result ≡ takes_next true (get_or state.now 0 0) form trace.now k }
 {
-    if !stops {
-        return true;
-    }
-    if state[0] != 0 {
-        return false;
-    }
-    periods::is_marked(form, trace, k)
+    state[0] == Outcome::Undecided as u8 && periods::is_marked(form, trace, k)
 }
 
-// The periods of the first n records, counted in records of a form, one after the other, as far as they are to be taken. Gives how
-// many were.
-fn take_records(
-    image: &[u8],
-    state: &mut [u8],
-    form: Form,
-    trace: &[u8],
-    n: usize,
-    stops: bool,
-) -> usize
-    requires { Ready image.now state.old n × (n ≤ whole_periods form trace.now) }
-    ensures { Takes stops image.now state.old form trace.now n state.new result }
-{
-    let mut k = 0;
-    while k < n && takes_next(state, form, trace, k, stops) {
-        advance(image, state, periods::read_period(form, trace, k));
-        k += 1;
-    }
-    trim(state);
-    k
-}
-
-// The periods of a trace's first n records.
+// The periods of a trace's first n records: a loop without a test, which one loop for both would make in each period.
 pub fn take_periods(image: &[u8], state: &mut [u8], trace: &[u8], n: usize)
     requires { Ready image.now state.old n × (n ≤ period_records trace.now) }
     ensures { state.new ≡ state_bytes (after_periods (image_of image.now) (state_of state.old) (trace_periods trace.now n)) }
 {
-    take_records(image, state, periods::form_of(trace), trace, n, false);
+    let form = periods::form_of(trace);
+    for k in 0..n {
+        advance(image, state, periods::read_period(form, trace, k));
+    }
+    trim(state);
 }
 
 // The periods of a trace's records, one after the other, as long as the state is undecided and the next of the first n records has
@@ -202,5 +205,15 @@ pub fn take_while_undecided(image: &[u8], state: &mut [u8], trace: &[u8], n: usi
     requires { Ready image.now state.old n × (n ≤ period_records trace.now) }
     ensures { Takes true image.now state.old (form_of trace.now) trace.now n state.new result }
 {
-    take_records(image, state, periods::form_of(trace), trace, n, true)
+    let form = periods::form_of(trace);
+    for k in 0..n {
+        if !takes_next(state, form, trace, k) {
+            trim(state);
+            return k;
+        }
+        let attempts = periods::read_period(form, trace, k);
+        advance(image, state, attempts);
+    }
+    trim(state);
+    n
 }

@@ -8,7 +8,6 @@ use lib.ListN.{length, take, drop}
 use lib.Seq.{length-take-le, get_or-take, take_all, take-take}
 use Rattle.records.specs.Fields.{field, value}
 use Rattle.records.specs.Marks.{marked}
-use Rattle.records.specs.declared.Test.TheVariants.{Passed}
 use Rattle.records.proofs.Cases.{lt_or_le}
 use Rattle.records.proofs.Written.{part_is}
 use Rattle.periods.specs.declared.Form.{Form}
@@ -17,6 +16,7 @@ use Rattle.periods.specs.Periods.{period_from}
 use Rattle.periods.specs.Traces.{whole_periods, first_records, period_at, periods_of, marked_at, form_of, period_records, trace_periods, start_test}
 use Rattle.periods.proofs.Forms.{mark_inside, some_marked, no_bytes, records-inside, next_inside, k_whole, has_whole, either_take, form_take}
 use Rattle.periods.proofs.Traces.{start_mark, start_whole}
+use Rattle.records.specs.Refusals.{Passed}
 
 -- a field that stands in a list's first m bytes
 field-take : (m : ℕ) (l : List ℕ) (at w : ℕ) → at + w ≤ m → field (take m l) at w ≡ field l at w

@@ -2,13 +2,15 @@
 use Prim.Native.Nat.{ℕ, ◌+◌, ◌*◌, ◌%◌, ◌^◌, ◌≤◌, ◌<◌}
 use native.Mathlib.Nat.{mul-add, mul-one, mul-zero}
 use native.Mathlib.Omega.{arith}
-use mathlib.Core.Bool.{Bool, true, false, ◌||◌, and-false, or-true, or-false, cond}
+use mathlib.Core.Bool.{Bool, true, false, ◌||◌, or-true, or-false, cond}
 use mathlib.Core.List.{List, [], ◌∷◌}
 use mathlib.Core.Path.{◌≡◌, refl, sym, ◌∙◌}
 use lib.Dec.{eqb}
 use lib.ListN.{length, take}
 use lib.Seq.{get_or-take}
-use Rattle.records.specs.Marks.{marked}
+use Rattle.std.proofs.lemmas.Bool.Decides.{nat_tests}
+use Rattle.std.specs.List.{starts_with}
+use Rattle.records.specs.Marks.{wide_mark, marked}
 use Rattle.records.proofs.Marks.{same_marked}
 use Rattle.periods.specs.declared.Form.{Form}
 use Rattle.periods.specs.declared.Form.TheVariants.{Narrow, Wide}
@@ -104,9 +106,9 @@ pub form_take : (m : ℕ) (l : List ℕ) → 2 ≤ m → form_of (take m l) ≡ 
 unfolding form_of marked
 form_take m l h = rw (get_or-take m l 0 0 (omega arith), get_or-take m l 1 0 (omega arith))
 
--- a byte alone, or none, is no mark
-pub form_short : (l : List ℕ) → length l < 2 → form_of l ≡ Narrow
-unfolding form_of marked
-form_short [] h = refl
-form_short (b ∷ []) h = rw (and-false (eqb b 0x54))
-form_short (b ∷ c ∷ l) h = absurd (omega arith)
+-- bytes that begin with the wide one's mark have it; a byte alone, or none, is no mark
+pub starts_wide : (l : List ℕ) → starts_with eqb l wide_mark ≡ marked l 0 wide_mark
+unfolding marked
+starts_wide [] = refl
+starts_wide (b ∷ []) = grind (arith, nat_tests)
+starts_wide (b ∷ c ∷ l) = grind (arith, nat_tests)

@@ -11,7 +11,6 @@ use lib.ListN.{length, drop, length-append}
 use lib.Seq.{take_at, drop_at, drop-drop}
 use Rattle.records.specs.Fields.{bytes, field}
 use Rattle.records.specs.Marks.{marked}
-use Rattle.records.specs.declared.Test.TheVariants.{Passed}
 use Rattle.records.proofs.Cases.{lt_or_le}
 use Rattle.records.proofs.Fields.{length-bytes, field-drop}
 use Rattle.records.proofs.Marks.{marked-drop}
@@ -24,6 +23,7 @@ use Rattle.periods.specs.Traces.{record_at, period_at, periods_of, marked_at, fo
 use Rattle.periods.specs.Making.{record_of, records_of}
 use Rattle.periods.proofs.Forms.{no_bytes, k_whole, form_marked, either_own}
 use Rattle.periods.proofs.Traces.{start_whole, trace_passes, record_passes}
+use Rattle.records.specs.Refusals.{Passed}
 
 -- a period's masks have room in a form's record
 pub record Fits (f : Form) (x : Period) : Type 0 where

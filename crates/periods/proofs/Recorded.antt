@@ -11,13 +11,15 @@ use Rattle.records.specs.Fields.{bytes, field, value}
 use Rattle.records.specs.Marks.{marked}
 use Rattle.records.specs.Holding.{AllBytes}
 use Rattle.records.proofs.Fields.{all_below_cons, all_bytes_bytes, value_bytes}
-use Rattle.records.specs.declared.Test.TheVariants.{Passed}
 use Rattle.periods.specs.declared.Form.TheVariants.{Wide}
 use Rattle.periods.specs.Forms.{either_mark}
 use Rattle.periods.specs.Limits.{actions}
-use Rattle.periods.specs.Periods.{Party, party1, party2, Period, bit, tries, period_from}
+use Rattle.periods.specs.declared.Party.{Party}
+use Rattle.periods.specs.declared.Party.TheVariants.{One as party1, Two as party2}
+use Rattle.periods.specs.Periods.{Period, bit, tries, period_from}
 use Rattle.periods.specs.Traces.{period_at, form_of, form_test, period_in, period_test}
 use Rattle.periods.specs.Making.{record_of}
+use Rattle.records.specs.Refusals.{Passed}
 
 -- some record holds this period
 pub record Recorded (x : Period) : Type 0 where

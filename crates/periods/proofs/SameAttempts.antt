@@ -5,7 +5,6 @@ use mathlib.Core.Path.{◌≡◌, sym, ap, ◌∙◌}
 use lib.ListN.{length, take}
 use lib.Seq.{take_at}
 use Rattle.records.specs.Holding.{AllBytes}
-use Rattle.records.specs.declared.Test.TheVariants.{Passed}
 use Rattle.records.proofs.Fields.{field_lt}
 use Rattle.periods.specs.declared.Form.{Form}
 use Rattle.periods.specs.declared.Form.TheVariants.{Wide}
@@ -17,6 +16,7 @@ use Rattle.periods.specs.SameAttempts.{in_wide, SameAttempts}
 use Rattle.periods.proofs.Forms.{wider}
 use Rattle.periods.proofs.Traces.{length-periods_of, periods_split}
 use Rattle.periods.proofs.Making.{Fits, AllFit, all_fit_more, made_passes, made_in, wide_count, wide_starts, wide_periods}
+use Rattle.records.specs.Refusals.{Passed}
 
 -- ---- the first of the same periods
 

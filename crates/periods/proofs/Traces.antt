@@ -15,8 +15,7 @@ use Rattle.records.specs.Fields.{field, value}
 use Rattle.records.specs.Marks.{marked}
 use Rattle.records.specs.declared.Fault.{Fault}
 use Rattle.records.specs.declared.Fault.TheVariants.{BadPeriod}
-use Rattle.records.specs.declared.Test.TheVariants.{Passed, Refused}
-use Rattle.records.specs.Refusals.{require, first_of, first_failing}
+use Rattle.records.specs.Refusals.{Passed, Refused, require, first_of, first_failing}
 use Rattle.records.proofs.Cases.{lt_or_le}
 use Rattle.records.proofs.Written.{drop-take}
 use Rattle.records.proofs.Searches.{all_pass, all_passed, failing_is}

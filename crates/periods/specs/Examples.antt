@@ -5,7 +5,8 @@ use Rattle.records.specs.Examples.{number_and_place}
 use Rattle.periods.specs.declared.Form.TheVariants.{Narrow, Wide}
 use Rattle.periods.specs.Limits.{actions}
 use Rattle.periods.specs.Forms.{form_mark, mask_bytes, period_bytes, either_mark}
-use Rattle.periods.specs.Periods.{party1, party2, party_number, party_of, other, Period, tries, succeeds}
+use Rattle.periods.specs.declared.Party.TheVariants.{One as party1, Two as party2}
+use Rattle.periods.specs.Periods.{party_number, party_of, other, Period, tries, succeeds}
 use Rattle.periods.specs.Traces.{record_at, first_records, marks_test, form_of, period_records, trace_periods, form_test, start_test, trace_test, period_in, period_test}
 use Rattle.periods.specs.Making.{record_of, records_of}
 

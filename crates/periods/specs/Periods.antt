@@ -1,13 +1,12 @@
 -- Parties, periods and what is tried in them. Document 01, "Records", the period record; document 02, "Thirty-two actions".
-use Rattle.std.specs.Prelude.{ℕ, ◌+◌, ◌/◌, ◌%◌, ◌^◌, Bool, ◌&&◌, cond, List, eqb}
+use Rattle.std.specs.Prelude.{ℕ, ◌+◌, ◌/◌, ◌%◌, ◌^◌, Bool, ◌&&◌, cond, List, eqb, ◌≡◌, Result, MatchResult}
 use Rattle.std.proofs.Math.Option.{Option, none, some}
 use Rattle.records.specs.Fields.{field}
 use Rattle.periods.specs.declared.Form.{Form}
+use Rattle.periods.specs.declared.NoParty.{NoParty}
+use Rattle.periods.specs.declared.Party.{Party}
+use Rattle.periods.specs.declared.Party.TheVariants.{One as party1, Two as party2}
 use Rattle.periods.specs.Forms.{mask_bytes}
-
--- the two parties to a contract
-pub data Party : Type 0 where
-  party1 party2 : Party
 
 -- a party's number in records: 1 or 2
 abbrev pub party_number : Party → ℕ
@@ -17,6 +16,10 @@ party_number party2 = 2
 -- the party of a number in records, if it is one
 abbrev pub party_of : ℕ → Option Party
 party_of n = cond (eqb n 1) (some party1) (cond (eqb n 2) (some party2) none)
+
+-- what a number is read as: its party, or that it is none's
+abbrev pub Numbers : ℕ → Result Party NoParty → Type 0
+Numbers n r = MatchResult r (λ p. party_number p ≡ n) (λ _. party_of n ≡ none)
 
 -- p is the record's party, q the other
 abbrev pub other : Party → Party

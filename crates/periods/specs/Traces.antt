@@ -3,8 +3,7 @@
 use Rattle.std.specs.Prelude.{ℕ, zero, suc, ◌*◌, ◌/◌, ◌%◌, Bool, not, ◌||◌, cond, List, [], ◌∷◌, ◌++◌, eqb, length, take, drop}
 use Rattle.records.specs.Marks.{marked}
 use Rattle.records.specs.declared.Fault.TheVariants.{BadPeriod}
-use Rattle.records.specs.declared.Test.{Test}
-use Rattle.records.specs.Refusals.{require, first_of, first_failing}
+use Rattle.records.specs.Refusals.{Test, require, first_of, first_failing}
 use Rattle.periods.specs.declared.Form.{Form}
 use Rattle.periods.specs.declared.Form.TheVariants.{Narrow, Wide}
 use Rattle.periods.specs.Forms.{form_mark, period_bytes, either_mark}

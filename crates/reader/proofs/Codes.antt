@@ -3,34 +3,39 @@ use Prim.Native.Nat.{ℕ, ◌+◌, ◌≤◌}
 use native.Mathlib.Nat.{zero-add}
 use native.Mathlib.Numerals.{add-one}
 use native.Mathlib.Omega.{arith}
-use mathlib.Core.Path.{◌≡◌, refl, sym, ◌∙◌, subst}
-use mathlib.Core.Bool.{Bool, true, false, ◌&&◌, not, cond, and-true, and-false}
+use mathlib.Core.Path.{◌≡◌, refl, sym, ap, ◌∙◌, subst}
+use mathlib.Core.Bool.{Bool, true, false, ◌&&◌, not, and-true, and-false}
 use mathlib.Core.List.{List, [], ◌∷◌, map}
 use mathlib.Core.Option.{Option, none, some}
 use lib.Dec.{eqb, leb}
-use lib.ListN.{length, drop, get_or}
+use lib.ListN.{length, drop}
 use lib.Seq.{drop-drop, get_or-drop}
 use borrow.Author.Tests.{ne_eqb, leb-true}
 use Rattle.records.specs.Marks.{contract_mark, marked}
 use Rattle.records.proofs.Marks.{marked-drop}
 use Rattle.contract.specs.Expressions.{holds_empty}
 use Rattle.records.specs.declared.Fault.{Fault}
-use Rattle.records.specs.Refusals.{require}
+use Rattle.records.specs.declared.Refusal.{Refusal}
+use Rattle.records.specs.Refusals.{Test, require}
 use Rattle.records.specs.declared.Fault.TheVariants.{BadMark, UnknownKind, BadField, BadOperands, NotOneClause, EmptyList}
-use Rattle.reader.specs.declared.Lookup.TheVariants.{Found}
+use Rattle.std.specs.Prelude.{Ok, Err}
+use Rattle.std.specs.Prelude.{Result as Outcome}
 use Rattle.reader.specs.declared.Step.{Step}
-use Rattle.reader.specs.declared.Step.TheVariants.{Refused, Completed}
-use Rattle.grammar.specs.Table.{Sort, clause, expression, Kind, kind_of, line, duty, ban, power, both, then, repair, repeat, when, until, deadline, any, tries, idle, succeeds, fails, seq, or, star}
+use Rattle.grammar.specs.declared.Sort.{Sort}
+use Rattle.grammar.specs.declared.Kind.{Kind}
+use Rattle.grammar.specs.declared.Sort.TheVariants.{Clause as clause, Expression as expression}
+use Rattle.grammar.specs.declared.Kind.TheVariants.{Duty as duty, Ban as ban, Power as power, Both as both, Then as then, Repair as repair, Repeat as repeat, When as when, Until as until, Deadline as deadline, Any as any, Tries as tries, Idle as idle, Succeeds as succeeds, Fails as fails, Seq as seq, Or as or, Star as star}
+use Rattle.grammar.specs.Table.{kind_of, line}
 use Rattle.grammar.specs.Trees.{Trees, Fields, good_fields, node}
 use Rattle.grammar.specs.Reader.{Result, refused, taken, provided, demand, kind_at, fields_at, Operand, operand, one_more, below, operands_of, holds_empty_under, push, read_record, just_one, test_of}
-use Rattle.reader.specs.Codes.{sort_number, entry_of, lookup_of, operand_count, in_ranges, empty_code, expression_code, code_of, code_at, sort_of, good_operands, empty_under, completed, step_found, step_of}
-use Rattle.grammar.proofs.Table.{number_kind, of_all}
+use Rattle.reader.specs.Codes.{sort_number, operands_in, count_of, entry_of, operand_count, in_ranges, empty_code, expression_code, code_of, code_at, has_sort, good_operands, empty_under, completed, then_step, step_found, step_of}
+use Rattle.grammar.proofs.Table.{of_all}
 use Rattle.grammar.proofs.Nodes.{onto, onto_operands}
 
 -- ---- 4: the fields
 
 same_ranges : (K : Kind) (f : Fields) → in_ranges (entry_of K) f ≡ good_fields (line K) f
-unfolding in_ranges good_fields
+unfolding good_fields
 same_ranges K f = refl
 
 -- ---- 5: the operands
@@ -46,35 +51,41 @@ pub operand_count-max : (o : Option Kind) → operand_count o ≤ 2
 operand_count-max none = omega arith
 operand_count-max (some K) = few_operands K
 
-sort_of_expression : (empty : Bool) → sort_of (expression_code empty) ≡ sort_number expression
-sort_of_expression true = refl
-sort_of_expression false = refl
+counted : (ss : List Sort) → length ss ≤ 2 → count_of (operands_in ss) ≡ length ss
+counted [] h = refl
+counted (s ∷ []) h = refl
+counted (s ∷ s' ∷ []) h = refl
+counted (s ∷ s' ∷ s'' ∷ ss) h = absurd (omega arith)
 
--- the code is one of an operand of this sort
-abbrev is_sort : ℕ → Sort → Bool
-is_sort c s = eqb (sort_of c) (sort_number s)
+not_of_clause : (empty : Bool) → has_sort (expression_code empty) clause ≡ false
+not_of_clause true = refl
+not_of_clause false = refl
 
-one_present : (s : Sort) (ss : List Sort) (ts : Trees ss) (st : List Operand) → is_sort (code_at st 0) s ≡ present (one_more s {ss = ss} ts st)
+of_expression : (empty : Bool) → has_sort (expression_code empty) expression ≡ true
+of_expression true = refl
+of_expression false = refl
+
+one_present : (s : Sort) (ss : List Sort) (ts : Trees ss) (st : List Operand) → has_sort (code_at st 0) s ≡ present (one_more s {ss = ss} ts st)
 one_present clause ss ts [] = refl
 one_present expression ss ts [] = refl
 one_present clause ss ts (operand clause c ∷ st) = refl
-one_present clause ss ts (operand expression e ∷ st) = rw (sort_of_expression (holds_empty e))
+one_present clause ss ts (operand expression e ∷ st) = not_of_clause (holds_empty e)
 one_present expression ss ts (operand clause c ∷ st) = refl
-one_present expression ss ts (operand expression e ∷ st) = rw (sort_of_expression (holds_empty e))
+one_present expression ss ts (operand expression e ∷ st) = of_expression (holds_empty e)
 
 two_present : (s s' : Sort) (st : List Operand)
-    → (is_sort (code_at st 1) s && is_sort (code_at st 0) s') ≡ present (below s (one_more s' {ss = []} tt st))
-two_present s clause [] = and-false (is_sort 0 s)
-two_present s expression [] = and-false (is_sort 0 s)
+    → (has_sort (code_at st 1) s && has_sort (code_at st 0) s') ≡ present (below s (one_more s' {ss = []} tt st))
+two_present s clause [] = and-false (has_sort 0 s)
+two_present s expression [] = and-false (has_sort 0 s)
 two_present s clause (operand clause c ∷ st) = and-true _ ∙ one_present s (clause ∷ []) (c, tt) st
-two_present s clause (operand expression e ∷ st) = rw (sort_of_expression (holds_empty e)) (and-false (is_sort (code_at st 0) s))
-two_present s expression (operand clause c ∷ st) = and-false (is_sort (code_at st 0) s)
+two_present s clause (operand expression e ∷ st) = ap (λ t. has_sort (code_at st 0) s && t) (not_of_clause (holds_empty e)) ∙ and-false (has_sort (code_at st 0) s)
+two_present s expression (operand clause c ∷ st) = and-false (has_sort (code_at st 0) s)
 two_present s expression (operand expression e ∷ st) =
-    rw (sort_of_expression (holds_empty e)) (and-true _ ∙ one_present s (expression ∷ []) (e, tt) st)
+    ap (λ t. has_sort (code_at st 0) s && t) (of_expression (holds_empty e)) ∙ and-true _ ∙ one_present s (expression ∷ []) (e, tt) st
 
 operands_present : (ss : List Sort) (st : List Operand) → length ss ≤ 2
-    → good_operands (length ss) (get_or (map sort_number ss) 0 0) (get_or (map sort_number ss) 1 0) (code_at st 1) (code_at st 0) ≡ present (operands_of ss st)
-unfolding good_operands operands_of
+    → good_operands (operands_in ss) (code_at st 1) (code_at st 0) ≡ present (operands_of ss st)
+unfolding operands_of
 operands_present [] st h = refl
 operands_present (s ∷ []) st h = one_present s [] tt st
 operands_present (s ∷ s' ∷ []) st h = two_present s s' st
@@ -98,11 +109,11 @@ is_empty false = refl
 
 -- the codes on a stack tell of the tree that a record makes of its operands whether it fails 7, and its code
 record Told (K : Kind) (f : Fields) (ts : Trees (line K).operands) (st : List Operand) : Type 0 where
-  empty : empty_under (line K).number (code_at st 1) (code_at st 0) ≡ holds_empty_under (line K).completes (node K f ts)
+  empty : empty_under K (code_at st 1) (code_at st 0) ≡ holds_empty_under (line K).completes (node K f ts)
   code : completed (line K).number (code_at st 1) (code_at st 0) ≡ code_of (operand (line K).completes (node K f ts))
 
 told : (K : Kind) (f : Fields) (ts : Trees (line K).operands) (st : List Operand) → Told K f ts (onto (line K).operands ts st)
-unfolding empty_under completed node holds_empty
+unfolding completed node holds_empty
 told duty f ts st = record { empty = refl; code = refl }
 told ban f ts st = record { empty = refl; code = refl }
 told power f ts st = record { empty = refl; code = refl }
@@ -135,44 +146,38 @@ pub record Replaced (st : List Operand) (r : Result (List Operand)) (m c : ℕ) 
 abbrev pub Pushed : (k : ℕ) (st : List Operand) (l : List ℕ) (m c : ℕ) → Type 0
 Pushed k st l m c = Replaced st (read_record k st l) m c
 
--- a result on trees at record k is that of a step on codes
-abbrev Agrees : ℕ → List Operand → Result (List Operand) → Step → Type 0
-Agrees k st r (Refused f) = r ≡ refused f k
-Agrees k st r (Completed m c) = Replaced st r m c
+-- a result on trees is that of a step on codes
+abbrev Agrees : List Operand → Result (List Operand) → Outcome Step Refusal → Type 0
+Agrees st r (Err e) = r ≡ refused e.fault e.place
+Agrees st r (Ok s) = Replaced st r s.operands s.code
 
 module _ (k : ℕ) (st : List Operand) where
-  agrees_require : (ok : Bool) (f : Fault) (r : Result (List Operand)) (s : Step) → Agrees k st r s
-      → Agrees k st (provided (require ok f k) r) (cond ok s (Refused f))
-  agrees_require true f r s h = h
-  agrees_require false f r s h = refl
+  agrees_test : (t : Test) (r : Result (List Operand)) (s : Outcome Step Refusal) → Agrees st r s → Agrees st (provided t r) (then_step t s)
+  agrees_test (Ok u) r s h = h
+  agrees_test (Err e) r s h = refl
 
-  agrees_unless : (t : Bool) (f : Fault) (r : Result (List Operand)) (s : Step) → Agrees k st r s
-      → Agrees k st (provided (require (not t) f k) r) (cond t (Refused f) s)
-  agrees_unless true f r s h = refl
-  agrees_unless false f r s h = h
-
-  agrees_demand : {A : Type 0} (o : Option A) (f : Fault) (g : A → Result (List Operand)) (s : Step)
-      → ((x : A) → o ≡ some x → Agrees k st (g x) s) → Agrees k st (demand o f k g) (cond (present o) s (Refused f))
+  agrees_demand : {A : Type 0} (o : Option A) (f : Fault) (g : A → Result (List Operand)) (s : Outcome Step Refusal)
+      → ((x : A) → o ≡ some x → Agrees st (g x) s) → Agrees st (demand o f k g) (then_step (require (present o) f k) s)
   agrees_demand none f g s each = refl
   agrees_demand (some x) f g s each = each x refl
 
-  agrees_kind : (o : Option Kind) (g : Kind → Result (List Operand)) (n : ℕ) (f : Fields) (b t : ℕ)
-      → ((K : Kind) → o ≡ some K → Agrees k st (g K) (step_found (Found (entry_of K)) n f b t))
-      → Agrees k st (demand o UnknownKind k g) (step_found (lookup_of o) n f b t)
-  agrees_kind none g n f b t each = refl
-  agrees_kind (some K) g n f b t each = each K refl
+  agrees_kind : (o : Option Kind) (g : Kind → Result (List Operand)) (f : Fields) (b t : ℕ)
+      → ((K : Kind) → Agrees st (g K) (step_found (some K) k f b t))
+      → Agrees st (demand o UnknownKind k g) (step_found o k f b t)
+  agrees_kind none g f b t each = refl
+  agrees_kind (some K) g f b t each = each K
 
 -- where the operands are there: the tree is pushed or refused as the codes say
 agrees_push : (k : ℕ) (K : Kind) (f : Fields) (ts : Trees (line K).operands) (rest : List Operand)
     → let st = onto (line K).operands ts rest in
-    Agrees k st (push k (line K).completes (node K f ts) rest)
-    (cond (empty_under (line K).number (code_at st 1) (code_at st 0)) (Refused EmptyList)
-    (Completed (length (line K).operands) (completed (line K).number (code_at st 1) (code_at st 0))))
+    Agrees st (push k (line K).completes (node K f ts) rest)
+    (then_step (require (not (empty_under K (code_at st 1) (code_at st 0))) EmptyList k)
+    (Ok (record { operands = count_of (entry_of K).operands; code = completed (line K).number (code_at st 1) (code_at st 0) })))
 agrees_push k K f ts rest =
     let st = onto (line K).operands ts rest in
     let w = told K f ts rest in
-    rw (w.empty, w.code)
-    (agrees_unless k st (holds_empty_under (line K).completes (node K f ts)) EmptyList _ _
+    rw (w.empty, w.code, counted (line K).operands (few_operands K))
+    (agrees_test k st (require (not (holds_empty_under (line K).completes (node K f ts))) EmptyList k) _ _
     record {
       after = operand (line K).completes (node K f ts) ∷ rest;
       is = refl;
@@ -181,29 +186,29 @@ agrees_push k K f ts rest =
     })
 
 -- the tests of a record, in their order
-agrees : (k : ℕ) (st : List Operand) (l : List ℕ) → Agrees k st (read_record k st l) (step_of l 0 (code_at st 1) (code_at st 0))
+agrees : (k : ℕ) (st : List Operand) (l : List ℕ) → Agrees st (read_record k st l) (step_of l 0 k (code_at st 1) (code_at st 0))
 unfolding read_record step_of
 agrees k st l =
-    let n = kind_at l 0 in
     let f = fields_at l 0 in
-    agrees_require k st (marked l 0 contract_mark) BadMark _ _
-    (agrees_kind k st (kind_of n) _ n f (code_at st 1) (code_at st 0)
-    (λ K e. rw (same_ranges K f)
-    (agrees_require k st (good_fields (line K) f) BadField _ _
+    agrees_test k st (require (marked l 0 contract_mark) BadMark k) _ _
+    (agrees_kind k st (kind_of (kind_at l 0)) _ f (code_at st 1) (code_at st 0)
+    (λ K. rw (same_ranges K f)
+    (agrees_test k st (require (good_fields (line K) f) BadField k) _ _
     (rw (operands_present (line K).operands st (few_operands K))
     (agrees_demand k st (operands_of (line K).operands st) BadOperands _ _
-    (λ os e₂. rw (onto_operands (line K).operands st os e₂, ← number_kind n K e) (agrees_push k K f os.trees os.rest)))))))
+    (λ os e. rw (onto_operands (line K).operands st os e) (agrees_push k K f os.trees os.rest)))))))
 
 -- the record from byte `at` on stands first in the bytes from there on
-pub step-drop : (l : List ℕ) (at b t : ℕ) → step_of l at b t ≡ step_of (drop at l) 0 b t
+pub step-drop : (l : List ℕ) (at k b t : ℕ) → step_of l at k b t ≡ step_of (drop at l) 0 k b t
 unfolding step_of
-step-drop l at b t = rw (marked-drop l at contract_mark) (simp get_or-drop)
+step-drop l at k b t = rw (marked-drop l at contract_mark) (simp get_or-drop)
 
-pub step_refused : (k : ℕ) (st : List Operand) (l : List ℕ) (f : Fault) → step_of l 0 (code_at st 1) (code_at st 0) ≡ Refused f → read_record k st l ≡ refused f k
-step_refused k st l f e = subst (Agrees k st (read_record k st l)) e (agrees k st l)
+pub step_refused : (k : ℕ) (st : List Operand) (l : List ℕ) (e : Refusal) → step_of l 0 k (code_at st 1) (code_at st 0) ≡ Err e
+    → read_record k st l ≡ refused e.fault e.place
+step_refused k st l e h = subst (Agrees st (read_record k st l)) h (agrees k st l)
 
-pub step-completed : (k : ℕ) (st : List Operand) (l : List ℕ) (m c : ℕ) → step_of l 0 (code_at st 1) (code_at st 0) ≡ Completed m c → Pushed k st l m c
-step-completed k st l m c e = subst (Agrees k st (read_record k st l)) e (agrees k st l)
+pub step-completed : (k : ℕ) (st : List Operand) (l : List ℕ) (s : Step) → step_of l 0 k (code_at st 1) (code_at st 0) ≡ Ok s → Pushed k st l s.operands s.code
+step-completed k st l s h = subst (Agrees st (read_record k st l)) h (agrees k st l)
 
 -- ---- 6
 

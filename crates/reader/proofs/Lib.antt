@@ -1,4 +1,3 @@
--- The laws of what the program computes with: its table, the codes of operands, the stack.
-pub mod Table
+-- The laws of what the program computes with: the codes of operands, the stack.
 pub mod Codes
-pub mod Stack
+pub mod Pending

@@ -5,12 +5,11 @@ use native.Mathlib.Omega.{arith}
 use mathlib.Core.Path.{◌≡◌, refl, sym, ap, ◌∙◌}
 use mathlib.Core.List.{List, [], ◌∷◌, ◌++◌}
 use lib.Arith.{mod-mul, digits_lt}
-use lib.Pow.{pow-add}
 use lib.Dec.{lit<}
 use lib.ListN.{length, take, drop, get_or, length-take, length-drop}
 use lib.Seq.{length-take-le, take-nil, get_or-drop, drop-drop}
 use Rattle.records.specs.Fields.{value, bytes, field}
-use Rattle.records.specs.Holding.{AllBelow, AllBytes, HoldsField}
+use Rattle.records.specs.Holding.{AllBelow, AllBytes}
 
 -- ---- lists of bytes
 
@@ -118,16 +117,3 @@ unfolding field
 bytes-field l at w a h =
     let e : length (take w (drop at l)) ≡ w = length-take-le w (drop at l) (simp length-drop (omega arith)) in
     rw e at (bytes_value (take w (drop at l)) (all_bytes_take w (drop at l) (all_bytes_drop at l a)))
-
--- ---- what reading a field shows
-
-pub holds_one : {l : List ℕ} {at r : ℕ} → r ≡ get_or l at 0 → r < 256 → HoldsField l at 1 r
-holds_one {l} {at} {r} e h = record { is = rw (field-suc, field-zero) (omega arith); small = h }
-
--- a field of v bytes and the field of w bytes behind it are one of v + w
-pub holds-add : (v w : ℕ) {l : List ℕ} {at a b : ℕ} → HoldsField l at v a → HoldsField l (at + v) w b → HoldsField l at (v + w) (a + 256 ^ v * b)
-holds-add v w {l} {at} {a} {b} h k =
-    record {
-      is = rw (field-add l at v w, ← h.is, ← k.is);
-      small = rw (pow-add, add_comm, mul_comm (256 ^ v) b, mul_comm (256 ^ v)) (digits_lt k.small h.small);
-    }

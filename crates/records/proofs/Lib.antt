@@ -2,6 +2,7 @@
 pub mod Cases
 pub mod Fields
 pub mod Written
+pub mod Bytes
 pub mod Marks
 pub mod Verdicts
 pub mod Searches

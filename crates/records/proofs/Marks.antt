@@ -1,16 +1,19 @@
 -- The marks of the records. Document 01, "Records" and "Image and row machine"; document 02, "Thirty-two actions" and "Join
 -- the two parties' logs".
-use Prim.Native.Nat.{ℕ, suc, ◌+◌, ◌≤◌}
+use Prim.Native.Nat.{ℕ, suc, ◌+◌, ◌-◌, ◌≤◌}
 use native.Mathlib.Nat.{add-zero}
 use native.Mathlib.Numerals.{add-one}
 use native.Mathlib.Omega.{arith}
-use mathlib.Core.Path.{◌≡◌, refl, ap}
-use mathlib.Core.Bool.{true, false, and-eq-true_iff}
+use mathlib.Core.Path.{◌≡◌, refl, ap, ◌∙◌}
+use mathlib.Core.Bool.{true, false, and-eq-true_iff, and-true}
 use mathlib.Core.List.{List, [], ◌∷◌, map}
 use lib.Dec.{eqb}
 use lib.ListN.{length, take, drop, get_or}
-use lib.Seq.{drop-cons, get_or-drop}
+use lib.Seq.{sets, drop-cons, get_or-drop}
+use lib.Pointwise.{pointwise}
+use borrow.Rule.Slice.PartMut.{put_mid}
 use borrow.Author.Tests.{eqb-true}
+use Rattle.records.proofs.Bytes.{cells_are, part_copied}
 use Rattle.records.specs.Marks.{contract_mark, narrow_mark, wide_mark, log_mark, row_mark, end_mark, marked}
 
 abbrev pub marks : List (List ℕ)
@@ -52,3 +55,22 @@ pub of_marked : (l : List ℕ) (at a b : ℕ) → at + 2 ≤ length l → marked
 of_marked l at a b k h =
     rw (drop-cons l at 0 (omega arith), drop-cons l (suc at) 0 (omega arith), first l at (a ∷ b ∷ []) h)
     (rw add-one at (ap (λ (x : ℕ). a ∷ x ∷ []) (second l at (a ∷ b ∷ []) h)))
+
+-- ---- as the program compares and writes it
+
+mark_bytes : (m : List ℕ) → length m ≡ 2 → m ≡ get_or m 0 0 ∷ get_or m 1 0 ∷ []
+mark_bytes (a ∷ b ∷ []) e = refl
+mark_bytes [] e = cc
+mark_bytes (a ∷ []) e = cc
+mark_bytes (a ∷ b ∷ c ∷ m) e = absurd (omega arith)
+
+pub marked_part : (l : List ℕ) (at : ℕ) (m : List ℕ) → length m ≡ 2 → at + 2 ≤ length l → pointwise eqb (take (at + 2 - at) (drop at l)) m ≡ marked l at m
+unfolding marked
+marked_part l at m e h =
+    let k : at + 2 - at ≡ 2 = omega arith in
+    let two : take 2 (drop at l) ≡ get_or l at 0 ∷ get_or l (at + 1) 0 ∷ [] = rw add-zero at (cells_are l at 0 2 (omega arith)) in
+    rw (k, two, mark_bytes m e) (simp and-true)
+
+pub mark_copied : (l : List ℕ) (at : ℕ) (m : List ℕ) → length m ≡ 2 → at + 2 ≤ length l
+    → put_mid at (at + 2 - at) l m ≡ sets l at (get_or m 0 0 ∷ get_or m 1 0 ∷ [])
+mark_copied l at m e h = part_copied l at 2 m e h ∙ ap (λ (bs : List ℕ). sets l at bs) (mark_bytes m e)

@@ -4,11 +4,10 @@ use native.Mathlib.Omega.{arith}
 use mathlib.Core.Path.{◌≡◌, refl, sym, ap, ◌∙◌}
 use mathlib.Core.Bool.{Bool, true, false, ◌&&◌, ◌||◌, and-eq-true_iff, or_assoc, or-true, false≢true}
 use mathlib.Core.List.{List, [], ◌∷◌, ◌++◌, map}
-use Rattle.records.specs.declared.Test.{Test}
-use Rattle.records.specs.declared.Test.TheVariants.{Passed, Refused}
+use Rattle.std.specs.Prelude.{Ok, Err}
 use Rattle.records.specs.declared.Fault.{Fault}
 use Rattle.records.specs.declared.Fault.TheVariants.{BadLength, BadMark, UnknownKind, BadField, BadOperands, NotOneClause, EmptyList, ShortBuffer, BadImage, BadState, BadPeriod, FullCount, LongInput, BadLog, OutOfOrder, ShortTrace}
-use Rattle.records.specs.Refusals.{fault_number, number_of, require, first_of, passed}
+use Rattle.records.specs.Refusals.{Test, Passed, Refused, fault_number, number_of, require, first_of, passed}
 use lib.Dec.{eqb, leb, ltb, lit<}
 use borrow.Author.Tests.{leb-true, ltb-true}
 
@@ -16,21 +15,21 @@ use borrow.Author.Tests.{leb-true, ltb-true}
 
 -- of two tests that are passed, each is
 pub first_passed : (s u : Test) → first_of s u ≡ Passed → (s ≡ Passed) × (u ≡ Passed)
-first_passed Passed u e = (refl, e)
-first_passed (Refused f p) u e = (e, cc)
+first_passed (Ok _) u e = (refl, e)
+first_passed (Err r) u e = (e, cc)
 
 pub passed_first : (t u : Test) → t ≡ Passed → u ≡ Passed → first_of t u ≡ Passed
 passed_first t u h k = rw (h, k)
 
 -- where the first test is refused, the second is not made
 pub first_refused : (t u : Test) → ¬ (t ≡ Passed) → first_of t u ≡ t
-first_refused Passed u h = absurd (h refl)
-first_refused (Refused f k) u h = refl
+first_refused (Ok _) u h = absurd (h refl)
+first_refused (Err r) u h = refl
 
 -- a test that is passed and made last adds nothing
 pub first_only : (t : Test) → first_of t Passed ≡ t
-first_only Passed = refl
-first_only (Refused f k) = refl
+first_only (Ok _) = refl
+first_only (Err r) = refl
 
 -- a refusal is no passed test
 pub refused_passed : {f : Fault} {p : ℕ} → Refused f p ≡ Passed → ⊥
@@ -38,10 +37,6 @@ refused_passed e = let z : ◌≡◌ {A = ℕ} 0 1 = cc in omega arith
 
 pub is_refused : {s : Test} {f : Fault} {p : ℕ} → s ≡ Refused f p → ¬ (s ≡ Passed)
 is_refused e h = refused_passed (sym e ∙ h)
-
--- a refusal of the first test is what both find
-pub refused_first : (s t u : Test) {f : Fault} {p : ℕ} → s ≡ t → s ≡ Refused f p → s ≡ first_of t u
-refused_first s t u e h = rw (← e) (sym (first_refused s u (is_refused h)))
 
 -- a test that is passed shows its condition
 pub require-passed : (t : Bool) (f : Fault) (p : ℕ) → require t f p ≡ Passed → t ≡ true
@@ -86,12 +81,12 @@ fault_bounds f =
 
 -- a number of 4 bytes
 pub number_small : (t : Test) → number_of t < 256 ^ 4
-number_small Passed = lit< tt
-number_small (Refused f k) = omega (arith, (fault_bounds f).1)
+number_small (Ok _) = lit< tt
+number_small (Err r) = omega (arith, (fault_bounds r.fault).1)
 
 pub passed_is : (t : Test) → passed t ≡ true → t ≡ Passed
-passed_is Passed h = refl
-passed_is (Refused f k) h = absurd (false≢true h)
+passed_is (Ok _) h = refl
+passed_is (Err r) h = absurd (false≢true h)
 
 pub passed-not : (t : Test) → passed t ≡ false → ¬ (t ≡ Passed)
 passed-not t h e = false≢true (sym h ∙ ap passed e)
@@ -105,16 +100,16 @@ among (g ∷ gs) f = eqb (fault_number f) (fault_number g) || among gs f
 
 -- the test is passed, or refused for one of these faults
 abbrev pub only_for : List Fault → Test → Bool
-only_for fs Passed = true
-only_for fs (Refused f place) = among fs f
+only_for fs (Ok _) = true
+only_for fs (Err r) = among fs r.fault
 
 pub only_require : (fs : List Fault) (f : Fault) → among fs f ≡ true → (ok : Bool) (k : ℕ) → only_for fs (require ok f k) ≡ true
 only_require fs f h true k = refl
 only_require fs f h false k = h
 
 pub only_first : (fs : List Fault) (s t : Test) → only_for fs s ≡ true → only_for fs t ≡ true → only_for fs (first_of s t) ≡ true
-only_first fs Passed t h k = k
-only_first fs (Refused f p) t h k = h
+only_first fs (Ok _) t h k = k
+only_first fs (Err r) t h k = h
 
 pub among_append : (fs gs : List Fault) (f : Fault) → among (fs ++ gs) f ≡ (among fs f || among gs f)
 among_append [] gs f = refl
@@ -122,11 +117,11 @@ among_append (g ∷ fs) gs f = rw (among_append fs gs f) (sym (or_assoc (eqb (fa
 
 -- a test with faults of its own, among more
 pub only_among : (fs gs hs : List Fault) (t : Test) → only_for gs t ≡ true → only_for (fs ++ (gs ++ hs)) t ≡ true
-only_among fs gs hs Passed h = refl
-only_among fs gs hs (Refused f p) h = rw (among_append fs (gs ++ hs) f, among_append gs hs f, h) (or-true (among fs f))
+only_among fs gs hs (Ok _) h = refl
+only_among fs gs hs (Err r) h = rw (among_append fs (gs ++ hs) r.fault, among_append gs hs r.fault, h) (or-true (among fs r.fault))
 
 -- of two tests, each with faults of its own
 pub only_append : (fs gs : List Fault) (s t : Test) → only_for fs s ≡ true → only_for gs t ≡ true → only_for (fs ++ gs) (first_of s t) ≡ true
-only_append fs gs Passed Passed h k = refl
-only_append fs gs Passed (Refused f p) h k = rw (among_append fs gs f, k) (or-true (among fs f))
-only_append fs gs (Refused f p) t h k = rw (among_append fs gs f, h)
+only_append fs gs (Ok _) (Ok _) h k = refl
+only_append fs gs (Ok _) (Err r) h k = rw (among_append fs gs r.fault, k) (or-true (among fs r.fault))
+only_append fs gs (Err r) t h k = rw (among_append fs gs r.fault, h)

@@ -1,19 +1,19 @@
 -- The bytes of replies, reading a field back, and the three ways out of a call. Document 01, "Calls" and "Replies that refuse".
-use Prim.Native.Nat.{ℕ, ◌+◌, ◌^◌, ◌≤◌, ◌<◌}
+use Prim.Native.Nat.{ℕ, ◌+◌, ◌*◌, ◌^◌, ◌≤◌, ◌<◌}
+use native.Mathlib.Numerals.{add-one}
 use native.Mathlib.Nat.{zero-add, add_assoc, mod-eq_of_lt}
 use native.Mathlib.Omega.{arith}
 use mathlib.Core.Bool.{Bool, true, false, cond}
-use mathlib.Core.Path.{◌≡◌, refl, ◌∙◌}
-use mathlib.Core.List.{List, [], ◌∷◌, ◌++◌, append_assoc, append-nil}
-use lib.ListN.{length, drop, length-append}
-use lib.Seq.{sets}
+use mathlib.Core.Path.{◌≡◌, refl, sym, ap, ◌∙◌}
+use mathlib.Core.List.{List, [], ◌∷◌, ◌++◌, map, map-append, append_assoc, append-nil}
+use lib.ListN.{length, take, drop, get_or, length-append}
+use lib.Seq.{sets, take-suc, length-take-le}
 use borrow.Author.Tests.{lt-ltb, le-ltb}
 use lib.Dec.{ltb}
 use Rattle.records.specs.Fields.{bytes, field}
-use Rattle.records.specs.declared.Test.{Test}
-use Rattle.records.specs.declared.Test.TheVariants.{Passed, Refused}
-use Rattle.records.specs.Refusals.{number_of, place_of}
-use Rattle.records.specs.Replies.{Field, four, eight, fields_bytes, fields_size, Answer, alone, reply_of, reply_bytes, head_of, zeroed, After, Gives, unwritten, written, answered, call}
+use Rattle.std.specs.Prelude.{Ok, Err}
+use Rattle.records.specs.Refusals.{Test, Passed, number_of, place_of}
+use Rattle.records.specs.Replies.{Field, four, eight, fields_bytes, fields_size, Answer, alone, words, head_size, reply_fields, reply_of, reply_bytes, head_of, zeroed, After, Gives, unwritten, written, answered, call}
 use Rattle.records.proofs.Fields.{length-bytes}
 use Rattle.records.proofs.Refusals.{number_small}
 use Rattle.records.proofs.Written.{sets-append, drop_after, field_in, field_spelled}
@@ -43,6 +43,28 @@ pub head_written : (area : List ℕ) (t : Test) (own : ℕ)
     → sets area 0 (reply_of t (alone own)) ≡ sets (sets (sets area 0 (bytes 4 (number_of t))) 4 (bytes 4 own)) 8 (bytes 8 (place_of t))
 unfolding fields_bytes
 head_written area t own = simp (append-nil, sets-append, length-bytes)
+
+words_size : (ws : List ℕ) → fields_size (map four ws) ≡ 4 * length ws
+words_size [] = refl
+words_size (w ∷ ws) = rw (words_size ws) (omega arith)
+
+-- one field's bytes
+field_alone : (f : Field) → fields_bytes (f ∷ []) ≡ bytes f.width f.value
+unfolding fields_bytes
+field_alone f = append-nil (bytes f.width f.value)
+
+-- one more word behind the place
+pub word_written : (area : List ℕ) (t : Test) (own : ℕ) (ws : List ℕ) (k : ℕ) → k < length ws
+    → sets (sets area 0 (reply_of t (words own (take k ws)))) (head_size + 4 * k) (bytes 4 (get_or ws k 0)) ≡ sets area 0 (reply_of t (words own (take (k + 1) ws)))
+word_written area t own ws k h =
+    let fs = reply_fields t (words own (take k ws)) in
+    let w = four (get_or ws k 0) in
+    let size : fields_size fs ≡ head_size + 4 * k = rw (words_size, length-take-le k ws (omega arith)) (omega arith) in
+    let more : reply_fields t (words own (take (k + 1) ws)) ≡ fs ++ (w ∷ []) = rw (add-one, take-suc ws k 0 h, map-append) refl in
+    sym (ap (λ (fs : List Field). sets area 0 (fields_bytes fs)) more
+    ∙ fields_written area fs (w ∷ [])
+    ∙ ap (λ (n : ℕ). sets (sets area 0 (fields_bytes fs)) n (fields_bytes (w ∷ []))) size
+    ∙ ap (λ (bs : List ℕ). sets (sets area 0 (fields_bytes fs)) (head_size + 4 * k) bs) (field_alone w))
 
 -- the field behind some fields, with any others after it, is read back
 pub field_back : (before : List Field) (f : Field) (others : List Field) (area : List ℕ) → fields_size (before ++ (f ∷ others)) ≤ length area → f.value < 256 ^ f.width
@@ -86,8 +108,8 @@ module _ {Buffers : Type 0} (t : Test) (a : Answer) (before later : Buffers) (ar
   call-passed h e = rw (le-ltb (length area) (reply_bytes a) h, e)
 
   refused : (t : Test) → ¬ (t ≡ Passed) → answered t a before later area ≡ written before area t (zeroed a)
-  refused Passed h = absurd (h refl)
-  refused (Refused f k) h = refl
+  refused (Ok _) h = absurd (h refl)
+  refused (Err r) h = refl
 
   pub call_refused : reply_bytes a ≤ length area → ¬ (t ≡ Passed) → call t a before later area ≡ written before area t (zeroed a)
   unfolding call
@@ -99,8 +121,8 @@ module _ {Buffers : Type 0} (t : Test) (a : Answer) (before later : Buffers) (ar
   call_result h = rw (le-ltb (length area) (reply_bytes a) h) (of t)
     where
       of : (t : Test) → (answered t a before later area).result ≡ 1
-      of Passed = refl
-      of (Refused f k) = refl
+      of (Ok _) = refl
+      of (Err r) = refl
 
   -- the buffers that it leaves are those before or those later, so what holds of both holds of them
   pub call_buffers : (P : Buffers → Type 0) → P before → P later → P (call t a before later area).buffers
@@ -109,8 +131,8 @@ module _ {Buffers : Type 0} (t : Test) (a : Answer) (before later : Buffers) (ar
     where
       go : (short : Bool) (u : Test) → P (cond short (unwritten before area) (answered u a before later area)).buffers
       go true u = b
-      go false Passed = l
-      go false (Refused f k) = b
+      go false (Ok _) = l
+      go false (Err r) = b
 
   -- the three ways out of a call
   pub gives_no_room : length area < reply_bytes a → Gives (call t a before later area) 0 before area
@@ -138,5 +160,5 @@ call_apart {Buffers} t a before later other area = go (ltb (length area) (reply_
 
     go : (short : Bool) (u : Test) → ((left short u).result ≡ (right short u).result) × ((left short u).reply ≡ (right short u).reply)
     go true u = (refl, refl)
-    go false Passed = (refl, refl)
-    go false (Refused f k) = (refl, refl)
+    go false (Ok _) = (refl, refl)
+    go false (Err r) = (refl, refl)

@@ -1,6 +1,6 @@
 -- What a run of stores leaves: a list with the elements from a place on replaced, and the fields in it.
 -- Its length is that of the list (`length-sets` of `lib.Seq`). Document 01, "Records".
-use Prim.Native.Nat.{ℕ, zero, suc, ◌+◌, ◌-◌, ◌/◌, ◌%◌, ◌^◌, ◌≤◌, ◌<◌}
+use Prim.Native.Nat.{ℕ, zero, suc, ◌+◌, ◌-◌, ◌%◌, ◌^◌, ◌≤◌, ◌<◌}
 use native.Mathlib.Nat.{add-zero, add-suc, suc-add, le_refl, mod-eq_of_lt, sub-zero, zero-sub, suc-sub-suc}
 use native.Mathlib.Omega.{arith}
 use mathlib.Core.Path.{◌≡◌, refl, sym, ap, ◌∙◌}
@@ -8,7 +8,7 @@ use mathlib.Core.List.{List, [], ◌∷◌, ◌++◌, append_assoc}
 use lib.ListN.{length, take, drop, get_or, set, length-append, length-drop}
 use lib.Seq.{sets, sets-eq, take_all, take-nil, set_comm, take-set-le, drop-set-lt, get_or-take, get_or-drop, drop-drop, take-append-le, drop-append-le, take_at, drop_at, length-take-le}
 use Rattle.records.specs.Fields.{value, bytes, field}
-use Rattle.records.proofs.Fields.{length-bytes, value_bytes, bytes-add}
+use Rattle.records.proofs.Fields.{length-bytes, value_bytes}
 
 module _ {ℓ} {A : Type ℓ} where
   -- two runs, one behind the other, are one
@@ -113,8 +113,3 @@ field-written l at w n h =
 
 pub field-written_lt : (l : List ℕ) (at w : ℕ) {n : ℕ} → at + w ≤ length l → n < 256 ^ w → field (sets l at (bytes w n)) at w ≡ n
 field-written_lt l at w {n} h k = field-written l at w n h ∙ mod-eq_of_lt k
-
--- a field of v + w bytes is written as one of v bytes and then one of w
-pub sets-bytes-add : (l : List ℕ) (at v w n : ℕ)
-    → sets l at (bytes (v + w) n) ≡ sets (sets l at (bytes v n)) (at + v) (bytes w (n / 256 ^ v))
-sets-bytes-add l at v w n = rw (bytes-add, sets-append, length-bytes)

@@ -1,12 +1,11 @@
 -- Vectors of the records, verdicts and replies. What is expected stands in numbers and bytes alone, from document 01's text.
 use Rattle.std.specs.Prelude.{ℕ, true, false, List, [], ◌∷◌, ◌++◌, map, ◌≡◌, replicate}
 use Rattle.records.specs.declared.Fault.TheVariants.{BadState}
-use Rattle.records.specs.declared.Test.{Test}
-use Rattle.records.specs.declared.Test.TheVariants.{Passed, Refused}
 use Rattle.records.specs.Fields.{bytes, field}
 use Rattle.records.specs.Marks.{contract_mark, narrow_mark, wide_mark, log_mark, row_mark, end_mark, marked}
-use Rattle.records.specs.Verdicts.{«open», met, broken, met_after, broken_after, since, verdict_number, verdict_name}
-use Rattle.records.specs.Refusals.{number_of, place_of}
+use Rattle.records.specs.declared.Verdict.TheVariants.{Open, Met, Broken, MetAfter, BrokenAfter}
+use Rattle.records.specs.Verdicts.{since, verdict_number, verdict_name}
+use Rattle.records.specs.Refusals.{Test, Passed, Refused, number_of, place_of}
 use Rattle.records.specs.Replies.{four, After, head_of, call}
 
 -- what a reply has of a test: number and place
@@ -44,11 +43,11 @@ pub record RecordVectors : Type 0 where
       ≡ (2 ∷ 1 ∷ []) ∷ (4 ∷ 3 ∷ 2 ∷ 1 ∷ []) ∷ (4 ∷ 3 ∷ 2 ∷ 1 ∷ 0 ∷ 0 ∷ 0 ∷ 0 ∷ []) ∷ []
   pub fields_read : map (field (9 ∷ 4 ∷ 3 ∷ 2 ∷ 1 ∷ 9 ∷ []) 1) (2 ∷ 4 ∷ []) ≡ 0x0304 ∷ 0x01020304 ∷ []
   -- "open (0)", "met (1) or broken (2)", "met-after (3) or broken-after (4)"
-  pub verdict_numbers : map verdict_number («open» ∷ met ∷ broken ∷ met_after ∷ broken_after ∷ []) ≡ 0 ∷ 1 ∷ 2 ∷ 3 ∷ 4 ∷ []
-  pub verdict_names : map verdict_name («open» ∷ met ∷ broken ∷ met_after ∷ broken_after ∷ [])
+  pub verdict_numbers : map verdict_number (Open ∷ Met ∷ Broken ∷ MetAfter ∷ BrokenAfter ∷ []) ≡ 0 ∷ 1 ∷ 2 ∷ 3 ∷ 4 ∷ []
+  pub verdict_names : map verdict_name (Open ∷ Met ∷ Broken ∷ MetAfter ∷ BrokenAfter ∷ [])
       ≡ "open" ∷ "met" ∷ "broken" ∷ "met-after" ∷ "broken-after" ∷ []
   -- of a decision at period 2, after one, two and three periods
-  pub verdict_after : map (λ (n : ℕ). verdict_number (since 2 n met met_after)) (1 ∷ 2 ∷ 3 ∷ []) ≡ 0 ∷ 1 ∷ 3 ∷ []
+  pub verdict_after : map (λ (n : ℕ). verdict_number (since 2 n Met MetAfter)) (1 ∷ 2 ∷ 3 ∷ []) ≡ 0 ∷ 1 ∷ 3 ∷ []
   -- "An accepted call gives number 0 and place 0."; the area's byte past the reply keeps its value
   pub accepted : call_with Passed 21 ≡ leaves (2 ∷ []) (head 0 7 0 ++ (2 ∷ 1 ∷ 0 ∷ 0 ∷ []))
   -- "A refusal gives its number and a place; every other field is 0 and every lent buffer but the reply's area is unchanged."

@@ -1,11 +1,9 @@
 -- Replies, and what a call leaves. Document 01, "Calls" and "Replies that refuse".
-use Rattle.std.specs.Prelude.{ℕ, ◌+◌, cond, List, [], ◌∷◌, ◌++◌, map, ◌≡◌, ltb, length}
+use Rattle.std.specs.Prelude.{ℕ, ◌+◌, cond, List, [], ◌∷◌, ◌++◌, map, ◌≡◌, ltb, length, Ok, Err}
 use Rattle.std.proofs.lemmas.List.Edits.{sets}
 use Rattle.records.specs.Fields.{bytes, field}
 use Rattle.records.specs.declared.Head.{Head}
-use Rattle.records.specs.declared.Test.{Test}
-use Rattle.records.specs.declared.Test.TheVariants.{Passed, Refused}
-use Rattle.records.specs.Refusals.{number_of, place_of}
+use Rattle.records.specs.Refusals.{Test, Passed, number_of, place_of}
 
 -- ---- replies
 
@@ -37,6 +35,10 @@ pub record Answer : Type 0 where
 -- the first of these alone
 abbrev pub alone : ℕ → Answer
 alone n = record { own = n; others = [] }
+
+-- and with words of four bytes behind the place
+abbrev pub words : ℕ → List ℕ → Answer
+words n ws = record { own = n; others = map four ws }
 
 abbrev pub reply_fields : Test → Answer → List Field
 reply_fields t a = four (number_of t) ∷ four a.own ∷ eight (place_of t) ∷ a.others
@@ -85,8 +87,13 @@ written buffers area t a = record { result = 1; buffers = buffers; reply = sets 
 -- accepted, it answers and leaves the buffers `later`; "A refusal gives its number and a place; every other field is 0 and every lent buffer but
 -- the reply's area is unchanged."
 abbrev pub answered : {Buffers : Type 0} → Test → Answer → (before later : Buffers) → (area : List ℕ) → After Buffers
-answered Passed a before later area = written later area Passed a
-answered (Refused f place) a before later area = written before area (Refused f place) (zeroed a)
+answered (Ok u) a before later area = written later area (Ok u) a
+answered (Err r) a before later area = written before area (Err r) (zeroed a)
+
+-- the buffers that an answered call leaves
+abbrev pub left : {Buffers : Type 0} → Test → (before later : Buffers) → Buffers
+left (Ok u) before later = later
+left (Err r) before later = before
 
 -- any call: what its tests find, what it answers and leaves where they are passed, and what it was lent
 unfoldable pub call : {Buffers : Type 0} → Test → Answer → (before later : Buffers) → (area : List ℕ) → After Buffers

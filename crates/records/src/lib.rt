@@ -1,85 +1,101 @@
 // Little-endian fields of byte slices, the marks of the records, refusals and replies. Document 01, "Records" and "Replies that refuse".
 #![tactic(auto)]
 
-ghost use Rattle.std.specs.Prelude.{◌≡◌, [], ◌∷◌, ◌+◌, ◌<◌, ◌≤◌, length, get_or};
+ghost use Rattle.std.specs.Prelude.{◌≡◌, ℕ, Bool, [], ◌∷◌, ◌+◌, ◌*◌, ◌<◌, ◌≤◌, length, get_or};
 ghost use Rattle.std.proofs.lemmas.List.Edits.{sets};
 ghost use Rattle.records.specs.Fields.{bytes};
 ghost use Rattle.records.specs.Holding.{HoldsField};
 ghost use Rattle.records.specs.Marks.{marked};
-ghost use Rattle.records.specs.Refusals.{fault_number, number_of, place_of};
-ghost use Rattle.records.specs.Replies.{alone, reply_of, head_of, head_size};
+ghost use Rattle.records.specs.Refusals.{Test, fault_number, number_of, place_of, require, first_failing};
+ghost use Rattle.records.specs.Verdicts.{Numbers};
+ghost use Rattle.records.specs.Replies.{alone, words, reply_of, head_of, head_size};
 
 // The first two bytes of each record.
-pub const CONTRACT_MARK: [u8; 2] = [0x54, 0x43];
+pub const CONTRACT_MARK: [u8; 2] = *b"TC";
 
-pub const NARROW_MARK: [u8; 2] = [0x54, 0x50];
+pub const NARROW_MARK: [u8; 2] = *b"TP";
 
-pub const WIDE_MARK: [u8; 2] = [0x54, 0x51];
+pub const WIDE_MARK: [u8; 2] = *b"TQ";
 
-pub const LOG_MARK: [u8; 2] = [0x54, 0x4C];
+pub const LOG_MARK: [u8; 2] = *b"TL";
 
-pub const ROW_MARK: [u8; 2] = [0x54, 0x52];
+pub const ROW_MARK: [u8; 2] = *b"TR";
 
-pub const END_MARK: [u8; 2] = [0x54, 0x45];
+pub const END_MARK: [u8; 2] = *b"TE";
 
-// A byte as a wider number.
-pub fn widened(x: u8) -> u32
-    ensures { (result ≡ x) × (result < 256) }
-{
-    x as u32
+// A number in a field of two bytes, four or eight, low byte first. Each type has its impl, since std has no trait of their bytes.
+pub trait Field: Copy {
+    ghost width: { ℕ };
+
+    ghost number: { Self → ℕ };
+
+    // The number in the field from byte `at` on.
+    fn get(s: &[u8], at: usize) -> Self
+        requires { at + width ≤ length s.now }
+        ensures { HoldsField s.now at width (number result) };
+
+    // Puts it into the field from byte `at` on.
+    fn put(self, s: &mut [u8], at: usize)
+        requires { at + width ≤ length s.old }
+        ensures { s.new ≡ sets s.old at (bytes width (number self)) };
 }
 
-// The number in a field of two bytes from byte `at` on, low byte first; then of four, and of eight.
-pub fn get2(s: &[u8], at: usize) -> u32
-    requires { at + 2 ≤ length s.now }
-    ensures { HoldsField s.now at 2 result }
-{
-    let low = widened(s[at]);
-    let high = widened(s[at + 1]);
-    low + 256 * high
+impl Field for u16 {
+    ghost width = { 2 };
+
+    ghost number = { λ n. n };
+
+    fn get(s: &[u8], at: usize) -> u16 {
+        u16::from_le_bytes([s[at], s[at + 1]])
+    }
+
+    fn put(self, s: &mut [u8], at: usize) {
+        s[at..at + 2].copy_from_slice(&self.to_le_bytes());
+    }
 }
 
-pub fn get4(s: &[u8], at: usize) -> u32
-    requires { at + 4 ≤ length s.now }
-    ensures { HoldsField s.now at 4 result }
-{
-    let low = get2(s, at);
-    let high = get2(s, at + 2);
-    low + 65536 * high
+impl Field for u32 {
+    ghost width = { 4 };
+
+    ghost number = { λ n. n };
+
+    fn get(s: &[u8], at: usize) -> u32 {
+        u32::from_le_bytes([s[at], s[at + 1], s[at + 2], s[at + 3]])
+    }
+
+    fn put(self, s: &mut [u8], at: usize) {
+        s[at..at + 4].copy_from_slice(&self.to_le_bytes());
+    }
 }
 
-pub fn get8(s: &[u8], at: usize) -> u64
-    requires { at + 8 ≤ length s.now }
-    ensures { HoldsField s.now at 8 result }
-{
-    let low = get4(s, at) as u64;
-    let high = get4(s, at + 4) as u64;
-    low + 4294967296 * high
+impl Field for u64 {
+    ghost width = { 8 };
+
+    ghost number = { λ n. n };
+
+    fn get(s: &[u8], at: usize) -> u64 {
+        u64::from_le_bytes([
+            s[at],
+            s[at + 1],
+            s[at + 2],
+            s[at + 3],
+            s[at + 4],
+            s[at + 5],
+            s[at + 6],
+            s[at + 7],
+        ])
+    }
+
+    fn put(self, s: &mut [u8], at: usize) {
+        s[at..at + 8].copy_from_slice(&self.to_le_bytes());
+    }
 }
 
-// A number put into a field of two bytes from byte `at` on, low byte first; then of four, and of eight. Higher bytes are left out.
-pub fn put2(s: &mut [u8], at: usize, x: u32)
-    requires { at + 2 ≤ length s.old }
-    ensures { s.new ≡ sets s.old at (bytes 2 x) }
+// A number's two low bytes.
+pub fn low_half(x: u32) -> u16
+    ensures { bytes 2 result ≡ bytes 2 x }
 {
-    s[at] = (x % 256) as u8;
-    s[at + 1] = (x / 256 % 256) as u8;
-}
-
-pub fn put4(s: &mut [u8], at: usize, x: u32)
-    requires { at + 4 ≤ length s.old }
-    ensures { s.new ≡ sets s.old at (bytes 4 x) }
-{
-    put2(s, at, x);
-    put2(s, at + 2, x / 65536);
-}
-
-pub fn put8(s: &mut [u8], at: usize, x: u64)
-    requires { at + 8 ≤ length s.old }
-    ensures { s.new ≡ sets s.old at (bytes 8 x) }
-{
-    put4(s, at, (x % 4294967296) as u32);
-    put4(s, at + 4, (x / 4294967296) as u32);
+    (x % 65536) as u16
 }
 
 // ---- marks
@@ -89,7 +105,7 @@ pub fn marked(s: &[u8], at: usize, mark: [u8; 2]) -> bool
     requires { at + 2 ≤ length s.now }
     ensures { result ≡ marked s.now at mark }
 {
-    s[at] == mark[0] && s[at + 1] == mark[1]
+    s[at..at + 2] == mark[..]
 }
 
 // Writes a mark from byte `at` on.
@@ -97,8 +113,40 @@ pub fn put_mark(s: &mut [u8], at: usize, mark: [u8; 2])
     requires { at + 2 ≤ length s.old }
     ensures { s.new ≡ sets s.old at (get_or mark 0 0 ∷ get_or mark 1 0 ∷ []) }
 {
-    s[at] = mark[0];
-    s[at + 1] = mark[1];
+    s[at..at + 2].copy_from_slice(&mark);
+}
+
+// ---- verdicts
+
+// 002's five values.
+#[derive(Clone, Copy)]
+pub enum Verdict {
+    Open,
+    Met,
+    Broken,
+    MetAfter,
+    BrokenAfter,
+}
+
+// A number that is no verdict's.
+#[derive(Clone, Copy)]
+pub struct NoVerdict;
+
+impl TryFrom<u32> for Verdict {
+    type Error = NoVerdict;
+
+    ghost try_from_gives = { Numbers };
+
+    fn try_from(n: u32) -> Result<Self, NoVerdict> {
+        match n {
+            0 => Ok(Verdict::Open),
+            1 => Ok(Verdict::Met),
+            2 => Ok(Verdict::Broken),
+            3 => Ok(Verdict::MetAfter),
+            4 => Ok(Verdict::BrokenAfter),
+            _ => Err(NoVerdict),
+        }
+    }
 }
 
 // ---- refusals
@@ -106,7 +154,7 @@ pub fn put_mark(s: &mut [u8], at: usize, mark: [u8; 2])
 // Document 01's table, in its order, and what document 02 adds to it.
 #[derive(Clone, Copy)]
 pub enum Fault {
-    BadLength,
+    BadLength = 1,
     BadMark,
     UnknownKind,
     BadField,
@@ -124,35 +172,45 @@ pub enum Fault {
     ShortTrace,
 }
 
-// What a call's tests find: all passed, or the first refusal, a fault at a place.
+// A refusal: a fault at a place.
 #[derive(Clone, Copy)]
-pub enum Test {
-    Passed,
-    Refused(Fault, usize),
+pub struct Refusal {
+    pub fault: Fault,
+    pub place: usize,
+}
+
+// What a call's tests find: all passed, or the first refusal.
+pub type Test = Result<(), Refusal>;
+
+// Refused for a fault at a place, where the condition fails.
+pub fn require(ok: bool, fault: Fault, place: usize) -> Test
+    ensures { result ≡ require ok fault place }
+{
+    if ok {
+        Ok(())
+    } else {
+        Err(Refusal { fault, place })
+    }
+}
+
+// The first of n numbers from 0 on that fails the test; n where none does, as the definition of the places of refusals has it.
+pub fn first_failing<F: Fn(usize) -> bool>(n: usize, passes: F) -> usize
+    requires { (k : ℕ) → k < n → F.pre passes k }
+    ensures { (ok : ℕ → Bool) → ((k : ℕ) (b : Bool) → k < n → F.post passes k b → b ≡ ok k) → result ≡ first_failing ok 0 n }
+{
+    for k in 0..n {
+        if !passes(k) {
+            return k;
+        }
+    }
+    n
 }
 
 // A fault's number in the table.
 pub fn fault_number(f: Fault) -> u32
     ensures { result ≡ fault_number f }
 {
-    match f {
-        Fault::BadLength => 1,
-        Fault::BadMark => 2,
-        Fault::UnknownKind => 3,
-        Fault::BadField => 4,
-        Fault::BadOperands => 5,
-        Fault::NotOneClause => 6,
-        Fault::EmptyList => 7,
-        Fault::ShortBuffer => 8,
-        Fault::BadImage => 9,
-        Fault::BadState => 10,
-        Fault::BadPeriod => 11,
-        Fault::FullCount => 12,
-        Fault::LongInput => 13,
-        Fault::BadLog => 14,
-        Fault::OutOfOrder => 15,
-        Fault::ShortTrace => 16,
-    }
+    f as u32
 }
 
 // A reply's number, 0 where the tests are passed.
@@ -160,8 +218,8 @@ pub fn number(t: Test) -> u32
     ensures { result ≡ number_of t }
 {
     match t {
-        Test::Passed => 0,
-        Test::Refused(f, _) => fault_number(f),
+        Ok(()) => 0,
+        Err(refusal) => fault_number(refusal.fault),
     }
 }
 
@@ -170,8 +228,8 @@ pub fn place(t: Test) -> u64
     ensures { result ≡ place_of t }
 {
     match t {
-        Test::Passed => 0,
-        Test::Refused(_, k) => k as u64,
+        Ok(()) => 0,
+        Err(refusal) => refusal.place as u64,
     }
 }
 
@@ -193,9 +251,9 @@ pub fn get_head(reply: &[u8]) -> Head
     ensures { result ≡ head_of reply.now }
 {
     Head {
-        number: get4(reply, 0),
-        own: get4(reply, 4),
-        place: get8(reply, 8),
+        number: u32::get(reply, 0),
+        own: u32::get(reply, 4),
+        place: u64::get(reply, 8),
     }
 }
 
@@ -204,7 +262,18 @@ pub fn put_head(reply: &mut [u8], t: Test, own: u32)
     requires { head_size ≤ length reply.old }
     ensures { reply.new ≡ sets reply.old 0 (reply_of t (alone own)) }
 {
-    put4(reply, 0, number(t));
-    put4(reply, 4, own);
-    put8(reply, 8, place(t));
+    number(t).put(reply, 0);
+    own.put(reply, 4);
+    place(t).put(reply, 8);
+}
+
+// Writes a reply: its first three fields, and the words behind them.
+pub fn put_reply(reply: &mut [u8], t: Test, own: u32, others: &[u32])
+    requires { head_size + 4 * length others.now ≤ length reply.old }
+    ensures { reply.new ≡ sets reply.old 0 (reply_of t (words own others.now)) }
+{
+    put_head(reply, t, own);
+    for (k, word) in others.iter().enumerate() {
+        word.put(reply, REPLY_HEAD + 4 * k);
+    }
 }

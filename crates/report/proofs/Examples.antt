@@ -16,7 +16,7 @@ use Rattle.report.specs.Texts.{digits, decimal, period_line, decided_line, refus
 use Rattle.report.specs.Split.{unmarked_six, first_period, contract_length}
 use Rattle.report.specs.Reports.{meant_line, period_lines, lines, on_trace, report}
 use Rattle.report.specs.Examples.{ReportVectors}
-use Rattle.report.proofs.Reports.{longer}
+use Rattle.report.proofs.Reports.{too_long}
 
 pub report_vectors : ReportVectors
 unfolding
@@ -45,7 +45,7 @@ report_vectors =
       trace_only = refl;
       cut_record = refl;
       cut_contract = refl;
-      too_long = λ input h. longer input h;
+      too_long = λ input h. too_long input h;
       longest = λ trace e. rw e;
       bad_mark = refl;
       contract_first = refl;

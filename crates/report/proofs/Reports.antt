@@ -1,21 +1,22 @@
 -- Laws of the report: longer than the limit, refused by compile, refused by the trace's test, or followed.
-use Prim.Native.Nat.{ℕ, ◌+◌, ◌*◌, ◌-◌, ◌≤◌, ◌<◌}
+use Prim.Native.Nat.{ℕ, ◌+◌, ◌*◌, ◌≤◌, ◌<◌}
 use native.Mathlib.Nat.{zero-add, le_refl}
 use native.Mathlib.Omega.{arith}
+use mathlib.Core.Bool.{Bool, true, false}
 use mathlib.Core.List.{List}
 use mathlib.Core.Path.{◌≡◌, refl, sym, ap, ◌∙◌}
-use lib.ListN.{length, take, drop, replicate, length-drop}
+use lib.Dec.{leb}
+use lib.ListN.{length, take, replicate, length-drop}
 use lib.Seq.{sets, length-sets, length-take-le}
-use borrow.Author.Tests.{le-leb, lt-leb}
+use borrow.Author.Tests.{le-leb, lt-leb, leb-true}
 use Rattle.records.specs.declared.Head.{Head}
 use Rattle.records.specs.declared.Fault.{Fault}
 use Rattle.records.specs.declared.Fault.TheVariants.{LongInput}
-use Rattle.records.specs.declared.Test.{Test}
-use Rattle.records.specs.declared.Test.TheVariants.{Passed, Refused}
-use Rattle.records.specs.Refusals.{fault_number, number_of, place_of}
-use Rattle.records.specs.Replies.{alone, reply_of, call, head_size}
+use Rattle.std.specs.Prelude.{Err}
+use Rattle.records.specs.declared.Refusal.{Refusal}
+use Rattle.records.specs.Refusals.{Passed, Refused, fault_number, require}
+use Rattle.records.specs.Replies.{alone, reply_of, call, head_of, head_size}
 use Rattle.records.proofs.Refusals.{first_only, fault_bounds}
-use Rattle.records.proofs.Written.{part_rest}
 use Rattle.records.proofs.Replies.{head_back}
 use Rattle.periods.specs.Traces.{form_of, period_records, trace_test}
 use Rattle.periods.proofs.Forms.{few_whole}
@@ -39,33 +40,45 @@ use Rattle.image.specs.Limits.{allowed_for, buffer_for}
 use Rattle.image.specs.Images.{image_for}
 use Rattle.image.specs.Monitors.{Monitors}
 use Rattle.compiler.specs.Refusals.{compile_test}
-use Rattle.compiler.specs.Calls.{first_image, compile, Usable}
+use Rattle.compiler.specs.Calls.{first_image, compile, Compiles, Usable}
 use Rattle.report.specs.Limits.{input_bytes, text_bytes}
-use Rattle.report.specs.Texts.{refused_line, Puts}
-use Rattle.report.specs.Split.{contract_length, contract_of, trace_of}
-use Rattle.report.specs.Reports.{on_trace, on_contract, report}
-use Rattle.report.specs.Putting.{Compiling, MayFollow, FollowsTrace}
-use Rattle.report.proofs.Split.{contract_within}
+use Rattle.report.specs.Texts.{refused_line}
+use Rattle.report.specs.Split.{contract_of, trace_of}
+use Rattle.report.specs.Reports.{lines, on_trace, on_contract, report}
+use Rattle.report.specs.declared.Text.{Text}
+use Rattle.report.specs.Putting.{Appends, Served, MayFollow}
 
 -- ---- the input's length
 
 module _ (input : List ℕ) where
-  pub longer : input_bytes < length input → report input ≡ refused_line (fault_number LongInput) 0
+  pub longer : (r : Refusal) → Err r ≡ require (leb (length input) input_bytes) LongInput 0 → report input ≡ refused_line (fault_number r.fault) r.place
   unfolding report
-  longer h = rw (lt-leb (length input) input_bytes h)
+  longer r e = rw (← e)
 
-  pub no_longer : length input ≤ input_bytes → report input ≡ on_contract (read (contract_of input)) (trace_of input)
+  pub too_long : input_bytes < length input → report input ≡ refused_line (fault_number LongInput) 0
   unfolding report
-  no_longer h = rw (le-leb (length input) input_bytes h)
+  too_long h = rw (lt-leb (length input) input_bytes h)
+
+  no_longer : Passed ≡ require (leb (length input) input_bytes) LongInput 0 → report input ≡ on_contract (read (contract_of input)) (trace_of input)
+  unfolding report
+  no_longer e = rw (← e)
+
+  -- passed, the input is short enough
+  short_input : Passed ≡ require (leb (length input) input_bytes) LongInput 0 → length input ≤ input_bytes
+  short_input e = go (leb (length input) input_bytes) refl e
+    where
+      go : (t : Bool) → leb (length input) input_bytes ≡ t → Passed ≡ require t LongInput 0 → length input ≤ input_bytes
+      go true i p = leb-true (length input) input_bytes i
+      go false i p = cc
 
 -- ---- compile's reply
 
--- what compile leaves of a contract that is taken: an image of so many rows first in its buffer, which monitors it
-pub record Served (contract later : List ℕ) (rows : ℕ) : Type 0 where
-  pub few : rows ≤ max_rows
-  pub within : row_bytes * (rows + 1) ≤ length later
-  pub count : row_count (first_image rows later) ≡ rows
-  pub monitors : Monitors contract (first_image rows later)
+-- what compile leaves where its reply is read from an area of zeros
+pub record Replied (contract buffer later : List ℕ) (h : Head) : Type 0 where
+  pub result : ℕ
+  pub reply : List ℕ
+  pub compiles : Compiles contract buffer (replicate head_size 0) result later reply
+  pub head_is : h ≡ head_of reply
 
 -- for a contract that is taken 8 asks room for no more rows than an image can have
 allowed_max : (contract : List ℕ) (c : Clause) → read contract ≡ taken c → allowed_for contract ≤ max_rows
@@ -83,7 +96,7 @@ module _ (contract buffer : List ℕ) (e : length buffer ≡ row_bytes * (max_ro
   same_long = rw (i, le-leb (buffer_for contract) (length buffer) roomy) (length-sets buffer 0 (image_for contract))
 
 -- refused exactly where the number is not 0
-module _ {contract buffer later : List ℕ} {r : Head} (h : Compiling contract buffer later r) (e : length buffer ≡ row_bytes * (max_rows + 1)) where
+module _ {contract buffer later : List ℕ} {r : Head} (h : Replied contract buffer later r) (e : length buffer ≡ row_bytes * (max_rows + 1)) where
   -- the reply of a refusal
   refused_reply : (f : Fault) (k : ℕ) → read contract ≡ refused f k
       → h.reply ≡ sets (replicate head_size 0) 0 (reply_of (Refused f k) (alone 0))
@@ -124,51 +137,35 @@ module _ {contract buffer later : List ℕ} {r : Head} (h : Compiling contract b
 
 -- ---- the input's parts as the program has them, and its ways out
 
-module _ (input : List ℕ) (end : ℕ) (e : end ≡ contract_length input) where
-  pub end-within : end ≤ length input
-  end-within = rw e (contract_within input)
+module _ (input contract trace : List ℕ) (e : contract ≡ contract_of input) (d : trace ≡ trace_of input) (l : Passed ≡ require (leb (length input) input_bytes) LongInput 0) where
+  pub contract_refused : (number place : ℕ) → ((trace : List ℕ) → on_contract (read contract) trace ≡ refused_line number place) → report input ≡ refused_line number place
+  contract_refused number place h = no_longer input l ∙ rw (← e) (h (trace_of input))
 
-  pub front_length : end ≡ length (take end input)
-  front_length = sym (length-take-le end input end-within)
+  module _ {later : List ℕ} {rows : ℕ} (s : Served contract later rows) where
+    on_taken : report input ≡ on_trace s.monitors.clause trace
+    on_taken = no_longer input l ∙ rw (← e, ← d, spells_taken contract s.monitors.clause s.monitors.spells)
 
-  abbrev rest : List ℕ
-  rest = take (length input - end) (drop end input)
+    pub trace_refused : (r : Refusal) → Err r ≡ trace_test trace → report input ≡ refused_line (fault_number r.fault) r.place
+    unfolding on_trace
+    trace_refused r e = on_taken ∙ rw (← e)
 
-  module _ {buffer later : List ℕ} {r : Head} (h : Compiling (take end input) buffer later r) (b : length buffer ≡ row_bytes * (max_rows + 1)) where
-    pub contract_refused : ¬ (r.number ≡ 0) → on_contract (read (contract_of input)) (trace_of input) ≡ refused_line r.number r.place
-    contract_refused n = rw (← e) (refused_contract h b n (drop end input))
+    module _ (p : Passed ≡ trace_test trace) where
+      pub may_follow : (state : List ℕ) (text : Text) → length state ≡ head_bytes + max_rows → text.len + text_bytes ≤ length text.bytes.now
+          → MayFollow (first_image rows later) (take (head_bytes + rows) state) trace text
+      may_follow state text b r =
+          record {
+            contract = contract;
+            monitors = s.monitors;
+            state_long = rw s.count (length-take-le (head_bytes + rows) state (omega (arith, s.few)));
+            passed = sym p;
+            short = rw (d, length-drop) (omega (arith, short_input input l));
+            room = r;
+          }
 
-    module _ (z : r.number ≡ 0) where
-      pub served : Served (take end input) later r.own
-      served = taken_contract h b z
-
-      on_taken : on_contract (read (contract_of input)) (trace_of input) ≡ on_trace served.monitors.clause (drop end input)
-      on_taken = rw (← e, spells_taken (take end input) served.monitors.clause served.monitors.spells)
-
-      pub trace_refused : (t : Test) → t ≡ trace_test rest → (f : Fault) (k : ℕ) → t ≡ Refused f k
-          → on_contract (read (contract_of input)) (trace_of input) ≡ refused_line (number_of t) (place_of t)
+      pub followed : {text last : Text} → ((contract : List ℕ) (m : Monitors contract (first_image rows later)) → Appends text (lines m.clause trace (period_records trace)) last)
+          → Appends text (report input) last
       unfolding on_trace
-      trace_refused t i f k j = on_taken ∙ rw (← (rw (part_rest end input) at i), j)
-
-      module _ (p : trace_test rest ≡ Passed) where
-        pub may_follow : (state text : List ℕ) → length state ≡ head_bytes + max_rows → length text ≡ text_bytes → length input ≤ input_bytes
-            → MayFollow (first_image r.own later) (take (head_bytes + r.own) state) rest text
-        may_follow state text s t l =
-            record {
-              contract = take end input;
-              monitors = served.monitors;
-              state_long = rw served.count (length-take-le (head_bytes + r.own) state (omega (arith, served.few)));
-              passed = p;
-              short = rw (part_rest end input, length-drop) (omega arith);
-              room = omega arith;
-            }
-
-        pub followed : {text last : List ℕ} {s : ℕ} → FollowsTrace (first_image r.own later) rest text last s
-            → Puts text 0 (on_contract (read (contract_of input)) (trace_of input)) last s
-        unfolding on_trace
-        followed f =
-            let m = served.monitors in
-            rw (on_taken, rw (part_rest end input) at p) (rw (part_rest end input) at (f.puts (take end input) m))
+      followed f = rw (on_taken, ← p) (f contract s.monitors)
 
 -- ---- "run's on the trace" is the trace's own test: from the state that begin leaves no other test of run's refuses
 

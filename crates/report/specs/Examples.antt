@@ -1,7 +1,7 @@
 -- Vectors of the report: document 01's example of "Watch", and its edges; of blame 3 document 02, "Duties that both parties own"; of wide
 -- records its "Thirty-two actions".
 use Rattle.std.specs.Prelude.{ℕ, ◌<◌, List, [], ◌∷◌, ◌++◌, map, ◌≡◌, length, replicate}
-use Rattle.records.specs.Verdicts.{broken_after}
+use Rattle.records.specs.declared.Verdict.TheVariants.{BrokenAfter}
 use Rattle.periods.specs.Examples.{narrow_record, wide_record, wide_cut, narrow_long}
 use Rattle.grammar.specs.Examples.{six, duty_bytes, repeat_bytes, when_bytes, any_bytes, star_bytes, joined}
 use Rattle.image.specs.Examples.{watched_bytes}
@@ -37,7 +37,7 @@ pub record ReportVectors : Type 0 where
   pub text_bytes_lem : ascii "decided 0\n" ≡ 0x64 ∷ 0x65 ∷ 0x63 ∷ 0x69 ∷ 0x64 ∷ 0x65 ∷ 0x64 ∷ 0x20 ∷ 0x30 ∷ 0x0a ∷ []
   -- numbers in base ten: by themselves, in a period's line, the last line and a refusal's; and ten periods
   pub numbers : map decimal (0 ∷ 9 ∷ 10 ∷ 99 ∷ 100 ∷ 101 ∷ 10920 ∷ []) ≡ map ascii ("0" ∷ "9" ∷ "10" ∷ "99" ∷ "100" ∷ "101" ∷ "10920" ∷ [])
-  pub period_lines_lem : map (λ n. period_line n broken_after 3) (10 ∷ 99 ∷ 100 ∷ 10920 ∷ [])
+  pub period_lines_lem : map (λ n. period_line n BrokenAfter 3) (10 ∷ 99 ∷ 100 ∷ 10920 ∷ [])
       ≡ map ascii ("10 broken-after 3\n" ∷ "99 broken-after 3\n" ∷ "100 broken-after 3\n" ∷ "10920 broken-after 3\n" ∷ [])
   pub decided_lines : map decided_line (10 ∷ 99 ∷ 100 ∷ 10920 ∷ []) ≡ map ascii ("decided 10\n" ∷ "decided 99\n" ∷ "decided 100\n" ∷ "decided 10920\n" ∷ [])
   pub refused_lines : refused_line 11 10919 ∷ refused_line 6 64 ∷ [] ≡ map ascii ("refused 11 10919\n" ∷ "refused 6 64\n" ∷ [])

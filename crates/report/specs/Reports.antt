@@ -1,9 +1,7 @@
 -- What is printed for an input. Document 01, "Watch".
-use Rattle.std.specs.Prelude.{ℕ, zero, suc, List, [], ◌++◌, leb, length}
+use Rattle.std.specs.Prelude.{ℕ, zero, suc, List, [], ◌++◌, leb, length, Ok, Err}
 use Rattle.records.specs.declared.Fault.TheVariants.{LongInput}
-use Rattle.records.specs.declared.Test.{Test}
-use Rattle.records.specs.declared.Test.TheVariants.{Passed, Refused}
-use Rattle.records.specs.Refusals.{fault_number, require}
+use Rattle.records.specs.Refusals.{Test, fault_number, require}
 use Rattle.periods.specs.Periods.{Period}
 use Rattle.periods.specs.Traces.{period_records, trace_test, trace_periods}
 use Rattle.contract.specs.Meaning.{Clause, meaning}
@@ -28,8 +26,8 @@ lines c trace n = period_lines c trace n ++ decided_line (decision_period (meani
 
 -- "A refusal prints only `refused`, number, place"
 abbrev pub or_refused : Test → (text : List ℕ) → List ℕ
-or_refused Passed text = text
-or_refused (Refused f k) text = refused_line (fault_number f) k
+or_refused (Ok u) text = text
+or_refused (Err r) text = refused_line (fault_number r.fault) r.place
 
 -- "then run's on the trace"
 unfoldable pub on_trace : Clause → (trace : List ℕ) → List ℕ

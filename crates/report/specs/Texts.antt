@@ -3,7 +3,8 @@ use Rattle.std.specs.Prelude.{ℕ, zero, suc, ◌+◌, ◌/◌, ◌%◌, ◌≤�
 use Prim.Native.Char.{code}
 use Prim.Native.String.{String, [], ◌∷◌}
 use Rattle.std.proofs.lemmas.List.Edits.{sets}
-use Rattle.records.specs.Verdicts.{Verdict, verdict_name}
+use Rattle.records.specs.declared.Verdict.{Verdict}
+use Rattle.records.specs.Verdicts.{verdict_name}
 
 -- a text's bytes
 abbrev pub ascii : String → List ℕ

@@ -2,22 +2,27 @@
 // "Thirty-two actions".
 #![tactic(auto)]
 
-ghost use Rattle.std.specs.Prelude.{◌≡◌, ◌+◌, ◌*◌, ◌≤◌, ◌<◌, length};
-ghost use Rattle.records.specs.Verdicts.{Verdict, verdict_number, verdict_name};
-ghost use Rattle.records.specs.Refusals.{first_failing};
-ghost use Rattle.periods.specs.declared.Form.TheVariants.{Narrow};
-ghost use Rattle.periods.specs.Traces.{whole_periods, period_records};
+ghost use Rattle.std.specs.Prelude.{◌≡◌, ℕ, List, [], ◌+◌, ◌*◌, ◌≤◌, ◌≢◌, length, IfOk, IfErr, OnOk, OnErr};
+ghost use Rattle.std.specs.IoError.{error_kind};
+ghost use Rattle.std.specs.Process.{exit_status};
+ghost use Rattle.records.specs.Verdicts.{verdict_name};
+ghost use Rattle.records.specs.Refusals.{fault_number};
+ghost use Rattle.periods.specs.Traces.{period_records, trace_periods};
 ghost use Rattle.layout.specs.Limits.{row_bytes, max_rows};
 ghost use Rattle.states.specs.Limits.{head_bytes};
+ghost use Rattle.contract.specs.Meaning.{Clause};
 ghost use Rattle.grammar.specs.Reader.{read};
-ghost use Rattle.report.specs.Limits.{input_bytes, input_periods, name_bytes, line_bytes, text_bytes};
+ghost use Rattle.image.specs.Monitors.{Monitors};
+ghost use Rattle.report.specs.Limits.{text_bytes};
 ghost use Rattle.report.specs.Texts.{ascii, decimal, period_line, decided_line, refused_line, Puts};
-ghost use Rattle.report.specs.Split.{unmarked_six, contract_length, contract_of, trace_of};
-ghost use Rattle.report.specs.Reports.{on_contract, report};
-ghost use Rattle.report.specs.Putting.{Compiling, Stepping, MayList, Lists, MayFollow, FollowsTrace};
+ghost use Rattle.report.specs.Split.{contract_length, contract_of, trace_of};
+ghost use Rattle.report.specs.Reports.{on_contract, lines, report};
+ghost use Rattle.report.specs.Putting.{HasRoom, Appends, Served, Follows, MayStep, Stepping, MayList, MayFollow};
 
 use periods::Form;
-use records::{Fault, Head, Test};
+use records::{Fault, Field, Refusal, Verdict};
+use std::io::{Error, ErrorKind};
+use std::process::ExitCode;
 
 // The most bytes of an input.
 pub const INPUT_BYTES: usize = 65520;
@@ -35,198 +40,233 @@ const INPUT_PERIODS: usize = INPUT_BYTES / periods::NARROW_BYTES;
 // The most bytes of a line.
 const LINE_BYTES: usize = 21;
 
-// ---- texts
+// ---- the text
 
-// Puts the bytes of a word into the text from byte `at` on, and gives the byte after them.
-fn put_word(text: &mut [u8], at: usize, word: &[u8]) -> usize
-    requires { at + length word.now ≤ length text.old }
-    ensures { Puts text.old at word.now text.new result }
-{
-    let mut k = 0;
-    while k < word.len() {
-        text[at + k] = word[k];
-        k += 1;
-    }
-    at + k
+// A text that grows in a buffer: the buffer's first `len` bytes.
+#[derive(Drop)]
+struct Text<'a> {
+    bytes: &'a mut [u8],
+    len: usize,
 }
 
-// Puts a number's digits.
-fn put_decimal(text: &mut [u8], at: usize, n: u64) -> usize
-    requires { at + length (decimal n) ≤ length text.old }
-    ensures { Puts text.old at (decimal n) text.new result }
-{
-    if n < 10 {
-        text[at] = 48 + n as u8;
-        return at + 1;
+impl Text<'_> {
+    // Puts a word behind the text.
+    fn put(&mut self, word: &[u8])
+        requires { HasRoom self.old word.now }
+        ensures { Appends self.old word.now self.new }
+    {
+        let start = self.len;
+        let end = start + word.len();
+        self.bytes[start..end].copy_from_slice(word);
+        self.len = end;
     }
-    let last = put_decimal(text, at, n / 10);
-    text[last] = 48 + (n % 10) as u8;
-    last + 1
+
+    // Puts a number's digits. `write!` would promise them only where it succeeds, and nowhere that it does.
+    fn put_number(&mut self, n: u64)
+        requires { HasRoom self.old (decimal n) }
+        ensures { Appends self.old (decimal n) self.new }
+    {
+        if n >= 10 {
+            self.put_number(n / 10);
+        }
+        self.put(&[b'0' + (n % 10) as u8]);
+    }
+
+    // Ends the line.
+    fn end_line(&mut self)
+        requires { HasRoom self.old (ascii "\n") }
+        ensures { Appends self.old (ascii "\n") self.new }
+    {
+        self.put(b"\n");
+    }
+
+    // Puts the line of a period.
+    fn put_period(&mut self, n: u64, seen: Stepped)
+        requires { HasRoom self.old (period_line n seen.verdict seen.blame) }
+        ensures { Appends self.old (period_line n seen.verdict seen.blame) self.new }
+    {
+        self.put_number(n);
+        self.put(b" ");
+        self.put(verdict_name(seen.verdict));
+        self.put(b" ");
+        self.put_number(seen.blame as u64);
+        self.end_line();
+    }
+
+    // Puts the last line.
+    fn put_decided(&mut self, decision: u64)
+        requires { HasRoom self.old (decided_line decision) }
+        ensures { Appends self.old (decided_line decision) self.new }
+    {
+        self.put(b"decided ");
+        self.put_number(decision);
+        self.end_line();
+    }
+
+    // Puts the line of a refusal, the only one there is.
+    fn put_refused(&mut self, refused: RefusedLine)
+        requires { HasRoom self.old (refused_line refused.number refused.place) }
+        ensures { Appends self.old (refused_line refused.number refused.place) self.new }
+    {
+        self.put(b"refused ");
+        self.put_number(refused.number as u64);
+        self.put(b" ");
+        self.put_number(refused.place);
+        self.end_line();
+    }
 }
 
-// Puts a verdict's name.
-fn put_name(text: &mut [u8], at: usize, verdict: u32) -> usize
-    requires { at + name_bytes ≤ length text.old }
-    ensures puts { (v : Verdict) → verdict ≡ verdict_number v → Puts text.old at (ascii (verdict_name v)) text.new result }
-    ensures upper_bound { result ≤ at + name_bytes }
+// A verdict's name.
+fn verdict_name(verdict: Verdict) -> &'static [u8]
+    ensures { result.now ≡ ascii (verdict_name verdict) }
 {
     match verdict {
-        0 => put_word(text, at, b"open"),
-        1 => put_word(text, at, b"met"),
-        2 => put_word(text, at, b"broken"),
-        3 => put_word(text, at, b"met-after"),
-        _ => put_word(text, at, b"broken-after"),
+        Verdict::Open => b"open",
+        Verdict::Met => b"met",
+        Verdict::Broken => b"broken",
+        Verdict::MetAfter => b"met-after",
+        Verdict::BrokenAfter => b"broken-after",
     }
-}
-
-// ---- lines
-
-// Puts the line of a period.
-fn put_period(text: &mut [u8], at: usize, n: u64, verdict: u32, blame: u64) -> usize
-    requires line_bytes_in_bounds { at + line_bytes ≤ length text.old }
-    requires n_le_input_periods { n ≤ input_periods }
-    requires blame_bound { blame < 10 }
-    ensures { (v : Verdict) → verdict ≡ verdict_number v → Puts text.old at (period_line n v blame) text.new result }
-{
-    let number_end = put_decimal(text, at, n);
-    let name = put_word(text, number_end, b" ");
-    let name_end = put_name(text, name, verdict);
-    let blame_at = put_word(text, name_end, b" ");
-    let blame_end = put_decimal(text, blame_at, blame);
-    put_word(text, blame_end, b"\n")
-}
-
-// Puts the last line.
-fn put_decided(text: &mut [u8], at: usize, decision: u64) -> usize
-    requires { at + length (decided_line decision) ≤ length text.old }
-    ensures { Puts text.old at (decided_line decision) text.new result }
-{
-    let number = put_word(text, at, b"decided ");
-    let number_end = put_decimal(text, number, decision);
-    put_word(text, number_end, b"\n")
-}
-
-// Puts the line of a refusal, the only one there is.
-fn put_refused(text: &mut [u8], number: u64, place: u64) -> usize
-    requires { length (refused_line number place) ≤ length text.old }
-    ensures { Puts text.old 0 (refused_line number place) text.new result }
-{
-    let number_at = put_word(text, 0, b"refused ");
-    let number_end = put_decimal(text, number_at, number);
-    let place_at = put_word(text, number_end, b" ");
-    let place_end = put_decimal(text, place_at, place);
-    put_word(text, place_end, b"\n")
 }
 
 // ---- the input's parts
-
-// The first of n times six bytes that start with either form's mark; n where there are none.
-fn first_period(input: &[u8], n: usize) -> usize
-    requires { n ≤ whole_periods Narrow input.now }
-    ensures { result ≡ first_failing (unmarked_six input.now) 0 n }
-{
-    let mut k = 0;
-    while k < n && !periods::either_mark(input, periods::NARROW_BYTES * k) {
-        k += 1;
-    }
-    k
-}
 
 // How many bytes of the input are the contract; the rest is the trace.
 fn contract_length(input: &[u8]) -> usize
     ensures { result ≡ contract_length input.now }
 {
     let n = periods::whole_periods(Form::Narrow, input);
-    let k = first_period(input, n);
+    let k = records::first_failing(n, |k| {
+        !periods::either_mark(input, periods::NARROW_BYTES * k)
+    });
     if k == n {
-        return input.len();
+        input.len()
+    } else {
+        periods::NARROW_BYTES * k
     }
-    periods::NARROW_BYTES * k
+}
+
+// The input's contract and its trace.
+fn contract_and_trace(input: &[u8]) -> (&[u8], &[u8])
+    ensures contract { result.0.now ≡ contract_of input.now }
+    ensures trace { result.1.now ≡ trace_of input.now }
+{
+    input.split_at(contract_length(input))
 }
 
 // ---- compile and step, and what they reply
 
-// Compile's reply: its number, row count and place.
-fn compile(contract: &[u8], image: &mut [u8]) -> Head
-    ensures { Compiling contract.now image.old image.new result }
+// What a refusal's line says: its number and its place.
+#[derive(Clone, Copy)]
+struct RefusedLine {
+    number: u32,
+    place: u64,
+}
+
+impl From<Refusal> for RefusedLine {
+    ghost from_gives = { λ r l. (l.number ≡ fault_number r.fault) × (l.place ≡ r.place) };
+
+    fn from(refusal: Refusal) -> RefusedLine {
+        RefusedLine {
+            number: records::fault_number(refusal.fault),
+            place: refusal.place as u64,
+        }
+    }
+}
+
+// Compiles the contract into an image, and gives how many rows it has.
+fn compile(contract: &[u8], image: &mut [u8]) -> Result<usize, RefusedLine>
+    requires { length image.old ≡ row_bytes * (max_rows + 1) }
+    ensures rows { IfOk result (λ n. Served contract.now image.new n) }
+    ensures refused { IfErr result (λ r. (trace : List ℕ) → on_contract (read contract.now) trace ≡ refused_line r.number r.place) }
 {
     let mut reply = [0u8; compiler::COMPILE_REPLY_BYTES];
     compiler::monitor_compile(contract, image, &mut reply);
-    records::get_head(&reply)
+    let head = records::get_head(&reply);
+    if head.number != 0 {
+        return Err(RefusedLine {
+            number: head.number,
+            place: head.place,
+        });
+    }
+    Ok(head.own as usize)
 }
 
+// What a step replies, read from its bytes.
 #[derive(Clone, Copy)]
-pub struct Stepped {
-    pub verdict: u32,
-    pub blame: u32,
-    pub decision: u32,
+struct Stepped {
+    verdict: Verdict,
+    blame: u32,
+    decision: u32,
 }
 
 // A step on record k of a trace.
 fn step(image: &[u8], state: &mut [u8], trace: &[u8], k: usize) -> Stepped
-    requires { k < period_records trace.now }
-    ensures { Stepping image.now state.old trace.now k state.new result }
+    requires { MayStep image.now state.old trace.now k }
+    ensures { (c : Clause) → Follows c image.now state.old (trace_periods trace.now k) → Stepping c image.now trace.now k state.new result }
 {
     let bytes = periods::period_bytes(periods::form_of(trace));
     let from = bytes * k;
     let mut reply = [0u8; runner::STEP_REPLY_BYTES];
     runner::monitor_step(image, state, &trace[from..from + bytes], &mut reply);
     let head = records::get_head(&reply);
+    let blame = u32::get(&reply, records::REPLY_HEAD);
+    let decision = u32::get(&reply, records::REPLY_HEAD + 4);
+    let Ok(verdict) = Verdict::try_from(head.own) else {
+        unreachable!();
+    };
     Stepped {
-        verdict: head.own,
-        blame: records::get4(&reply, records::REPLY_HEAD),
-        decision: records::get4(&reply, records::REPLY_HEAD + 4),
+        verdict,
+        blame,
+        decision,
     }
 }
 
 // ---- the report
 
 // Puts the lines of n periods, then the decision period. The state has been begun.
-fn put_lines(image: &[u8], state: &mut [u8], trace: &[u8], n: usize, text: &mut [u8]) -> usize
+fn put_lines(image: &[u8], state: &mut [u8], trace: &[u8], n: usize, text: &mut Text)
     requires { MayList image.now state.old trace.now n text.old }
-    ensures { Lists image.now state.old trace.now n text.old text.new result }
+    ensures { (c : Clause) → Follows c image.now state.old [] → Appends text.old (lines c trace.now n) text.new }
 {
-    let mut at = 0;
     let mut decision = 0;
-    let mut k = 0;
-    while k < n {
+    for k in 0..n {
         let seen = step(image, state, trace, k);
-        k += 1;
-        at = put_period(text, at, k as u64, seen.verdict, seen.blame as u64);
+        text.put_period(k as u64 + 1, seen);
         decision = seen.decision;
     }
-    put_decided(text, at, decision as u64)
+    text.put_decided(decision as u64);
 }
 
 // Begins a state and puts the lines of a trace without a fault.
-fn follow(image: &[u8], state: &mut [u8], trace: &[u8], text: &mut [u8]) -> usize
+fn follow(image: &[u8], state: &mut [u8], trace: &[u8], text: &mut Text)
     requires { MayFollow image.now state.old trace.now text.old }
-    ensures { FollowsTrace image.now trace.now text.old text.new result }
+    ensures { (contract : List ℕ) (m : Monitors contract image.now)
+        → Appends text.old (lines m.clause trace.now (period_records trace.now)) text.new }
 {
     let mut reply = [0u8; runner::BEGIN_REPLY_BYTES];
     runner::monitor_begin(image, state, &mut reply);
-    put_lines(image, state, trace, periods::period_records(trace), text)
+    put_lines(image, state, trace, periods::period_records(trace), text);
 }
 
-// Puts the report of an input of at most INPUT_BYTES.
-fn put_parts(input: &[u8], image: &mut [u8], state: &mut [u8], text: &mut [u8]) -> usize
-    requires input_len_bound { length input.now ≤ input_bytes }
+// Puts the lines of an input, or finds what refuses it.
+fn put_parts(
+    input: &[u8],
+    image: &mut [u8],
+    state: &mut [u8],
+    text: &mut Text,
+) -> Result<(), RefusedLine>
     requires image_len { length image.old ≡ row_bytes * (max_rows + 1) }
     requires state_len { length state.old ≡ head_bytes + max_rows }
-    requires text_len { length text.old ≡ text_bytes }
-    ensures { Puts text.old 0 (on_contract (read (contract_of input.now)) (trace_of input.now)) text.new result }
+    requires room { text.old.len + text_bytes ≤ length text.old.bytes.now }
+    ensures puts { OnOk result (Appends text.old (report input.now) text.new) }
+    ensures refused { IfErr result (λ r. report input.now ≡ refused_line r.number r.place) }
+    ensures unchanged { OnErr result (text.new ≡ text.old) }
 {
-    let end = contract_length(input);
-    let compiled = compile(&input[..end], image);
-    if compiled.number != 0 {
-        return put_refused(text, compiled.number as u64, compiled.place);
-    }
-    let trace = &input[end..];
-    let t = periods::trace_test(trace);
-    let Test::Passed = t else {
-        return put_refused(text, records::number(t) as u64, records::place(t));
-    };
-    let rows = compiled.own as usize;
+    records::require(input.len() <= INPUT_BYTES, Fault::LongInput, 0)?;
+    let (contract, trace) = contract_and_trace(input);
+    let rows = compile(contract, image)?;
+    periods::trace_test(trace)?;
     let image_length = layout::ROW_BYTES * (rows + 1);
     let state_length = states::HEAD_BYTES + rows;
     follow(
@@ -234,7 +274,8 @@ fn put_parts(input: &[u8], image: &mut [u8], state: &mut [u8], text: &mut [u8]) 
         &mut state[..state_length],
         trace,
         text,
-    )
+    );
+    Ok(())
 }
 
 // Puts the report of an input into the text's first bytes, and gives its length. Image and state are lent to work in: what they hold
@@ -247,8 +288,29 @@ pub fn put_report(
 ) -> usize
     ensures { Puts text.old 0 (report input.now) text.new result }
 {
-    if input.len() > INPUT_BYTES {
-        return put_refused(text, records::fault_number(Fault::LongInput) as u64, 0);
+    let mut out = Text {
+        bytes: text,
+        len: 0,
+    };
+    if let Err(refused) = put_parts(input, image, state, &mut out) {
+        out.put_refused(refused);
     }
-    put_parts(input, image, state, text)
+    out.len
+}
+
+// ---- how a program that prints ends
+
+// The exit status where nobody reads what is written any more: the one that a shell gives a program which the signal SIGPIPE ended.
+const PIPE_CLOSED: u8 = 141;
+
+// The exit status after a write.
+pub fn exit_status(written: Result<(), Error>) -> ExitCode
+    ensures ok { OnOk written (exit_status result ≡ 0) }
+    ensures pipe_closed { IfErr written (λ e. error_kind e ≡ ErrorKind.BrokenPipe → exit_status result ≡ 141) }
+    ensures other_error { IfErr written (λ e. error_kind e ≢ ErrorKind.BrokenPipe → exit_status result ≡ 0) }
+{
+    match written {
+        Err(error) if error.kind() == ErrorKind::BrokenPipe => ExitCode::from(PIPE_CLOSED),
+        _ => ExitCode::SUCCESS,
+    }
 }

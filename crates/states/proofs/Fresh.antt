@@ -1,11 +1,9 @@
 -- The state of no periods: its bytes are zeros, it is sound, and so they pass the test.
-use Prim.Native.Nat.{ℕ, zero, suc, ◌≤◌}
+use Prim.Native.Nat.{ℕ, zero, suc}
 use native.Mathlib.Omega.{arith}
 use mathlib.Core.Bool.{true}
-use mathlib.Core.List.{List, ◌∷◌}
-use mathlib.Core.Path.{◌≡◌, refl, sym, ap}
-use Rattle.records.specs.declared.Test.TheVariants.{Passed}
-use lib.ListN.{take, replicate, length-replicate, replicate-append-replicate}
+use mathlib.Core.Path.{◌≡◌, refl, sym}
+use lib.ListN.{replicate, length-replicate, replicate-append-replicate}
 use Rattle.records.specs.Fields.{bytes}
 use Rattle.states.specs.Limits.{head_bytes}
 use Rattle.states.specs.States.{State, state_of, state_bytes, fresh_bytes, all_at_most}
@@ -13,6 +11,7 @@ use Rattle.states.specs.Refusals.{state_test}
 use Rattle.states.specs.Premises.{undecided}
 use Rattle.states.proofs.Soundness.{Sound}
 use Rattle.states.proofs.States.{read_back, sound_passes}
+use Rattle.records.specs.Refusals.{Passed}
 
 -- the state of no periods for an image of n rows
 abbrev pub fresh_state : ℕ → State
@@ -35,9 +34,3 @@ fresh_read n = rw (fresh_bytes_lem n) (read_back n (fresh_state n) (fresh_sound 
 
 pub fresh_passes : (n : ℕ) → state_test n (fresh_bytes n) ≡ Passed
 fresh_passes n = rw (fresh_bytes_lem n) (sound_passes n (fresh_state n) (fresh_sound n) (omega arith))
-
--- the first n of m zeros
-pub zeros_part : (m n : ℕ) → n ≤ m → take {A = ℕ} n (replicate m 0) ≡ replicate n 0
-zeros_part m zero h = refl
-zeros_part zero (suc n) h = absurd (omega arith)
-zeros_part (suc m) (suc n) h = ap (λ (l : List ℕ). 0 ∷ l) (zeros_part m n (omega arith))

@@ -8,8 +8,7 @@ use lib.ListN.{length}
 use borrow.Author.Tests.{eqb-true, leb-true, le-leb}
 use Rattle.records.specs.declared.Fault.{Fault}
 use Rattle.records.specs.declared.Fault.TheVariants.{BadState, FullCount}
-use Rattle.records.specs.declared.Test.TheVariants.{Passed}
-use Rattle.records.specs.Refusals.{require}
+use Rattle.records.specs.Refusals.{Passed, require}
 use Rattle.records.proofs.Refusals.{first_passed, require-passed, only_for, only_require, only_first}
 use Rattle.states.specs.Limits.{head_bytes, max_periods}
 use Rattle.states.specs.States.{state_of, sound}

@@ -6,11 +6,9 @@ use mathlib.Core.Bool.{Bool, true, false, ◌&&◌, beq, cond, and-eq-true_iff, 
 use mathlib.Core.Logic.{◌↔◌}
 use mathlib.Core.List.{List}
 use lib.Dec.{eqb, leb, ltb}
-use lib.ListN.{length, drop, get_or}
+use lib.ListN.{length}
 use borrow.Author.Tests.{ltb-true, leb-true, eqb-true, eqb-false, lt-ltb, le-leb, eq-eqb, ne_eqb}
-use Rattle.records.specs.Fields.{field}
-use Rattle.states.specs.Limits.{head_bytes}
-use Rattle.states.specs.States.{State, state_of, all_at_most, all_zero, sound}
+use Rattle.states.specs.States.{State, all_at_most, all_zero, sound}
 use Rattle.states.specs.Premises.{SoundHead, undecided, satisfied, violated}
 use Rattle.states.proofs.Values.{all_at_most-mono}
 
@@ -27,24 +25,24 @@ leb_iff a b = (leb-true a b, le-leb a b)
 
 ruleset tests = (and-eq-true_iff, eqb_iff, ltb_iff, leb_iff)
 
--- outcome by outcome, the tests that tell it
-pub undecided_iff : (b p d : ℕ) → (eqb b 0 && eqb d 0 ≡ true) ↔ SoundHead 0 b p d
-undecided_iff b p d = simp tests (λ e. rw (e.0, e.1) undecided, back)
+-- outcome by outcome, what tells it
+pub undecided_iff : {o b p d : ℕ} → 0 ≡ o → SoundHead o b p d ↔ ((b ≡ 0) × (d ≡ 0))
+undecided_iff {b = b} {p = p} {d = d} e = rw (← e) (back, λ h. rw (h.0, h.1) undecided)
   where
     back : {b d : ℕ} → SoundHead 0 b p d → (b ≡ 0) × (d ≡ 0)
     back undecided = (refl, refl)
 
-pub satisfied_iff : (b p d : ℕ) → (eqb b 0 && ltb 0 d && leb d p ≡ true) ↔ SoundHead 1 b p d
-satisfied_iff b p d = simp tests (λ e. rw e.0.0 (satisfied e.0.1 e.1), back)
+pub satisfied_iff : {o b p d : ℕ} → 1 ≡ o → SoundHead o b p d ↔ ((b ≡ 0) × (0 < d) × (d ≤ p))
+satisfied_iff {b = b} {p = p} {d = d} e = rw (← e) (back, λ h. rw h.0 (satisfied h.1 h.2))
   where
-    back : {b : ℕ} → SoundHead 1 b p d → ((b ≡ 0) × (0 < d)) × (d ≤ p)
-    back (satisfied h k) = ((refl, h), k)
+    back : {b : ℕ} → SoundHead 1 b p d → (b ≡ 0) × (0 < d) × (d ≤ p)
+    back (satisfied h k) = (refl, h, k)
 
-pub violated_iff : (b p d : ℕ) → (ltb 0 b && leb b 3 && ltb 0 d && leb d p ≡ true) ↔ SoundHead 2 b p d
-violated_iff b p d = simp tests (λ e. violated e.0.0.0 e.0.0.1 e.0.1 e.1, back)
+pub violated_iff : {o b p d : ℕ} → 2 ≡ o → SoundHead o b p d ↔ ((0 < b) × (b ≤ 3) × (0 < d) × (d ≤ p))
+violated_iff {b = b} {p = p} {d = d} e = rw (← e) (back, λ h. violated h.0 h.1 h.2 h.3)
   where
-    back : SoundHead 2 b p d → (((0 < b) × (b ≤ 3)) × (0 < d)) × (d ≤ p)
-    back (violated g h i k) = (((g, h), i), k)
+    back : SoundHead 2 b p d → (0 < b) × (b ≤ 3) × (0 < d) × (d ≤ p)
+    back (violated g h i k) = (g, h, i, k)
 
 pub outcome≤ : {o b p d : ℕ} → SoundHead o b p d → o ≤ 2
 outcome≤ undecided = omega arith
@@ -114,6 +112,9 @@ sound_head s h =
     let e = simp tests at h in
     tests_head s.outcome s.blame s.periods s.decision e.0.0.0.0.0 e.0.0.0.1 e.0.0.1 e.0.1
 
+pub unsound : (s : State) → ¬ SoundHead s.outcome s.blame s.periods s.decision → sound s ≡ false
+unsound s n = (not-eq-not {b = false}).0 (λ h. n (sound_head s h))
+
 module _ (n : ℕ) (s : State) where
   pub sound_facts : sound s ≡ true → length s.values ≡ n → Sound n s
   sound_facts h l = let k = sound_head s h in record { long = l; head = k; values_sound = sym (sound_values s k) ∙ h }
@@ -128,20 +129,3 @@ module _ (n : ℕ) (s : State) where
       go : (t : Bool) → all_at_most (cond t 0 1) s.values ≡ true → all_at_most 1 s.values ≡ true
       go true e = all_at_most-mono s.values (omega arith) e
       go false e = e
-
--- the same of the state that bytes hold, in each case of its head
-module _ (l : List ℕ) where
-  abbrev pub HeadSound : Type 0
-  HeadSound = SoundHead (get_or l 0 0) (get_or l 1 0) (field l 2 4) (field l 6 4)
-
-  pub unsound_head : ¬ HeadSound → sound (state_of l) ≡ false
-  unfolding state_of
-  unsound_head n = (not-eq-not {b = false}).0 (λ h. n (sound_head (state_of l) h))
-
-  pub sound_none_taken : HeadSound → field l 2 4 ≡ 0 → sound (state_of l) ≡ all_at_most 0 (drop head_bytes l)
-  unfolding state_of
-  sound_none_taken h e = sound_values (state_of l) h ∙ rw (eq-eqb (field l 2 4) 0 e)
-
-  pub sound_some_taken : HeadSound → ¬ (field l 2 4 ≡ 0) → sound (state_of l) ≡ all_at_most 1 (drop head_bytes l)
-  unfolding state_of
-  sound_some_taken h e = sound_values (state_of l) h ∙ rw (ne_eqb (field l 2 4) 0 e)

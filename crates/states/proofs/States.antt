@@ -9,13 +9,13 @@ use lib.Seq.{drop-cons, drop-drop, drop_at}
 use borrow.Author.Tests.{eq-eqb}
 use Rattle.records.specs.Fields.{bytes, field}
 use Rattle.records.specs.Holding.{AllBytes}
-use Rattle.records.specs.declared.Test.TheVariants.{Passed}
 use Rattle.records.proofs.Fields.{length-bytes, bytes-field}
 use Rattle.records.proofs.Written.{field_spelled}
 use Rattle.states.specs.Limits.{head_bytes, max_periods}
 use Rattle.states.specs.States.{State, state_bytes, state_of}
 use Rattle.states.specs.Refusals.{state_test}
 use Rattle.states.proofs.Soundness.{Sound, decision≤, facts_sound}
+use Rattle.records.specs.Refusals.{Passed}
 
 -- ---- the bytes of a state
 

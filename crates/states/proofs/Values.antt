@@ -1,13 +1,15 @@
 -- Row values that are all at most a number, and a scan of them.
-use Prim.Native.Nat.{ℕ, zero, suc, ◌≤◌, ◌<◌}
+use Prim.Native.Nat.{ℕ, zero, suc, ◌≤◌}
 use native.Mathlib.Omega.{arith}
-use mathlib.Core.Path.{◌≡◌, refl}
-use mathlib.Core.Bool.{true, false, and-eq-true_iff}
+use mathlib.Core.Path.{◌≡◌, refl, sym}
+use mathlib.Core.Bool.{true, ◌&&◌, and-eq-true_iff, and-true, and_assoc}
 use mathlib.Core.List.{List, [], ◌∷◌}
 use lib.Dec.{leb}
-use lib.ListN.{length, drop, get_or, drop_of_length-le}
-use lib.Seq.{drop-cons}
-use borrow.Author.Tests.{leb-true, le-leb, lt-leb}
+use lib.ListN.{get_or}
+use borrow.Author.Tests.{leb-true, le-leb}
+use Rattle.std.proofs.lemmas.Bool.Decides.{nat_tests}
+use Rattle.std.specs.List.{fold}
+use Rattle.std.specs.Prelude.{max}
 use Rattle.states.specs.States.{all_at_most}
 
 -- ---- values that are all at most m
@@ -26,16 +28,15 @@ at_all_at_most m (v ∷ vs) h = rw (le-leb v m (h 0)) (at_all_at_most m vs (λ i
 pub all_at_most-mono : {m n : ℕ} (vs : List ℕ) → m ≤ n → all_at_most m vs ≡ true → all_at_most n vs ≡ true
 all_at_most-mono {m} {n} vs l h = at_all_at_most n vs (λ i. omega (arith, all_at_most_at m vs h i))
 
--- ---- a scan of the values from the front, at value k
+-- ---- the greatest of the values
 
-pub scan_step : (m : ℕ) (vs : List ℕ) (k : ℕ) → k < length vs → get_or vs k 0 ≤ m → all_at_most m (drop k vs) ≡ all_at_most m (drop (suc k) vs)
-unfolding all_at_most
-scan_step m vs k l h = rw (drop-cons vs k 0 l, le-leb (get_or vs k 0) m h)
+leb-max : (a b m : ℕ) → leb (max a b) m ≡ (leb a m && leb b m)
+leb-max a b m = grind (arith, nat_tests)
 
-pub scan_fails : (m : ℕ) (vs : List ℕ) (k : ℕ) → k < length vs → m < get_or vs k 0 → all_at_most m (drop k vs) ≡ false
+greatest_from : (m a : ℕ) (vs : List ℕ) → leb (fold max a vs) m ≡ (leb a m && all_at_most m vs)
 unfolding all_at_most
-scan_fails m vs k l h = rw (drop-cons vs k 0 l, lt-leb (get_or vs k 0) m h)
+greatest_from m a [] = sym (and-true (leb a m))
+greatest_from m a (v ∷ vs) = rw (greatest_from m (max a v) vs, leb-max a v m) (and_assoc (leb a m) (leb v m) (all_at_most m vs))
 
-pub scan_ends : (m : ℕ) (vs : List ℕ) (k : ℕ) → length vs ≤ k → all_at_most m (drop k vs) ≡ true
-unfolding all_at_most
-scan_ends m vs k h = rw (drop_of_length-le vs h)
+pub all_at_most_greatest : (m : ℕ) (vs : List ℕ) → leb (fold max 0 vs) m ≡ all_at_most m vs
+all_at_most_greatest m vs = rw (greatest_from m 0 vs, le-leb 0 m (omega arith))

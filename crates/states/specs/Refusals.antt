@@ -1,8 +1,7 @@
 -- Refusals 10 and 12, and their places. Document 01, "Replies that refuse".
 use Rattle.std.specs.Prelude.{ℕ, ◌+◌, ◌-◌, List, eqb, leb, length}
 use Rattle.records.specs.declared.Fault.TheVariants.{BadState, FullCount}
-use Rattle.records.specs.declared.Test.{Test}
-use Rattle.records.specs.Refusals.{require, first_of}
+use Rattle.records.specs.Refusals.{Test, require, first_of}
 use Rattle.states.specs.Limits.{head_bytes, max_periods}
 use Rattle.states.specs.States.{state_of, sound}
 

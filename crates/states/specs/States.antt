@@ -1,8 +1,12 @@
 -- States, their bytes, and which are sound. Document 01, "Image and row machine", from "State".
-use Rattle.std.specs.Prelude.{ℕ, ◌+◌, Bool, true, ◌&&◌, cond, List, [], ◌∷◌, ◌++◌, eqb, leb, get_or, drop, replicate}
+use Rattle.std.specs.Prelude.{ℕ, ◌+◌, Bool, true, ◌&&◌, cond, List, [], ◌∷◌, ◌++◌, eqb, leb, get_or, drop, replicate, ◌≡◌, ◌<◌, Result, MatchResult}
 use Rattle.std.specs.Bool.{beq}
 use Rattle.records.specs.Fields.{bytes, field}
 use Rattle.states.specs.Limits.{head_bytes}
+use Rattle.states.specs.declared.NoOutcome.{NoOutcome}
+use Rattle.states.specs.declared.Outcome.{Outcome}
+use Rattle.states.specs.declared.Outcome.TheVariants.{Undecided, Satisfied, Violated}
+use Rattle.states.specs.declared.StateHead.{StateHead}
 
 -- outcome (0 undecided, 1 satisfied, 2 violated); blame; periods taken; decision period, 0 for none; each row's last value, 0 or 1
 pub record State : Type 0 where
@@ -20,6 +24,19 @@ state_bytes s = s.outcome ∷ s.blame ∷ (bytes 4 s.periods ++ (bytes 4 s.decis
 unfoldable pub state_of : List ℕ → State
 state_of l =
     record { outcome = get_or l 0 0; blame = get_or l 1 0; periods = field l 2 4; decision = field l 6 4; values = drop head_bytes l }
+
+-- a state's first fields
+abbrev pub head_of : State → StateHead
+head_of s = record { outcome = s.outcome; blame = s.blame; periods = s.periods; decision = s.decision }
+
+-- an outcome's number, and what a number is read as: its outcome, or that it is above all of theirs
+abbrev pub outcome_number : Outcome → ℕ
+outcome_number Undecided = 0
+outcome_number Satisfied = 1
+outcome_number Violated = 2
+
+abbrev pub Numbers : ℕ → Result Outcome NoOutcome → Type 0
+Numbers n r = MatchResult r (λ o. outcome_number o ≡ n) (λ _. 2 < n)
 
 -- a fresh state's bytes, for n rows: "Begin sets a state to zeros."
 abbrev pub fresh_bytes : ℕ → List ℕ

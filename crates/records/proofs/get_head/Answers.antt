@@ -2,4 +2,4 @@
 use Rattle.records.proofs.get_head.Goals as goal
 
 pub returns : goal.returns
-returns c = rw (c.get4.ensures.is, c.get4-2.ensures.is, c.get8.ensures.is)
+returns c = rw (c.get.ensures.is, c.get-2.ensures.is, c.get-3.ensures.is)

@@ -9,4 +9,4 @@ put_lines-requires c =
 
 pub returns : goal.returns
 returns c =
-    all_followed c.requires _ _ (omega arith) c.monitor_begin.ensures.buffers_are _ _ (rw c.period_records.ensures at c.put_lines.ensures)
+    all_followed c.requires _ _ (omega arith) c.monitor_begin.ensures.buffers_are (rw c.period_records.ensures at c.put_lines.ensures)

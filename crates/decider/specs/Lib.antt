@@ -1,0 +1,2 @@
+-- What decide's program computes with.
+pub mod Decisions

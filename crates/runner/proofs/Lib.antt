@@ -1,2 +1,0 @@
--- The laws of what the code writes.
-pub mod Calls

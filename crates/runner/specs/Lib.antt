@@ -1,0 +1,2 @@
+-- What step's and run's program computes with.
+pub mod Answers
