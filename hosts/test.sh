@@ -13,6 +13,14 @@ watch=$PWD/crates/watch/out/watch
 built=$PWD/target/hosts
 mkdir -p "$built"
 
+# What docs/HOSTS.md says of the archives: no data of their own, and from the C library `memset` alone.
+for archive in "$monitor" "$runner" "$joiner" target/staticlib/libcompiler.a; do
+    data=$(objdump -h "$archive" | awk '$2 ~ /^\.t?(data|bss)/ && $3 !~ /^0+$/ { print $2 }')
+    wanted=$(nm -u "$archive" | awk '$1 == "U" && $2 != "memset" { print $2 }')
+    test -z "$data$wanted" || { echo "FAILED $archive:" $data $wanted; exit 1; }
+done
+echo "ok the archives have no data, and want memset alone"
+
 # ---- C
 
 # The header is C++ too.
@@ -74,6 +82,14 @@ echo "ok comparison with the reference"
 # The comparison with an earlier archive, linked beside: here the same one.
 MONITOR_BEFORE=../../target cargo run --release --quiet -p before -- --seed 1 --cases 1000
 echo "ok the archive agrees with itself"
+
+# The stack that docs/HOSTS.md names for each call.
+MONITOR_BEFORE=../../target cargo run --release --quiet -p before -- --stack | awk '
+    $1 ~ /^(begin|step|run|join)$/ { calls++; over += $NF >= 256 }
+    $1 == "decide" { calls++; over += $NF > 6400 }
+    $1 == "compile" { calls++; over += $NF > (/are read and refused/ ? 250 : 20000) }
+    END { exit over > 0 || calls < 20 }' || { echo "FAILED the stack of the calls"; exit 1; }
+echo "ok the calls keep to the stack that HOSTS.md names"
 
 # The benchmark is run for what it compares, not for its times.
 cargo run --release --quiet -p bench -- --check --watch "$watch"

@@ -3,7 +3,8 @@ use Prim.Native.Nat.{ℕ, ◌+◌, ◌*◌, ◌-◌, ◌≤◌, ◌<◌}
 use native.Mathlib.Omega.{arith}
 use mathlib.Core.Bool.{Bool, true, false, not, ◌||◌, cond}
 use mathlib.Core.List.{List, [], ◌∷◌}
-use mathlib.Core.Path.{◌≡◌, refl, sym, ◌∙◌}
+use mathlib.Core.Option.{some}
+use mathlib.Core.Path.{◌≡◌, refl, sym, ap, ◌∙◌}
 use borrow.Author.Tests.{leb-true}
 use lib.Dec.{leb}
 use lib.ListN.{length}
@@ -12,19 +13,20 @@ use Rattle.grammar.specs.Limits.{record_bytes}
 use Rattle.grammar.specs.declared.Sort.{Sort}
 use Rattle.grammar.specs.declared.Sort.TheVariants.{Clause as clause, Expression as expression}
 use Rattle.grammar.specs.declared.Kind.{Kind}
-use Rattle.grammar.specs.Table.{line}
+use Rattle.grammar.specs.Table.{line, kind_of}
 use Rattle.grammar.specs.Trees.{Tree, Trees, Fields}
 use Rattle.grammar.specs.Spelling.{tree_records}
-use Rattle.grammar.proofs.Table.{of_all}
+use Rattle.grammar.proofs.Table.{of_all, kind_number}
 use Rattle.grammar.proofs.Fields.{uses, record_of}
 use Rattle.image.specs.Widths.{width, later_periods, never_row}
 use Rattle.image.proofs.Sizes.{after_window_lem, inside_expression, inside_clause, inside_window}
 use Rattle.emitter.specs.declared.RecordBody.{RecordBody}
 use Rattle.emitter.specs.declared.Block.{Block}
 use Rattle.emitter.specs.declared.Wires.{Wires}
-use Rattle.emitter.specs.Plans.{RowPlan}
-use Rattle.emitter.specs.Blocks.{wires_of, after_tree, block_of, EndsWith, Emitted}
-use Rattle.emitter.specs.Premises.{RecordRows, WindowRoom, Emits}
+use Rattle.emitter.specs.Rows.{Name}
+use Rattle.emitter.specs.Plans.{RowPlan, plan_of}
+use Rattle.emitter.specs.Blocks.{record_from, record_written, record_block, wires_of, after_tree, block_of, EndsWith, Emitted}
+use Rattle.emitter.specs.Premises.{RecordRows, OwnRows, WindowRoom, Emits}
 use Rattle.emitter.proofs.Plans.{left_block, right_block, after_node}
 use Rattle.emitter.proofs.Tables.{before_is, inside_is, WiresInside, wires_inside}
 use Rattle.emitter.proofs.Operands.{View, view, seen, ends_last, OperandsEnd, ends_operands}
@@ -196,6 +198,9 @@ module _ {contract : List ℕ} {n : ℕ} {image : List ℕ} {b S K : ℕ} (e : E
               few = rw (is.plan_is, is.body_is, inside_is own b) fw;
             }
 
+    kind_is : kind_of r.kind ≡ some opened.k
+    kind_is = ap (λ (x : RecordBody). kind_of x.kind) opened.is.body_is ∙ kind_number opened.k
+
     pub few_inside : b + length p.before ≤ max_rows
     few_inside =
         let o = opened in
@@ -230,6 +235,20 @@ module _ {contract : List ℕ} {n : ℕ} {image : List ℕ} {b S K : ℕ} (e : E
     left_emits h i g l =
         let o = opened in
         left_room o.before (line o.k).operands o.ts o.operands (λ z. h (sym o.is.count_is ∙ z)) (λ z. i (sym o.is.count_is ∙ z)) g l
+
+    -- and so there is by the plan of the record's kind; what is written by that plan is written by the one that was read
+    pub own_rows : {size next : ℕ} → RecordRows size p b next → OwnRows size r b next
+    own_rows h = record { kind = opened.k; kind_is = kind_is; rows = rw (← reads.plan_is opened.k kind_is) h }
+
+    pub rows_planned : (later latest : List ℕ) (names : Name → ℕ) (next : ℕ)
+        → ((k : Kind) → kind_of r.kind ≡ some k → latest ≡ record_written later names (plan_of (record_from k r)) b next)
+        → latest ≡ record_written later names p b next
+    rows_planned later latest names next f = rw (reads.plan_is opened.k kind_is) (f opened.k kind_is)
+
+    pub block_planned : (block left right : Block) (names : Name → ℕ)
+        → ((k : Kind) → kind_of r.kind ≡ some k → block ≡ record_block names (plan_of (record_from k r)) r.kind r.party left right)
+        → block ≡ record_block names p r.kind r.party left right
+    block_planned block left right names f = rw (reads.plan_is opened.k kind_is) (f opened.k kind_is)
 
     pub record_rows : {later : List ℕ} {left right : Block} → Written contract (n - 1) count (r.last - 1) image (b + length p.before) S (wires_of p b S K) later left right
         → length later ≡ length image → RecordRows (length later) p b left.next

@@ -1,13 +1,17 @@
 -- The premises of the functions that write rows.
-use Rattle.std.specs.Prelude.{ℕ, ◌+◌, ◌*◌, ◌≤◌, ◌<◌, List, length}
+use Rattle.std.specs.Prelude.{ℕ, ◌+◌, ◌*◌, ◌≤◌, ◌<◌, ◌≡◌, List, length}
+use Rattle.std.proofs.Math.Option.{some}
 use Rattle.layout.specs.Limits.{row_bytes, max_rows}
 use Rattle.grammar.specs.declared.Sort.{Sort}
+use Rattle.grammar.specs.declared.Kind.{Kind}
+use Rattle.grammar.specs.Table.{kind_of}
 use Rattle.grammar.specs.Trees.{Tree}
 use Rattle.grammar.specs.Taken.{Contract}
 use Rattle.image.specs.Limits.{buffer_for}
 use Rattle.image.specs.Widths.{period_rows, after_window}
-use Rattle.emitter.specs.Plans.{RowPlan}
-use Rattle.emitter.specs.Blocks.{after_tree, EndsWith}
+use Rattle.emitter.specs.declared.RecordBody.{RecordBody}
+use Rattle.emitter.specs.Plans.{RowPlan, plan_of}
+use Rattle.emitter.specs.Blocks.{record_from, after_tree, EndsWith}
 
 -- a record's first row, and the first after its operands' rows, are rows that an image may have, or the next
 pub record InImage (b n : ℕ) : Type 0 where
@@ -38,6 +42,12 @@ pub record WindowRoom (size n c : ℕ) : Type 0 where
 pub record RecordRows (size : ℕ) (p : RowPlan) (b n : ℕ) : Type 0 where
   pub first : RowRoom size b (length p.before)
   pub second : RowRoom size n (length p.after)
+
+-- the same by the plan of the record's kind
+pub record OwnRows (size : ℕ) (r : RecordBody) (b n : ℕ) : Type 0 where
+  pub kind : Kind
+  pub kind_is : kind_of r.kind ≡ some kind
+  pub rows : RecordRows size (plan_of (record_from kind r)) b n
 
 -- the first n records end with a tree, and its rows have room
 pub record Emits (contract : List ℕ) (n : ℕ) (image : List ℕ) (b S K : ℕ) : Type 0 where

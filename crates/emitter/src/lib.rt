@@ -14,7 +14,7 @@ ghost use Rattle.image.specs.Blocks.{window_rows};
 ghost use Rattle.emitter.specs.Rows.{numbers_of, named_rows, written_rows};
 ghost use Rattle.emitter.specs.Plans.{read_plan, plan_for, plan_of};
 ghost use Rattle.emitter.specs.Blocks.{last_record, record_from, no_block, other_number, wire, whole, meant, wires_of, window_block, window_from, record_written, record_block, Emitted};
-ghost use Rattle.emitter.specs.Premises.{InImage, RowRoom, RecordRows, PeriodRoom, WindowRoom, Emits};
+ghost use Rattle.emitter.specs.Premises.{InImage, RowRoom, RecordRows, OwnRows, PeriodRoom, WindowRoom, Emits};
 
 use Name::{A, B, K, LE, LOne, LSat, LTwo, N, P, Party1, Party2, Q, ROne, RSat, RTwo, S, SE, Zero};
 use grammar::Kind;
@@ -86,8 +86,8 @@ const NO_ROWS: Plan = Plan {
     two: Zero,
 };
 
-// The plan of each kind.
-static DUTY: Plan = Plan {
+// The plan of each kind: constants, so that the archive's data holds no addresses. The rows lie in place, and a plan is made where it is asked for.
+const DUTY: Plan = Plan {
     before: &[
         Row(Attempt, P, A),
         Row(Attempt, Q, A),
@@ -105,7 +105,7 @@ static DUTY: Plan = Plan {
 };
 
 // The same of a duty that both parties own.
-static JOINT_DUTY: Plan = Plan {
+const JOINT_DUTY: Plan = Plan {
     before: &[
         Row(Attempt, Party1, A),
         Row(Attempt, Party2, A),
@@ -122,7 +122,7 @@ static JOINT_DUTY: Plan = Plan {
     ..NO_ROWS
 };
 
-static BAN: Plan = Plan {
+const BAN: Plan = Plan {
     before: &[
         Row(Attempt, P, A),
         Row(Attempt, Q, A),
@@ -136,7 +136,7 @@ static BAN: Plan = Plan {
     ..NO_ROWS
 };
 
-static POWER: Plan = Plan {
+const POWER: Plan = Plan {
     before: &[
         Row(Attempt, P, A),
         Row(Attempt, Q, A),
@@ -151,7 +151,7 @@ static POWER: Plan = Plan {
     ..NO_ROWS
 };
 
-static BOTH: Plan = Plan {
+const BOTH: Plan = Plan {
     before: &[
         Row(Previous, N(10), Zero),
         Row(Not, B(0), Zero),
@@ -178,7 +178,7 @@ static BOTH: Plan = Plan {
     two: N(8),
 };
 
-static THEN: Plan = Plan {
+const THEN: Plan = Plan {
     before: &[
         Row(Previous, LSat, Zero),
         Row(And, K, B(0)),
@@ -194,7 +194,7 @@ static THEN: Plan = Plan {
     two: N(1),
 };
 
-static REPAIR: Plan = Plan {
+const REPAIR: Plan = Plan {
     before: &[
         Row(Previous, N(0), Zero),
         Row(And, K, B(0)),
@@ -210,7 +210,7 @@ static REPAIR: Plan = Plan {
     two: RTwo,
 };
 
-static REPEAT: Plan = Plan {
+const REPEAT: Plan = Plan {
     before: &[
         Row(Previous, RSat, Zero),
         Row(And, K, B(0)),
@@ -225,7 +225,7 @@ static REPEAT: Plan = Plan {
     ..NO_ROWS
 };
 
-static WHEN: Plan = Plan {
+const WHEN: Plan = Plan {
     before: &[
         Row(Previous, LSat, Zero),
         Row(And, K, B(0)),
@@ -249,7 +249,7 @@ static WHEN: Plan = Plan {
     two: RTwo,
 };
 
-static UNTIL: Plan = Plan {
+const UNTIL: Plan = Plan {
     before: &[
         Row(Previous, N(4), Zero),
         Row(Not, B(0), Zero),
@@ -273,7 +273,7 @@ static UNTIL: Plan = Plan {
     two: LTwo,
 };
 
-static DEADLINE: Plan = Plan {
+const DEADLINE: Plan = Plan {
     before: &[
         Row(Attempt, P, A),
         Row(Attempt, Q, A),
@@ -296,21 +296,21 @@ static DEADLINE: Plan = Plan {
     ..NO_ROWS
 };
 
-static ANY: Plan = Plan { sat: S, ..NO_ROWS };
+const ANY: Plan = Plan { sat: S, ..NO_ROWS };
 
-static TRIES: Plan = Plan {
+const TRIES: Plan = Plan {
     before: &[Row(Attempt, P, A), Row(And, S, B(0))],
     sat: B(1),
     ..NO_ROWS
 };
 
-static IDLE: Plan = Plan {
+const IDLE: Plan = Plan {
     before: &[Row(Attempt, P, A), Row(Not, B(0), Zero), Row(And, S, B(1))],
     sat: B(2),
     ..NO_ROWS
 };
 
-static SUCCEEDS: Plan = Plan {
+const SUCCEEDS: Plan = Plan {
     before: &[
         Row(Attempt, Party1, A),
         Row(Attempt, Party2, A),
@@ -321,7 +321,7 @@ static SUCCEEDS: Plan = Plan {
     ..NO_ROWS
 };
 
-static FAILS: Plan = Plan {
+const FAILS: Plan = Plan {
     before: &[
         Row(Attempt, Party1, A),
         Row(Attempt, Party2, A),
@@ -333,7 +333,7 @@ static FAILS: Plan = Plan {
     ..NO_ROWS
 };
 
-static SEQ: Plan = Plan {
+const SEQ: Plan = Plan {
     before: &[
         Row(Previous, LSat, Zero),
         Row(And, K, B(0)),
@@ -348,7 +348,7 @@ static SEQ: Plan = Plan {
     ..NO_ROWS
 };
 
-static OR: Plan = Plan {
+const OR: Plan = Plan {
     after: &[Row(Or, LSat, RSat), Row(Or, LOne, ROne)],
     start: S,
     go: K,
@@ -358,7 +358,7 @@ static OR: Plan = Plan {
     ..NO_ROWS
 };
 
-static STAR: Plan = Plan {
+const STAR: Plan = Plan {
     before: &[
         Row(Previous, RSat, Zero),
         Row(And, K, B(0)),
@@ -402,40 +402,40 @@ fn last_record(contract: &[u8], n: usize) -> RecordBody
 const BOTH_PARTIES: u8 = 3;
 
 // The plan of a kind's records with this number as their party's.
-fn plan_for(kind: Kind, party: u8) -> &'static Plan
-    ensures { read_plan result.now ≡ plan_for kind (eqb party (parties_number both_parties)) }
+fn plan_for(kind: Kind, party: u8) -> Plan
+    ensures { read_plan result ≡ plan_for kind (eqb party (parties_number both_parties)) }
 {
     match kind {
-        Kind::Duty if party == BOTH_PARTIES => &JOINT_DUTY,
-        Kind::Duty => &DUTY,
-        Kind::Ban => &BAN,
-        Kind::Power => &POWER,
-        Kind::Both => &BOTH,
-        Kind::Then => &THEN,
-        Kind::Repair => &REPAIR,
-        Kind::Repeat => &REPEAT,
-        Kind::When => &WHEN,
-        Kind::Until => &UNTIL,
-        Kind::Deadline => &DEADLINE,
-        Kind::Any => &ANY,
-        Kind::Tries => &TRIES,
-        Kind::Idle => &IDLE,
-        Kind::Succeeds => &SUCCEEDS,
-        Kind::Fails => &FAILS,
-        Kind::Seq => &SEQ,
-        Kind::Or => &OR,
-        Kind::Star => &STAR,
+        Kind::Duty if party == BOTH_PARTIES => JOINT_DUTY,
+        Kind::Duty => DUTY,
+        Kind::Ban => BAN,
+        Kind::Power => POWER,
+        Kind::Both => BOTH,
+        Kind::Then => THEN,
+        Kind::Repair => REPAIR,
+        Kind::Repeat => REPEAT,
+        Kind::When => WHEN,
+        Kind::Until => UNTIL,
+        Kind::Deadline => DEADLINE,
+        Kind::Any => ANY,
+        Kind::Tries => TRIES,
+        Kind::Idle => IDLE,
+        Kind::Succeeds => SUCCEEDS,
+        Kind::Fails => FAILS,
+        Kind::Seq => SEQ,
+        Kind::Or => OR,
+        Kind::Star => STAR,
     }
 }
 
 // The plan of a record.
-fn plan_of(r: RecordBody) -> &'static Plan
-    ensures { (k : Kind) → kind_of r.kind ≡ some k → read_plan result.now ≡ plan_of (record_from k r) }
+fn plan_of(r: RecordBody) -> Plan
+    ensures { (k : Kind) → kind_of r.kind ≡ some k → read_plan result ≡ plan_of (record_from k r) }
 {
     match Kind::try_from(r.kind) {
         Ok(kind) => plan_for(kind, r.party),
         // No contract that is taken has such a record.
-        Err(_) => &NO_ROWS,
+        Err(_) => NO_ROWS,
     }
 }
 
@@ -597,9 +597,9 @@ impl Whole {
     }
 }
 
-// Writes a record's own rows, where its operands' rows are written, and gives its block.
+// Writes a record's own rows by its plan, where its operands' rows are written, and gives its block.
 #[tactic(auto, unfolding(crate::specs::Blocks::record_written))]
-fn put_record(image: &mut [u8], plan: &Plan, node: Node, left: Block, right: Block) -> Block
+fn put_planned(image: &mut [u8], plan: &Plan, node: Node, left: Block, right: Block) -> Block
     requires { RecordRows (length image.old) (read_plan plan.now) node.at left.next }
     ensures written { image.new ≡ record_written image.old (meant (whole node left right)) (read_plan plan.now) node.at left.next }
     ensures gives { result ≡ record_block (meant (whole node left right)) (read_plan plan.now) node.body.kind node.body.party left right }
@@ -608,6 +608,18 @@ fn put_record(image: &mut [u8], plan: &Plan, node: Node, left: Block, right: Blo
     whole.put_rows(image, node.at, plan.before);
     whole.put_rows(image, left.next, plan.after);
     whole.block(plan)
+}
+
+// The same by the plan of the record's kind. It is made here again, so that no plan lies on the stack while the operands' rows are written.
+#[inline(never)]
+fn put_record(image: &mut [u8], node: &Node, left: Block, right: Block) -> Block
+    requires { OwnRows (length image.old) node.now.body node.now.at left.next }
+    ensures written { (k : Kind) → kind_of node.now.body.kind ≡ some k
+        → image.new ≡ record_written image.old (meant (whole node.now left right)) (plan_of (record_from k node.now.body)) node.now.at left.next }
+    ensures gives { let r = node.now.body in (k : Kind) → kind_of r.kind ≡ some k
+        → result ≡ record_block (meant (whole node.now left right)) (plan_of (record_from k r)) r.kind r.party left right }
+{
+    put_planned(image, &plan_of(node.body), *node, left, right)
 }
 
 // ---- the rows of a window
@@ -662,14 +674,14 @@ pub fn emit(contract: &[u8], n: usize, image: &mut [u8], at: u32, s: u32, k: u32
     let inside = at + plan.before.len() as u32;
     if operands == 0 {
         let later = put_window(image, before, inside, body.last);
-        return put_record(image, plan, node, later, later);
+        return put_record(image, &node, later, later);
     }
-    let wires = node.wires(plan);
+    let wires = node.wires(&plan);
     let right = emit(contract, before, image, inside, wires.start, wires.go);
     if operands == 1 {
         let none = no_block(right.before, right.next);
-        return put_record(image, plan, node, none, right);
+        return put_record(image, &node, none, right);
     }
     let left = emit(contract, right.before, image, right.next, s, wires.keep);
-    put_record(image, plan, node, left, right)
+    put_record(image, &node, left, right)
 }

@@ -162,6 +162,8 @@ fn put_decision(state: &mut [u8], by: Decisive, period: u32)
 }
 
 // One period: the row machine on both parties' attempts. It leaves older values in second bits, so that the next period needs no pass before it.
+// Inlined in both loops: no call in each period, and less stack.
+#[inline(always)]
 fn advance(image: &[u8], state: &mut [u8], a: Attempts)
     requires { Ready image.now (trimmed state.old) 1 }
     ensures { trimmed state.new ≡ state_bytes (after_period (image_of image.now) (period_of a) (state_of (trimmed state.old))) }

@@ -16,7 +16,8 @@ mod stack;
 mod table;
 
 use stack::Stack;
-use table::{Operands, entry_of};
+use table::entry_of;
+pub use table::{Entry, Operands, Range};
 
 // The most records of a contract.
 pub const MAX_RECORDS: usize = 64;

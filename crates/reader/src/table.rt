@@ -46,7 +46,7 @@ const WINDOW: Range = Range {
 };
 
 impl Range {
-    pub fn contains(self, x: u8) -> bool
+    pub(super) fn contains(self, x: u8) -> bool
         ensures { result ≡ within (range self.least self.greatest) x }
     {
         self.least <= x && x <= self.greatest
@@ -62,7 +62,7 @@ pub enum Operands {
 }
 
 impl Operands {
-    pub fn count(self) -> u8
+    pub(super) fn count(self) -> u8
         ensures { result ≡ count_of self }
     {
         match self {
@@ -84,7 +84,7 @@ pub struct Entry {
 
 impl Entry {
     // Whether each field is one that the kind allows.
-    pub fn allows(self, party: u8, action: u8, last: u8) -> bool
+    pub(super) fn allows(self, party: u8, action: u8, last: u8) -> bool
         ensures { result ≡ in_ranges self record { party = party; action = action; last = last } }
     {
         self.party.contains(party) && self.action.contains(action) && self.last.contains(last)

@@ -90,7 +90,8 @@ impl Text<'_> {
         self.put(verdict_name(seen.verdict));
         self.put(b" ");
         self.put_number(seen.blame as u64);
-        self.end_line();
+        let end = b"\n";
+        self.put(end);
     }
 
     // Puts the last line.

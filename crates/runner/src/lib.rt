@@ -89,7 +89,8 @@ fn answer_of(state: &[u8]) -> StepAnswer
     }
 }
 
-// Takes the first n records of a trace, and gives the answer of the state that they leave.
+// Takes the first n records of a trace, and gives the answer of the state that they leave. Inlined, which takes less stack.
+#[inline(always)]
 fn take(image: &[u8], state: &mut [u8], trace: &[u8], n: usize) -> StepAnswer
     requires { Ready image.now state.old n × (n ≤ period_records trace.now) }
     ensures leaves { state.new ≡ state_bytes (after_periods (image_of image.now) (state_of state.old) (trace_periods trace.now n)) }
@@ -140,10 +141,10 @@ pub fn monitor_begin(image: &[u8], state: &mut [u8], reply: &mut [u8]) -> u32
         return 0;
     }
     let t = begin_test(image, state);
+    records::put_head(reply, t, 0);
     if t.is_ok() {
         state.fill(0);
     }
-    records::put_head(reply, t, 0);
     1
 }
 

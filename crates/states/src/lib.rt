@@ -105,11 +105,11 @@ impl StateHead {
 
 // ---- refusal 10
 
-// Whether every value is at most `top`: whether the greatest is, which takes no branch at each value.
+// Whether every value is at most `top`: the first that isn't ends the search.
 fn all_at_most(values: &[u8], top: u8) -> bool
     ensures { result ≡ all_at_most top values.now }
 {
-    values.iter().fold(0, |greatest: u8, v| greatest.max(*v)) <= top
+    values.iter().all(|v| *v <= top)
 }
 
 // Whether the state is sound.

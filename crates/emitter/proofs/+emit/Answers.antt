@@ -16,7 +16,7 @@ use Rattle.emitter.specs.Rows.{numbers_of, written_rows}
 use Rattle.emitter.specs.Plans.{RowPlan, plan_of}
 use Rattle.emitter.specs.Blocks.{last_record, record_from, no_block, window_block, window_from, wires_of, Emitted}
 use Rattle.emitter.proofs.Emitting.{RecordRead, Written, written_no, written_one, written_two, emitted}
-use Rattle.emitter.proofs.Room.{some_record, few_inside, window_room, right_emits, left_emits, record_rows}
+use Rattle.emitter.proofs.Room.{some_record, few_inside, window_room, right_emits, left_emits, record_rows, own_rows, rows_planned, block_planned}
 use Rattle.emitter.proofs.+emit.Goals as goal
 
 -- the last record, its plan and how many operands it has
@@ -80,7 +80,7 @@ put_record-requires t c =
     let i = read c.args.contract.now c.args.n c.last_record-body.ensures c.plan_of-plan.ensures c.operands-operands.ensures in
     let e = c.put_window-later.ensures in
     let w = written_none i a.image.now a.at a.s a.k c.if-operands-eq0.true e.written e.gives in
-    record_rows c.requires i w c.put_window-later.auto.image
+    own_rows c.requires i (record_rows c.requires i w c.put_window-later.auto.image)
 
 pub returns-then-operands-eq0 : goal.returns-then-operands-eq0
 returns-then-operands-eq0 t c =
@@ -88,7 +88,8 @@ returns-then-operands-eq0 t c =
     let i = read c.args.contract.now c.args.n c.last_record-body.ensures c.plan_of-plan.ensures c.operands-operands.ensures in
     let e = c.put_window-later.ensures in
     let w = written_none i a.image.now a.at a.s a.k c.if-operands-eq0.true e.written e.gives in
-    emitted i _ _ _ w c.put_record.ensures.written c.put_record.ensures.gives
+    let p = c.put_record.ensures in
+    emitted i _ _ _ w (rows_planned c.requires i _ _ _ _ p.written) (block_planned c.requires i _ _ _ _ p.gives)
 
 pub wires-wires-requires : goal.wires-wires-requires
 wires-wires-requires t c =
@@ -107,7 +108,7 @@ put_record-requires-then-operands-eq1 t c =
     let a = c.args in
     let i = read c.args.contract.now c.args.n c.last_record-body.ensures c.plan_of-plan.ensures c.operands-operands.ensures in
     let w = written_right i a.image.now a.at a.s a.k c.wires-wires.ensures c.emit-right.ensures c.if-operands-eq1.true c.no_block-none.ensures in
-    record_rows c.requires i w c.emit-right.auto.image
+    own_rows c.requires i (record_rows c.requires i w c.emit-right.auto.image)
 
 pub returns-then-operands-eq1 : goal.returns-then-operands-eq1
 returns-then-operands-eq1 t c =
@@ -115,7 +116,7 @@ returns-then-operands-eq1 t c =
     let i = read c.args.contract.now c.args.n c.last_record-body.ensures c.plan_of-plan.ensures c.operands-operands.ensures in
     let w = written_right i a.image.now a.at a.s a.k c.wires-wires.ensures c.emit-right.ensures c.if-operands-eq1.true c.no_block-none.ensures in
     let e = c.put_record-then-operands-eq1.ensures in
-    emitted i _ _ _ w e.written e.gives
+    emitted i _ _ _ w (rows_planned c.requires i _ _ _ _ e.written) (block_planned c.requires i _ _ _ _ e.gives)
 
 -- with two operands
 pub emit-left-requires : goal.emit-left-requires
@@ -132,11 +133,12 @@ put_record-requires-2 t c =
     let a = c.args in
     let i = read c.args.contract.now c.args.n c.last_record-body.ensures c.plan_of-plan.ensures c.operands-operands.ensures in
     let w = written_both i a.image.now a.at a.s a.k c.wires-wires.ensures c.emit-right.ensures c.if-operands-eq0.false c.if-operands-eq1.false c.emit-left.ensures in
-    record_rows c.requires i w (c.emit-left.auto.image ∙ c.emit-right.auto.image)
+    own_rows c.requires i (record_rows c.requires i w (c.emit-left.auto.image ∙ c.emit-right.auto.image))
 
 pub returns : goal.returns
 returns t c =
     let a = c.args in
     let i = read c.args.contract.now c.args.n c.last_record-body.ensures c.plan_of-plan.ensures c.operands-operands.ensures in
     let w = written_both i a.image.now a.at a.s a.k c.wires-wires.ensures c.emit-right.ensures c.if-operands-eq0.false c.if-operands-eq1.false c.emit-left.ensures in
-    emitted i _ _ _ w c.put_record-2.ensures.written c.put_record-2.ensures.gives
+    let p = c.put_record-2.ensures in
+    emitted i _ _ _ w (rows_planned c.requires i _ _ _ _ p.written) (block_planned c.requires i _ _ _ _ p.gives)

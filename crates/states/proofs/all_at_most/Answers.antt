@@ -1,13 +1,17 @@
--- `states::all_at_most` meets its contract: the greatest value is tested.
+-- `states::all_at_most` meets its contract: each value is tested, up to the first that is greater.
 use mathlib.Core.Path.{◌≡◌}
-use Rattle.std.proofs.Common.{rules}
-use Rattle.std.specs.List.{fold}
-use Rattle.std.specs.Prelude.{max}
-use Rattle.states.proofs.Values.{all_at_most_greatest}
+use Rattle.std.proofs.Common.{rules, tests}
+use Rattle.std.proofs.lemmas.Iterator.{YieldsList-from_slice}
+use Rattle.std.proofs.lemmas.Iterator.Search.{all_from_yields_List}
+use Rattle.std.specs.List.{list_all}
+use lib.Dec.{leb}
+use Rattle.states.proofs.Values.{all_at_most_each}
 use Rattle.states.proofs.all_at_most.Goals as goal
 
 pub returns : goal.returns
 returns c =
     let vs = c.args.values.now in
-    let greatest : c.fold.result ≡ fold max 0 vs = search rules in
-    rw greatest (all_at_most_greatest c.args.top vs)
+    let each : c.all.result ≡ list_all (λ v. leb v c.args.top) vs =
+    all_from_yields_List (λ v. leb v c.args.top) _ _ c.all.result c.all.ensures.ran (YieldsList-from_slice vs cc)
+    (λ x b q k. search (rules, tests)) in
+    rw each (all_at_most_each c.args.top vs)

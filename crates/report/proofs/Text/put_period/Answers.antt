@@ -37,8 +37,8 @@ put_number-requires-2 c =
       ap length c.verdict_name.ensures,
     )
 
-pub end_line-requires : goal.end_line-requires
-end_line-requires c =
+pub put-requires-4 : goal.put-requires-4
+put-requires-4 c =
     let s = c.args.seen in
     omega (
       arith,
@@ -57,4 +57,4 @@ returns c =
     rw (← c.verdict_name.ensures) (
     appended _ _
     (appended _ _ (appended _ _ (appended _ _ (appended _ _ c.put_number.ensures c.put.ensures) c.put-2.ensures) c.put-3.ensures) c.put_number-2.ensures)
-    c.end_line.ensures)
+    c.put-4.ensures)
