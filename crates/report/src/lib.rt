@@ -90,6 +90,7 @@ impl Text<'_> {
         self.put(verdict_name(seen.verdict));
         self.put(b" ");
         self.put_number(seen.blame as u64);
+        // A text of its own, so that an edit of `must-fail/` can change this line's end alone.
         let end = b"\n";
         self.put(end);
     }

@@ -105,11 +105,26 @@ impl StateHead {
 
 // ---- refusal 10
 
-// Whether every value is at most `top`: the first that isn't ends the search.
+// How many values are looked at together.
+const BLOCK: usize = 64;
+
+// Whether every value of a block is at most `top`: whether the greatest is, which takes no branch at each value.
+fn block_at_most(values: &[u8], top: u8) -> bool
+    ensures { result ≡ all_at_most top values.now }
+{
+    values.iter().fold(0, |greatest: u8, v| greatest.max(*v)) <= top
+}
+
+// Whether every value is at most `top`: the first block with a greater one ends the search.
 fn all_at_most(values: &[u8], top: u8) -> bool
     ensures { result ≡ all_at_most top values.now }
 {
-    values.iter().all(|v| *v <= top)
+    for block in values.chunks(BLOCK) {
+        if !block_at_most(block, top) {
+            return false;
+        }
+    }
+    true
 }
 
 // Whether the state is sound.

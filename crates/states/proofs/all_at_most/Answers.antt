@@ -1,17 +1,23 @@
--- `states::all_at_most` meets its contract: each value is tested, up to the first that is greater.
-use mathlib.Core.Path.{◌≡◌}
-use Rattle.std.proofs.Common.{rules, tests}
-use Rattle.std.proofs.lemmas.Iterator.{YieldsList-from_slice}
-use Rattle.std.proofs.lemmas.Iterator.Search.{all_from_yields_List}
-use Rattle.std.specs.List.{list_all}
-use lib.Dec.{leb}
-use Rattle.states.proofs.Values.{all_at_most_each}
+-- `states::all_at_most` meets its contract: the values left are a block and those after it.
+use Rattle.std.proofs.Common.{rules, ◌≡◌, sym, ◌∙◌, ◌++◌, true, false, length}
+use Rattle.std.specs.Slice.Iter.{chunks_rest}
+use Rattle.states.specs.States.{all_at_most}
+use Rattle.states.proofs.Values.{all_at_most-append, none_left}
 use Rattle.states.proofs.all_at_most.Goals as goal
+
+pub returns-then-not-block_at_most : goal.returns-then-not-block_at_most
+returns-then-not-block_at_most c =
+    let parts : chunks_rest c.loop-block.block-iterator ≡ c.in-Some.block.now ++ chunks_rest c.next.new.self = search rules in
+    let bad : all_at_most c.args.top c.in-Some.block.now ≡ false = search rules in
+    rw (parts, all_at_most-append, bad) at c.loop-block.invariant.2
+
+pub loop-block-preserved : goal.loop-block-preserved
+loop-block-preserved c =
+    let parts : chunks_rest c.loop-block.block-iterator ≡ c.in-Some.block.now ++ chunks_rest c.next.new.self = search rules in
+    let good : all_at_most c.args.top c.in-Some.block.now ≡ true = search rules in
+    (search rules, tt, rw (parts, all_at_most-append, good) at c.loop-block.invariant.2)
 
 pub returns : goal.returns
 returns c =
-    let vs = c.args.values.now in
-    let each : c.all.result ≡ list_all (λ v. leb v c.args.top) vs =
-    all_from_yields_List (λ v. leb v c.args.top) _ _ c.all.result c.all.ensures.ran (YieldsList-from_slice vs cc)
-    (λ x b q k. search (rules, tests)) in
-    rw each (all_at_most_each c.args.top vs)
+    let ended : length (chunks_rest c.loop-block.block-iterator) ≡ 0 = search rules in
+    sym (sym c.loop-block.invariant.2 ∙ none_left c.args.top (chunks_rest c.loop-block.block-iterator) ended)
