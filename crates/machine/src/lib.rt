@@ -76,7 +76,9 @@ fn row_value(image: &[u8], values: &[u8], k: usize, a: Attempts, first: bool) ->
     value_of(row, values, k, a, first)
 }
 
-// Gives every row its new value, in order, beside the old one.
+// Gives every row its new value, in order, beside the old one. A function of its own in the archive too: inlined in a loop over periods its
+// own loop is slower.
+#[inline(never)]
 fn compute(image: &[u8], values: &mut [u8], a: Attempts, first: bool)
     requires { RowValues image.now values.old first }
     ensures { values.new ≡ packed (values_in values.old) (new_bits image.now (period_of a) first (first_bits values.old)) }
@@ -162,7 +164,7 @@ fn put_decision(state: &mut [u8], by: Decisive, period: u32)
 }
 
 // One period: the row machine on both parties' attempts. It leaves older values in second bits, so that the next period needs no pass before it.
-// Inlined in both loops: no call in each period, and less stack.
+// Inlined in both loops: a period after the decision takes no call.
 #[inline(always)]
 fn advance(image: &[u8], state: &mut [u8], a: Attempts)
     requires { Ready image.now (trimmed state.old) 1 }
