@@ -13,6 +13,8 @@ use lib.Dec.{eqb}
 use lib.ListN.{length, get_or, length-append, get_or-append}
 use lib.Seq.{get_or_at, sets}
 use borrow.Author.Tests.{eq-eqb, le-leb, eqb-true, leb-true, ltb-true}
+use Rattle.std.specs.Prelude.{Result, Ok, Err}
+use Rattle.std.specs.Result.{result_unwrap_or}
 use Rattle.records.specs.Fields.{bytes, field}
 use Rattle.records.specs.Marks.{row_mark, end_mark, marked}
 use Rattle.records.specs.declared.Fault.{Fault}
@@ -25,10 +27,12 @@ use Rattle.records.proofs.Searches.{all_pass, all_passed}
 use Rattle.records.proofs.Refusals.{first_passed, require-passed, only_for, only_require, only_first}
 use Rattle.layout.specs.Limits.{row_bytes, max_rows}
 use Rattle.layout.specs.Rows.{Row, never, row_in, decode, names_rows, good_row}
-use Rattle.layout.specs.Fields.{end_in}
+use Rattle.layout.specs.declared.RowKind.{RowKind}
+use Rattle.layout.specs.declared.NoRowKind.{NoRowKind}
+use Rattle.layout.specs.Fields.{row_from, ReadsKind, fields_in, end_in}
 use Rattle.layout.specs.Images.{end_record, row_count, rows_of, image_of, good_image_length, good_row_at, good_end}
 use Rattle.layout.specs.Refusals.{image_test}
-use Rattle.layout.proofs.Rows.{cond_some, names_any}
+use Rattle.layout.proofs.Rows.{cond_some, names_any, no_kind}
 
 -- ---- the length
 
@@ -158,6 +162,12 @@ module _ (l : List ℕ) (h : image_test l ≡ Passed) (k : ℕ) (i : k < row_cou
 
   pub row_good : good_row (row_count l) (row_count l) (row_in l (row_bytes * k)) ≡ true
   row_good = rw row_held (names_any k (row_count l) (get_or (image_of l).rows k never) (omega arith) (good_row_lem l (passed_good l h) k i).names)
+
+  -- its kind is the one that is read, so that no other stands in for it
+  pub row_read : (r : Result RowKind NoRowKind) (other : RowKind) → ReadsKind (get_or l (row_bytes * k + 2) 0) r
+      → row_from (fields_in (result_unwrap_or r other) l (row_bytes * k)) ≡ row_in l (row_bytes * k)
+  row_read (Ok j) other e = rw e refl
+  row_read (Err _) other e = absurd (false≢true (rw (no_kind l (row_bytes * k) e) at row_good))
 
 -- ---- the end record of a good image, which is its last
 

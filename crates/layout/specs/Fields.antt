@@ -19,6 +19,16 @@ kind_number And = 4
 kind_number Or = 5
 kind_number Previous = 6
 
+-- what x and y lie below in row k of n, where the kind names rows: they are lower rows, or x is any row; y is 0 where the kind names one
+abbrev pub x_below : RowKind → (k n : ℕ) → ℕ
+x_below Previous k n = n
+x_below _ k n = k
+
+abbrev pub y_below : RowKind → ℕ → ℕ
+y_below And k = k
+y_below Or k = k
+y_below _ k = 1
+
 -- the kind of a byte, or an error where no kind has it
 abbrev pub ReadsKind : ℕ → Result RowKind NoRowKind → Type 0
 ReadsKind number r = MatchResult r (λ kind. kind_number kind ≡ number) (λ e. kind_number Previous < number)
@@ -26,6 +36,10 @@ ReadsKind number r = MatchResult r (λ kind. kind_number kind ≡ number) (λ e.
 -- the row of a kind and its fields
 abbrev pub row_from : RowFields → Option Row
 row_from r = row_of (kind_number r.kind) r.x r.y
+
+-- the fields of a row of this kind from byte `at` on
+abbrev pub fields_in : RowKind → List ℕ → ℕ → RowFields
+fields_in kind l at = record { kind = kind; x = field l (at + 4) 2; y = field l (at + 6) 2 }
 
 -- the fields of the row from byte `at` on; none only where its kind and fields make no row
 abbrev pub GivesRow : List ℕ → ℕ → Found RowFields → Type 0

@@ -24,7 +24,7 @@ byte_of_lem zero h = refl
 byte_of_lem (suc zero) h = refl
 byte_of_lem (suc (suc v)) h = absurd (omega arith)
 
-first_byte : (v : ℕ) → v % 2 ≡ byte_of (is_true (v % 2))
+pub first_byte : (v : ℕ) → v % 2 ≡ byte_of (is_true (v % 2))
 first_byte v = let h : v % 2 < 2 = mod-lt v (lit< tt) in byte_of_lem (v % 2) (omega arith)
 
 -- ---- packed values

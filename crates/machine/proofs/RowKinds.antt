@@ -1,6 +1,8 @@
 -- The row that good fields make, and how values are read from row values where the first k rows have new ones.
 use Prim.Native.Nat.{ℕ, zero, suc, ◌/◌, ◌%◌, ◌≤◌, ◌<◌}
 use native.Mathlib.Omega.{arith}
+use Rattle.std.specs.Prelude.{min, max, bit_and, bit_or, ◌||◌}
+use Rattle.std.specs.Int.Bits.{and_step, or_step}
 use mathlib.Core.Bool.{Bool, true, false, not, ◌&&◌, cond, and-eq-true_iff, false≢true}
 use mathlib.Core.List.{List, [], ◌∷◌, map}
 use mathlib.Core.Option
@@ -19,8 +21,9 @@ use Rattle.layout.specs.declared.RowFields.{RowFields}
 use Rattle.layout.specs.Rows.{Row, never, initial, attempt, negation, conjunction, disjunction, previous, attempt_of, row_of, good_row}
 use Rattle.layout.specs.Fields.{kind_number, row_from}
 use Rattle.layout.proofs.Rows.{good_fields, good_by_kind, both_below}
-use Rattle.machine.specs.Machine.{is_true, value}
+use Rattle.machine.specs.Machine.{byte_of, is_true, value}
 use Rattle.machine.specs.Computing.{first_bits, values_in, old_in, GoodFields}
+use Rattle.machine.proofs.Computing.{first_byte}
 
 -- ---- the row of a kind and good fields
 
@@ -110,6 +113,34 @@ module _ {k : ℕ} {values : List ℕ} {row : RowFields} {first : Bool} (h : Goo
 pub new_is : (l : List ℕ) (x : ℕ) → get_or (values_in l) x false ≡ is_true (get_or l x 0 % 2)
 unfolding values_in first_bits
 new_is l x = get_or-map is_true (map (λ (v : ℕ). v % 2) l) x 0 ∙ ap is_true (get_or-map (λ (v : ℕ). v % 2) l x 0)
+
+least : (a b : Bool) → is_true (min (byte_of a) (byte_of b)) ≡ (a && b)
+least true true = refl
+least true false = refl
+least false true = refl
+least false false = refl
+
+most : (a b : Bool) → is_true (max (byte_of a) (byte_of b)) ≡ (a || b)
+most true true = refl
+most true false = refl
+most false true = refl
+most false false = refl
+
+-- the first bit of two bytes' `&` and `|`
+module _ (l : List ℕ) (x y : ℕ) where
+  pub new_both : is_true (bit_and (get_or l x 0) (get_or l y 0) % 2) ≡ (get_or (values_in l) x false && get_or (values_in l) y false)
+  new_both =
+      let v = get_or l x 0 in
+      let w = get_or l y 0 in
+      let e : bit_and v w % 2 ≡ min (v % 2) (w % 2) = omega (arith, and_step v w) in
+      rw (e, new_is l x, new_is l y) (rw (← first_byte v, ← first_byte w) at (least (is_true (v % 2)) (is_true (w % 2))))
+
+  pub new_either : is_true (bit_or (get_or l x 0) (get_or l y 0) % 2) ≡ (get_or (values_in l) x false || get_or (values_in l) y false)
+  new_either =
+      let v = get_or l x 0 in
+      let w = get_or l y 0 in
+      let e : bit_or v w % 2 ≡ max (v % 2) (w % 2) = omega (arith, or_step v w) in
+      rw (e, new_is l x, new_is l y) (rw (← first_byte v, ← first_byte w) at (most (is_true (v % 2)) (is_true (w % 2))))
 
 below : (k : ℕ) (l : List ℕ) (x : ℕ) → x < k → get_or (old_in k l) x false ≡ is_true (get_or l x 0 / 2 % 2)
 unfolding old_in values_in first_bits

@@ -45,7 +45,7 @@ fn old_value(values: &[u8], k: usize, x: usize) -> bool
 }
 
 // The value of a good row k.
-#[tactic(auto, using(crate::proofs::RowKinds::value_by_kind, crate::proofs::RowKinds::old_by_now))]
+#[tactic(auto, using(crate::proofs::RowKinds::value_by_kind, crate::proofs::RowKinds::old_by_now, crate::proofs::RowKinds::new_both, crate::proofs::RowKinds::new_either))]
 fn value_of(row: RowFields, values: &[u8], k: usize, a: Attempts, first: bool) -> bool
     requires { GoodFields k values.now row first }
     ensures { result ≡ value first (period_of a) (old_in k values.now) (values_in values.now) (Option.get_or (row_from row) never) }
@@ -57,22 +57,23 @@ fn value_of(row: RowFields, values: &[u8], k: usize, a: Attempts, first: bool) -
         RowKind::Initial => first,
         RowKind::Attempt => periods::tried(a, row.x, row.y),
         RowKind::Not => !new_value(values, x),
-        // `&` and `|` take no branch.
-        RowKind::And => new_value(values, x) & new_value(values, y),
-        RowKind::Or => new_value(values, x) | new_value(values, y),
+        // `&` and `|` of the bytes take no branch, and share one test of the first bit.
+        RowKind::And => (values[x] & values[y]) % 2 == 1,
+        RowKind::Or => (values[x] | values[y]) % 2 == 1,
         RowKind::Previous => old_value(values, k, x),
     }
 }
 
 // Row k's value. Of the row values, those of the lower rows hold new + 2 × old, the others their value in the first bit.
-#[tactic(auto, using(layout::proofs::Images::row_fits, layout::proofs::Images::row_held, layout::proofs::Images::row_good))]
+#[tactic(auto, using(layout::proofs::Images::row_fits, layout::proofs::Images::row_held, layout::proofs::Images::row_good, layout::proofs::Images::row_read))]
 fn row_value(image: &[u8], values: &[u8], k: usize, a: Attempts, first: bool) -> bool
     requires { NextRow image.now values.now k first }
     ensures { result ≡ value first (period_of a) (old_in k values.now) (values_in values.now) (get_or (image_of image.now).rows k never) }
 {
-    let Some(row) = RowFields::get(image, layout::ROW_BYTES * k) else {
-        unreachable!();
-    };
+    let at = layout::ROW_BYTES * k;
+    // A good row has a kind. With `Previous` in place of none, the loop has no test for that, and `Previous` a branch of its own.
+    let kind = RowKind::try_from(image[at + 2]).unwrap_or(RowKind::Previous);
+    let row = RowFields::of_kind(kind, image, at);
     value_of(row, values, k, a, first)
 }
 
@@ -192,6 +193,8 @@ fn takes_next(state: &[u8], form: Form, trace: &[u8], k: usize) -> bool
 }
 
 // The periods of a trace's first n records: a loop without a test, which one loop for both would make in each period.
+// Inlined: as a call it takes step and run more stack.
+#[inline(always)]
 pub fn take_periods(image: &[u8], state: &mut [u8], trace: &[u8], n: usize)
     requires { Ready image.now state.old n × (n ≤ period_records trace.now) }
     ensures { state.new ≡ state_bytes (after_periods (image_of image.now) (state_of state.old) (trace_periods trace.now n)) }

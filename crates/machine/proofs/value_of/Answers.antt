@@ -8,17 +8,17 @@ tried-requires c = (rw c.in-Attempt.is at (fields_named c.requires)).1
 pub new_value-requires : goal.new_value-requires
 new_value-requires c = rw c.in-Not.is at (fields_named c.requires)
 
-pub new_value-requires-in-And : goal.new_value-requires-in-And
-new_value-requires-in-And c = (rw c.in-And.is at (fields_named c.requires)).0
+pub bounds-values-x : goal.bounds-values-x
+bounds-values-x c = (rw c.in-And.is at (fields_named c.requires)).0
 
-pub new_value-requires-in-And-2 : goal.new_value-requires-in-And-2
-new_value-requires-in-And-2 c = (rw c.in-And.is at (fields_named c.requires)).1
+pub bounds-values-y : goal.bounds-values-y
+bounds-values-y c = (rw c.in-And.is at (fields_named c.requires)).1
 
-pub new_value-requires-in-Or : goal.new_value-requires-in-Or
-new_value-requires-in-Or c = (rw c.in-Or.is at (fields_named c.requires)).0
+pub bounds-values-x-in-Or : goal.bounds-values-x-in-Or
+bounds-values-x-in-Or c = (rw c.in-Or.is at (fields_named c.requires)).0
 
-pub new_value-requires-in-Or-2 : goal.new_value-requires-in-Or-2
-new_value-requires-in-Or-2 c = (rw c.in-Or.is at (fields_named c.requires)).1
+pub bounds-values-y-in-Or : goal.bounds-values-y-in-Or
+bounds-values-y-in-Or c = (rw c.in-Or.is at (fields_named c.requires)).1
 
 pub old_value-requires : goal.old_value-requires
 old_value-requires c = rw c.in-Previous.is at (fields_named c.requires)
