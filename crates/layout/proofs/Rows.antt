@@ -10,7 +10,7 @@ use mathlib.Core.Option.{Option, none, some}
 use lib.Dec.{eqb, ltb, leb, lit<}
 use lib.ListN.{length, take, drop, get_or, set}
 use lib.Seq.{sets, get_or-drop, drop-drop, drop_at, drop-cons, take-add}
-use borrow.Author.Tests.{ne_eqb, lt-ltb, le-ltb, le-leb, lt-leb, eqb-true, ltb-true}
+use borrow.Author.Tests.{ne_eqb, lt-ltb, le-leb, lt-leb, eqb-true, ltb-true}
 use Rattle.records.specs.Fields.{bytes, field}
 use Rattle.records.specs.Holding.{AllBytes}
 use Rattle.records.specs.Marks.{row_mark, marked}
@@ -35,11 +35,6 @@ other_kind j x y h =
     rw (ne_eqb j 0 (λ e. omega arith), ne_eqb j 1 (λ e. omega arith), ne_eqb j 2 (λ e. omega arith), ne_eqb j 3 (λ e. omega arith), ne_eqb j 4 (λ e. omega arith), ne_eqb j 5 (λ e. omega arith), ne_eqb j 6 (λ e. omega arith))
 
 -- ---- a good row, by its kind
-
--- only 0 lies below 1
-pub below_one : (y : ℕ) (b : Bool) → (b && ltb y 1) ≡ (eqb y 0 && b)
-below_one zero b = and-true b
-below_one (suc y) b = rw (le-ltb (suc y) 1 (omega arith), ne_eqb (suc y) 0 (λ e. omega arith)) (and-false b)
 
 module _ (k n : ℕ) where
   good_cond : (t : Bool) (r : Row) → good_row k n (cond t (some r) none) ≡ (t && names_rows k n r)

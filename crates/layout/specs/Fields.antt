@@ -19,16 +19,6 @@ kind_number And = 4
 kind_number Or = 5
 kind_number Previous = 6
 
--- what x and y lie below in row k of n, where the kind names rows: they are lower rows, or x is any row; y is 0 where the kind names one
-abbrev pub x_below : RowKind → (k n : ℕ) → ℕ
-x_below Previous k n = n
-x_below _ k n = k
-
-abbrev pub y_below : RowKind → ℕ → ℕ
-y_below And k = k
-y_below Or k = k
-y_below _ k = 1
-
 -- the kind of a byte, or an error where no kind has it
 abbrev pub ReadsKind : ℕ → Result RowKind NoRowKind → Type 0
 ReadsKind number r = MatchResult r (λ kind. kind_number kind ≡ number) (λ e. kind_number Previous < number)

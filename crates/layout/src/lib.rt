@@ -6,7 +6,7 @@ ghost use Rattle.std.proofs.lemmas.List.Edits.{sets};
 ghost use Rattle.records.specs.Fields.{bytes};
 ghost use Rattle.layout.specs.Limits.{row_bytes};
 ghost use Rattle.layout.specs.Rows.{good_row, row_record};
-ghost use Rattle.layout.specs.Fields.{kind_number, x_below, y_below, row_from, ReadsKind, fields_in, GivesRow, end_in};
+ghost use Rattle.layout.specs.Fields.{kind_number, row_from, ReadsKind, fields_in, GivesRow, end_in};
 ghost use Rattle.layout.specs.Images.{row_count, good_row_at, good_end, end_record};
 ghost use Rattle.layout.specs.Refusals.{image_test};
 
@@ -36,28 +36,6 @@ pub enum RowKind {
 // A byte that is no kind's.
 #[derive(Clone, Copy)]
 pub struct NoRowKind;
-
-impl RowKind {
-    // What x lies below in row k of n, where the kind names rows.
-    fn x_below(self, k: usize, n: usize) -> usize
-        ensures { result ≡ x_below self k n }
-    {
-        match self {
-            RowKind::Previous => n,
-            _ => k,
-        }
-    }
-
-    // What y lies below there: it is 0 where the kind names one row.
-    fn y_below(self, k: usize) -> usize
-        ensures { result ≡ y_below self k }
-    {
-        match self {
-            RowKind::And | RowKind::Or => k,
-            _ => 1,
-        }
-    }
-}
 
 impl TryFrom<u8> for RowKind {
     type Error = NoRowKind;
@@ -120,7 +98,7 @@ impl RowFields {
     }
 
     // Whether they make a good row k of an image of n rows.
-    #[tactic(auto, using(crate::proofs::Rows::good_by_kind, crate::proofs::Rows::below_one))]
+    #[tactic(auto, using(crate::proofs::Rows::good_by_kind))]
     pub fn is_good(self, k: usize, n: usize) -> bool
         ensures { result ≡ good_row k n (row_from self) }
     {
@@ -128,10 +106,9 @@ impl RowFields {
         match kind {
             RowKind::Never | RowKind::Initial => x == 0 && y == 0,
             RowKind::Attempt => Party::try_from(x).is_ok() && periods::is_action(y),
-            // Most rows are of these kinds, in no order, so no branch tells them apart.
-            RowKind::Not | RowKind::And | RowKind::Or | RowKind::Previous => {
-                ((x as usize) < kind.x_below(k, n)) & ((y as usize) < kind.y_below(k))
-            }
+            RowKind::Not => y == 0 && (x as usize) < k,
+            RowKind::And | RowKind::Or => (x as usize) < k && (y as usize) < k,
+            RowKind::Previous => y == 0 && (x as usize) < n,
         }
     }
 

@@ -193,8 +193,6 @@ fn takes_next(state: &[u8], form: Form, trace: &[u8], k: usize) -> bool
 }
 
 // The periods of a trace's first n records: a loop without a test, which one loop for both would make in each period.
-// Inlined: as a call it takes step and run more stack.
-#[inline(always)]
 pub fn take_periods(image: &[u8], state: &mut [u8], trace: &[u8], n: usize)
     requires { Ready image.now state.old n × (n ≤ period_records trace.now) }
     ensures { state.new ≡ state_bytes (after_periods (image_of image.now) (state_of state.old) (trace_periods trace.now n)) }

@@ -44,8 +44,10 @@ fn ready_test(image: &[u8], state: &[u8]) -> Test
     states::state_test(layout::row_count(image), state)
 }
 
-// Step: then the record, then the count. Run has another test of the two and another count, so a chain of its own.
+// Step: then the record, then the count. Run has another test of the two and another count, so a chain of its own. Neither is inlined:
+// the calls take less stack so.
 #[tactic(auto, using(calls::proofs::Refusals::ready_head), unfolding(calls::specs::Refusals::step_test))]
+#[inline(never)]
 fn step_test(image: &[u8], state: &[u8], period: &[u8]) -> Test
     ensures { result ≡ step_test image.now state.now period.now }
 {
@@ -56,6 +58,7 @@ fn step_test(image: &[u8], state: &[u8], period: &[u8]) -> Test
 
 // Run: then the trace, then the count.
 #[tactic(auto, using(calls::proofs::Refusals::ready_head), unfolding(calls::specs::Refusals::run_test))]
+#[inline(never)]
 fn run_test(image: &[u8], state: &[u8], trace: &[u8]) -> Test
     ensures { result ≡ run_test image.now state.now trace.now }
 {
